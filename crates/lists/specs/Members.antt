@@ -1,0 +1,118 @@
+-- Membership in the lists that definitions are written with: keep, map, joined, fromTo; and a test of every entry, by place and by member.
+use mathlib.Core.Path.{_≡_, refl, sym, ap, ap₂, _∙_, subst}
+use mathlib.Core.Logic.{_⊎_, inl, inr, ⊎-elim, ⊎-map, _↔_}
+use mathlib.Core.Bool.{Bool, true, false, _&&_}
+use mathlib.Core.List.{List, [], _∷_, _++_, map, List·Memᴰ, List·Memᴰ·head, List·Memᴰ·tail, List·Memᴰ·not-nil, List·Memᴰ·cases-cons, List·Memᴰ·append-cases, Memᴰ·append-left, Memᴰ·append-right, cons≢nil}
+use Prim.Native.Nat.{ℕ, zero, suc, _+_, _-_, _≤_, _<_}
+use native.Mathlib.Omega.{arith}
+use native.Mathlib.Nat.{le-of-suc-le-suc, eq-or-lt-of-le}
+use lib.Dec.{T, leb, leb→le, le→leb}
+use lib.ListN.{length, getD}
+use Rattle.lists.specs.Lists.{run, fromTo, within, every, keep, consIf, joined}
+
+abbrev pub In {ℓ} : {A : Type ℓ} → A → List A → Type ℓ
+In x xs = List·Memᴰ x xs
+
+-- ---- tests
+pub both : (a b : Bool) → T a → T b → T (a && b)
+both true b p q = q
+both false b p q = p
+
+pub left : (a b : Bool) → T (a && b) → T a
+left true b p = tt
+left false b p = p
+
+pub right : (a b : Bool) → T (a && b) → T b
+right true b p = p
+right false b p = absurd p
+
+pub within-iff : (a b x : ℕ) → T (within a b x) ↔ ((a ≤ x) × (x ≤ b))
+within-iff a b x = (
+  λ t. (leb→le a x (left (leb a x) (leb x b) t), leb→le x b (right (leb a x) (leb x b) t)),
+  λ h. both (leb a x) (leb x b) (le→leb a x (h .0)) (le→leb x b (h .1)),
+)
+
+module _ {A : Type 0} where
+  in-consIf : (b : Bool) (x y : A) (ys : List A) → In x (consIf b y ys) → (T b × (x ≡ y)) ⊎ In x ys
+  in-consIf true x y ys m = ⊎-map (λ e. (tt, e)) (λ n. n) (List·Memᴰ·cases-cons m)
+  in-consIf false x y ys m = inr m
+
+  consIf-in : (b : Bool) (x y : A) (ys : List A) → (T b × (x ≡ y)) ⊎ In x ys → In x (consIf b y ys)
+  consIf-in true x y ys (inl p) = List·Memᴰ·head (p .1)
+  consIf-in true x y ys (inr m) = List·Memᴰ·tail m
+  consIf-in false x y ys (inl p) = absurd (p .0)
+  consIf-in false x y ys (inr m) = m
+
+  -- an entry of the kept ones is an entry that passes
+  pub in-keep : (t : A → Bool) (x : A) (xs : List A) → In x (keep t xs) → In x xs × T (t x)
+  in-keep t x [] h = absurd (List·Memᴰ·not-nil h)
+  in-keep t x (y ∷ ys) h =
+      ⊎-elim (λ p. (List·Memᴰ·head (p .1), subst (λ z. T (t z)) (sym (p .1)) (p .0)))
+      (λ m. let r = in-keep t x ys m in (List·Memᴰ·tail (r .0), r .1))
+      (in-consIf (t y) x y (keep t ys) h)
+
+  pub keep-in : (t : A → Bool) (x : A) (xs : List A) → In x xs → T (t x) → In x (keep t xs)
+  keep-in t x [] h p = absurd (List·Memᴰ·not-nil h)
+  keep-in t x (y ∷ ys) h p =
+      consIf-in (t y) x y (keep t ys)
+      (⊎-map (λ e. (subst (λ z. T (t z)) e p, e)) (λ m. keep-in t x ys m p) (List·Memᴰ·cases-cons h))
+
+  pub in-joined : (x : A) (xss : List (List A)) → In x (joined xss) → (xs : List A) × In xs xss × In x xs
+  in-joined x [] h = absurd (List·Memᴰ·not-nil h)
+  in-joined x (ys ∷ yss) h =
+      ⊎-elim (λ m. (ys, List·Memᴰ·head refl, m))
+      (λ m. let r = in-joined x yss m in (r .0, List·Memᴰ·tail (r .1), r .2))
+      (List·Memᴰ·append-cases ys h)
+
+  pub joined-in : (x : A) (xs : List A) (xss : List (List A)) → In xs xss → In x xs → In x (joined xss)
+  joined-in x xs [] h m = absurd (List·Memᴰ·not-nil h)
+  joined-in x xs (ys ∷ yss) h m =
+      ⊎-elim (λ e. Memᴰ·append-left (joined yss) (subst (λ zs. In x zs) e m))
+      (λ k. Memᴰ·append-right ys (joined-in x xs yss k m))
+      (List·Memᴰ·cases-cons h)
+
+module _ {A B : Type 0} (f : A → B) where
+  pub in-map : (y : B) (xs : List A) → In y (map f xs) → (x : A) × In x xs × (y ≡ f x)
+  in-map y [] h = absurd (List·Memᴰ·not-nil h)
+  in-map y (x ∷ xs) h =
+      ⊎-elim (λ e. (x, List·Memᴰ·head refl, e))
+      (λ m. let r = in-map y xs m in (r .0, List·Memᴰ·tail (r .1), r .2))
+      (List·Memᴰ·cases-cons h)
+
+  pub map-in : (x : A) (xs : List A) → In x xs → In (f x) (map f xs)
+  map-in x [] h = absurd (List·Memᴰ·not-nil h)
+  map-in x (y ∷ ys) h = ⊎-elim (λ e. List·Memᴰ·head (ap f e)) (λ m. List·Memᴰ·tail (map-in x ys m)) (List·Memᴰ·cases-cons h)
+
+pub in-run : (x a k : ℕ) → In x (run a k) → (a ≤ x) × (x < a + k)
+in-run x a zero h = absurd (List·Memᴰ·not-nil h)
+in-run x a (suc k) h =
+    ⊎-elim (λ e. omega arith) (λ m. let r = in-run x (suc a) k m in omega arith) (List·Memᴰ·cases-cons h)
+
+pub run-in : (x a k : ℕ) → a ≤ x → x < a + k → In x (run a k)
+run-in x a zero h l = absurd (omega arith)
+run-in x a (suc k) h l =
+    ⊎-elim (λ e. List·Memᴰ·head (sym e)) (λ g. List·Memᴰ·tail (run-in x (suc a) k g (omega arith))) (eq-or-lt-of-le h)
+
+pub in-fromTo : (a b x : ℕ) → In x (fromTo a b) ↔ T (within a b x)
+in-fromTo a b x = (
+  λ m. let r = in-run x a (suc b - a) m in within-iff a b x .1 (omega arith),
+  λ t. let r = within-iff a b x .0 t in run-in x a (suc b - a) (r .0) (omega arith),
+)
+
+pub every-at : {A : Type 0} (t : A → Bool) (d : A) (xs : List A) → T (every t xs) → (i : ℕ) → i < length xs → T (t (getD xs i d))
+every-at t d [] h i l = absurd (omega arith)
+every-at t d (x ∷ xs) h zero l = left (t x) (every t xs) h
+every-at t d (x ∷ xs) h (suc i) l = every-at t d xs (right (t x) (every t xs) h) i (omega arith)
+
+pub at-every : {A : Type 0} (t : A → Bool) (d : A) (xs : List A) → ((i : ℕ) → i < length xs → T (t (getD xs i d))) → T (every t xs)
+at-every t d [] h = tt
+at-every t d (x ∷ xs) h = both (t x) (every t xs) (h 0 (omega arith)) (at-every t d xs (λ i l. h (suc i) (omega arith)))
+
+pub every-in : {A : Type 0} (t : A → Bool) (x : A) (xs : List A) → In x xs → T (every t xs) → T (t x)
+every-in t x [] m h = absurd (List·Memᴰ·not-nil m)
+every-in t x (y ∷ ys) m h =
+    ⊎-elim (λ e. subst (λ z. T (t z)) (sym e) (left (t y) (every t ys) h)) (λ n. every-in t x ys n (right (t y) (every t ys) h)) (List·Memᴰ·cases-cons m)
+
+pub in-every : {A : Type 0} (t : A → Bool) (xs : List A) → ((x : A) → In x xs → T (t x)) → T (every t xs)
+in-every t [] f = tt
+in-every t (x ∷ xs) f = both (t x) (every t xs) (f x (List·Memᴰ·head refl)) (in-every t xs (λ y m. f y (List·Memᴰ·tail m)))
