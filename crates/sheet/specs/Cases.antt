@@ -1,0 +1,81 @@
+-- P1 to P10 of document 01: one list of cases and one claim about the definitions, which the checker computes from the enumeration alone.
+use mathlib.Core.Path.{_≡_, refl}
+use mathlib.Core.List.{List, [], _∷_, map}
+use Prim.Native.Nat.{ℕ}
+use lib.Dec.{T}
+use lib.IntN.{pos}
+use Rattle.lists.specs.Lists.{fromTo}
+use Rattle.network.specs.Network.{isNegativeCycle}
+use Rattle.sheet.specs.Sheet.{Window, Rule, Sheet, Slot, Boundary, top, lawful, lawfulPlans, leastIn, greatestIn, earliest, latest, earliestSlots, latestSlots, soonest, fair, printedPlans, atMost, atLeast, limit, isRing, ringSum, shortfall}
+
+-- `w 1 4`: window 1-4
+abbrev w : Slot → Slot → Window
+w f l = record { first = f; last = l }
+
+-- `r 1 3 0 2`: 1-3 count 0-2
+abbrev r : Slot → Slot → ℕ → ℕ → Rule
+r f t l h = record { from = f; to = t; low = l; high = h }
+
+abbrev sheet : ℕ → List Window → List Rule → Sheet
+sheet p ws rs = record { span = p; units = ws; rules = rs }
+
+-- what is claimed of a sheet
+pub data Case : Type 0 where
+  -- it has one printed plan; the narrowed windows' first and last slots; each slot's least and greatest count
+  plan : Sheet → List Slot → List Slot → List Slot → List ℕ → List ℕ → Case
+  -- it has no lawful plan; a ring and its shortfall
+  none : Sheet → List Boundary → ℕ → Case
+
+abbrev slots : Sheet → List Slot
+slots s = fromTo 1 (s .span)
+
+abbrev pub Holds : Case → Type 0
+Holds (plan s seats first last low high) =
+    (printedPlans s ≡ seats ∷ [])
+    × (earliestSlots s ≡ first) × (latestSlots s ≡ last)
+    × (map (λ t. leastIn s t t) (slots s) ≡ low) × (map (λ t. greatestIn s t t) (slots s) ≡ high)
+Holds (none s ring short) = (lawfulPlans s ≡ []) × T (isRing s ring) × (shortfall s ring ≡ pos short)
+
+abbrev pub All : List Case → Type 0
+All [] = Unit {0}
+All (c ∷ cs) = Holds c × All cs
+
+abbrev pub cases : List Case
+cases =
+    -- P1 (001, section 1.1)
+    plan (sheet 7 (w 1 4 ∷ w 2 5 ∷ w 4 7 ∷ []) (r 1 3 1 2 ∷ r 2 4 0 2 ∷ r 3 7 2 3 ∷ r 6 6 0 1 ∷ []))
+    (1 ∷ 3 ∷ 4 ∷ []) (1 ∷ 2 ∷ 4 ∷ []) (4 ∷ 5 ∷ 7 ∷ [])
+    (0 ∷ 0 ∷ 0 ∷ 0 ∷ 0 ∷ 0 ∷ 0 ∷ []) (1 ∷ 1 ∷ 2 ∷ 2 ∷ 2 ∷ 1 ∷ 1 ∷ [])
+    -- P2
+    ∷ plan (sheet 4 (w 1 2 ∷ w 1 4 ∷ []) (r 1 2 1 1 ∷ r 2 3 1 1 ∷ r 3 4 1 1 ∷ []))
+    (1 ∷ 3 ∷ []) (1 ∷ 3 ∷ []) (2 ∷ 4 ∷ [])
+    (0 ∷ 0 ∷ 0 ∷ 0 ∷ []) (1 ∷ 1 ∷ 1 ∷ 1 ∷ [])
+    -- P3 (001, lemma 8, moved up by one)
+    ∷ plan (sheet 5 (w 1 3 ∷ w 2 5 ∷ []) (r 2 3 1 1 ∷ r 3 4 1 1 ∷ r 4 5 1 1 ∷ []))
+    (2 ∷ 4 ∷ []) (2 ∷ 4 ∷ []) (3 ∷ 5 ∷ [])
+    (0 ∷ 0 ∷ 0 ∷ 0 ∷ 0 ∷ []) (0 ∷ 1 ∷ 1 ∷ 1 ∷ 1 ∷ [])
+    -- P4
+    ∷ none (sheet 3 (w 1 3 ∷ w 1 3 ∷ []) (r 1 3 1 1 ∷ [])) (0 ∷ 3 ∷ []) 1
+    -- P5
+    ∷ none (sheet 3 (w 1 2 ∷ w 2 3 ∷ []) (r 1 2 0 1 ∷ r 2 2 1 2 ∷ r 2 3 0 1 ∷ [])) (0 ∷ 2 ∷ 1 ∷ 3 ∷ []) 1
+    -- P6
+    ∷ plan (sheet 3 (w 1 3 ∷ w 1 1 ∷ []) (r 1 1 1 1 ∷ []))
+    (2 ∷ 1 ∷ []) (2 ∷ 1 ∷ []) (3 ∷ 1 ∷ [])
+    (1 ∷ 0 ∷ 0 ∷ []) (1 ∷ 1 ∷ 1 ∷ [])
+    -- P7
+    ∷ plan (sheet 1 [] []) [] [] [] (0 ∷ []) (0 ∷ [])
+    -- P8
+    ∷ none (sheet 1 [] (r 1 1 1 1 ∷ [])) (0 ∷ 1 ∷ []) 1
+    -- P9
+    ∷ plan (sheet 2 (w 1 2 ∷ w 1 2 ∷ []) (r 1 1 0 1 ∷ r 1 1 1 2 ∷ []))
+    (1 ∷ 2 ∷ []) (1 ∷ 1 ∷ []) (2 ∷ 2 ∷ [])
+    (1 ∷ 1 ∷ []) (1 ∷ 1 ∷ [])
+    -- P10
+    ∷ plan (sheet 3 (w 1 3 ∷ w 1 3 ∷ []) (r 2 2 1 1 ∷ r 3 3 1 1 ∷ []))
+    (2 ∷ 3 ∷ []) (2 ∷ 2 ∷ []) (3 ∷ 3 ∷ [])
+    (0 ∷ 1 ∷ 1 ∷ []) (0 ∷ 1 ∷ 1 ∷ [])
+    ∷ []
+
+pub all-cases-hold : All cases
+unfolding top lawful lawfulPlans leastIn greatestIn earliest latest earliestSlots latestSlots soonest fair printedPlans atMost atLeast limit isRing ringSum shortfall isNegativeCycle
+all-cases-hold = ((refl, refl, refl, refl, refl), ((refl, refl, refl, refl, refl), ((refl, refl, refl, refl, refl), ((refl, tt, refl), ((refl, tt, refl), ((refl, refl, refl, refl, refl), ((refl, refl, refl, refl, refl), ((refl, tt, refl), ((refl, refl, refl, refl, refl), ((refl, refl, refl, refl, refl), tt))))))))))

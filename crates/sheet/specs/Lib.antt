@@ -1,0 +1,6 @@
+pub mod Limits
+pub mod Sheet
+pub mod Cases
+pub mod PlanLaws
+pub mod LimitLaws
+pub mod PotentialLaws
