@@ -1,1 +1,4 @@
 pub mod Network
+pub mod NetworkLaws
+pub mod Closure
+pub mod ClosureLaws
