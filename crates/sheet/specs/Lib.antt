@@ -4,3 +4,5 @@ pub mod Cases
 pub mod PlanLaws
 pub mod LimitLaws
 pub mod PotentialLaws
+pub mod Questions
+pub mod QuestionLaws
