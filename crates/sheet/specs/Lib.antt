@@ -6,3 +6,4 @@ pub mod LimitLaws
 pub mod PotentialLaws
 pub mod Questions
 pub mod QuestionLaws
+pub mod Solved
