@@ -15,7 +15,7 @@ abbrev pub ClosedBelow : ℕ → ℕ → Weights → Type 0
 ClosedBelow top m P = (k a b : ℕ) → k < m → a ≤ top → b ≤ top → P a b ≤ℤ (P a k +ℤ P k b)
 
 -- what the pass keeps: P is the table of the weights d with the middle boundaries below m done, and no diagonal entry fell below 0
-pub record Level (top : ℕ) (d : Weights) (m : ℕ) (P : Weights) : Type 1 where
+pub record Level (top : ℕ) (d : Weights) (m : ℕ) (P : Weights) : Type 0 where
   pub closed : ClosedBelow top m P
   pub diagonal : (a : ℕ) → a ≤ top → pos 0 ≤ℤ P a a
   pub below : (a b : ℕ) → a ≤ top → b ≤ top → P a b ≤ℤ d a b

@@ -1,1 +1,7 @@
 // Networks.
+
+pub enum Outcome {
+    Finished,
+    Stopped,
+    OutOfRange,
+}
