@@ -116,3 +116,10 @@ every-in t x (y ∷ ys) m h =
 pub in-every : {A : Type 0} (t : A → Bool) (xs : List A) → ((x : A) → In x xs → T (t x)) → T (every t xs)
 in-every t [] f = tt
 in-every t (x ∷ xs) f = both (t x) (every t xs) (f x (List·Memᴰ·head refl)) (in-every t xs (λ y m. f y (List·Memᴰ·tail m)))
+
+-- ---- a chain of tests, as code asks them: the first that fails decides
+pub fails-here : (a b : Bool) → a ≡ false → false ≡ (a && b)
+fails-here a b e = rw e
+
+pub holds-here : (a b c : Bool) → a ≡ true → c ≡ b → c ≡ (a && b)
+holds-here a b c e f = rw e f
