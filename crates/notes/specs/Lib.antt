@@ -1,0 +1,3 @@
+pub mod Note
+pub mod Readers
+pub mod ReaderLaws
