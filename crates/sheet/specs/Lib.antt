@@ -7,3 +7,5 @@ pub mod PotentialLaws
 pub mod Questions
 pub mod QuestionLaws
 pub mod Solved
+pub mod Tightened
+pub mod EntryLaws
