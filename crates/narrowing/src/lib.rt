@@ -1,0 +1,1 @@
+// Earliest and latest slots.
