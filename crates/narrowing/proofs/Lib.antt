@@ -1,1 +1,2 @@
 mod SinkLaws
+mod CutLaws
