@@ -1,2 +1,4 @@
 mod SinkLaws
 mod CutLaws
+mod MirrorLaws
+mod ExtremeLaws
