@@ -1,0 +1,201 @@
+//! Random texts: sheets with notes, and texts with faults of every kind, also several at once.
+
+use crate::random::{any_sheet, small_sheet, Random};
+use crate::sheet::Sheet;
+
+/// The inside of a note: words and brackets that go at most `depth` deeper.
+fn note_inside(r: &mut Random, depth: usize, text: &mut Vec<u8>) {
+    for _ in 0..r.below(5) {
+        if depth > 0 && r.chance(40) {
+            text.push(b'(');
+            note_inside(r, depth - 1, text);
+            text.push(b')');
+        } else {
+            for _ in 0..r.below(6) {
+                let b = r.between(32, 126) as u8;
+                text.push(if b == b'(' || b == b')' { b' ' } else { b });
+            }
+        }
+    }
+}
+
+/// A note line without its line feed.
+pub fn note(r: &mut Random) -> Vec<u8> {
+    if r.chance(10) {
+        return b"(note)".to_vec();
+    }
+    let mut text = b"(note ".to_vec();
+    if r.chance(10) {
+        let deep = r.between(1, 15);
+        text.extend(vec![b'('; deep]);
+        text.extend(vec![b')'; deep]);
+    } else {
+        note_inside(r, 5, &mut text);
+    }
+    text.push(b')');
+    text
+}
+
+/// A note that opens this many brackets at once, its own included.
+pub fn note_of_depth(depth: usize) -> Vec<u8> {
+    let mut text = b"(note ".to_vec();
+    text.extend(vec![b'('; depth - 1]);
+    text.extend(vec![b')'; depth]);
+    text
+}
+
+fn lines(text: &[u8]) -> Vec<Vec<u8>> {
+    text.split_inclusive(|&b| b == b'\n').map(<[u8]>::to_vec).collect()
+}
+
+/// The sheet's text with notes strewn in, and the order of units and rules mixed.
+pub fn with_notes(r: &mut Random, sheet: &Sheet) -> Vec<u8> {
+    let mut all = lines(&sheet.text());
+    // Units and rules keep their own order but may alternate.
+    let (mut units, mut rules): (Vec<_>, Vec<_>) = all.drain(1..).partition(|l| l.starts_with(b"(unit"));
+    units.reverse();
+    rules.reverse();
+    let mixed = r.chance(40);
+    while !units.is_empty() || !rules.is_empty() {
+        let from_units = rules.is_empty() || (!units.is_empty() && (!mixed || r.chance(50)));
+        all.extend(if from_units { units.pop() } else { rules.pop() });
+    }
+    if r.chance(60) {
+        for _ in 0..r.between(1, 6) {
+            let mut line = note(r);
+            line.push(b'\n');
+            let at = r.between(0, all.len());
+            all.insert(at, line);
+        }
+    }
+    let text = all.concat();
+    if text.len() > crate::reading::MOST_BYTES { sheet.text() } else { text }
+}
+
+/// A text that reads.
+pub fn valid(r: &mut Random) -> Vec<u8> {
+    let sheet = if r.chance(80) { small_sheet(r) } else { any_sheet(r) };
+    with_notes(r, &sheet)
+}
+
+/// A number that is often at a limit or past it, sometimes no number at all.
+fn odd_number(r: &mut Random) -> String {
+    const ODD: [&str; 24] = [
+        "0", "1", "2", "3", "4", "5", "47", "48", "49", "299", "300", "301", "9999", "10000", "65535", "65536", "70000",
+        "00", "05", "007", "", "-1", "99999999999999999999", "4294967296",
+    ];
+    if r.chance(50) { r.between(0, 6).to_string() } else { r.pick(&ODD).to_string() }
+}
+
+/// A line of some form whose numbers may be anything.
+pub fn odd_line(r: &mut Random) -> Vec<u8> {
+    let mut n = || odd_number(r);
+    let forms = [
+        format!("(sheet {})", n()),
+        format!("(unit (window {} {}))", n(), n()),
+        format!("(rule (slots {} {}) (count {} {}))", n(), n(), n(), n()),
+    ];
+    let mut line = forms[r.below(3)].clone().into_bytes();
+    match r.below(12) {
+        0 => line = note(r),
+        1 => line = note_of_depth(r.between(14, 18)),
+        2 => line = b"(noted)".to_vec(),
+        3 => line = b"(note".to_vec(),
+        4 => line = b"(note(x))".to_vec(),
+        5 => line.clear(),
+        _ => (),
+    }
+    line
+}
+
+/// A text of lines of all forms in any order.
+pub fn soup(r: &mut Random) -> Vec<u8> {
+    let mut text = Vec::new();
+    if r.chance(70) {
+        text.extend(format!("(sheet {})\n", r.between(1, 8)).bytes());
+    }
+    for _ in 0..r.below(8) {
+        text.extend(odd_line(r));
+        if !r.chance(3) {
+            text.push(b'\n');
+        }
+    }
+    text
+}
+
+/// One fault in one place.
+pub fn damage(r: &mut Random, text: &mut Vec<u8>) {
+    const ODD: &[u8] = b"\r\t\x7f\x00\x1f\x80\xff\n  ()00123459noteshuirw-/:@";
+    let at = r.below(text.len().max(1)).min(text.len());
+    match r.below(16) {
+        0..=2 if at < text.len() => text[at] = *r.pick(ODD),
+        3 if at < text.len() => text[at] = r.below(256) as u8,
+        4 if at < text.len() => text[at] = text[at].wrapping_add(1),
+        5 | 6 if at < text.len() => {
+            text.remove(at);
+        }
+        7 | 8 if at < text.len() => {
+            let b = text[at];
+            text.insert(at, b);
+        }
+        9 => text.insert(at, *r.pick(ODD)),
+        10 => text.truncate(at),
+        11 => {
+            if text.last() == Some(&b'\n') {
+                text.pop();
+            }
+        }
+        12 => {
+            // Two lines change places.
+            let mut all = lines(text);
+            if all.len() > 1 {
+                let (i, j) = (r.below(all.len()), r.below(all.len()));
+                all.swap(i, j);
+                *text = all.concat();
+            }
+        }
+        13 => {
+            // A line twice.
+            let mut all = lines(text);
+            if !all.is_empty() {
+                let i = r.below(all.len());
+                let line = all[i].clone();
+                all.insert(r.between(0, all.len()), line);
+                *text = all.concat();
+            }
+        }
+        14 => {
+            // A line of another kind.
+            let mut all = lines(text);
+            let mut line = odd_line(r);
+            line.push(b'\n');
+            all.insert(r.between(0, all.len()), line);
+            *text = all.concat();
+        }
+        _ => {
+            // A number becomes another.
+            let digits: Vec<usize> = (0..text.len()).filter(|&i| text[i].is_ascii_digit()).collect();
+            if !digits.is_empty() {
+                let start = *r.pick(&digits);
+                let end = (start..text.len()).find(|&i| !text[i].is_ascii_digit()).unwrap_or(text.len());
+                text.splice(start..end, odd_number(r).into_bytes());
+            }
+        }
+    }
+}
+
+/// A text that reads or does not: valid, damaged once or several times, a soup of forms, or bytes at random.
+pub fn any_text(r: &mut Random) -> Vec<u8> {
+    let mut text = match r.below(20) {
+        0 => (0..r.below(40)).map(|_| r.below(256) as u8).collect(),
+        1..=6 => soup(r),
+        _ => valid(r),
+    };
+    if !r.chance(10) {
+        let times = if r.chance(60) { 1 } else { r.between(2, 5) };
+        for _ in 0..times {
+            damage(r, &mut text);
+        }
+    }
+    text
+}

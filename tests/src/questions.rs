@@ -1,0 +1,103 @@
+//! The questions that planning and printing ask of lists and rooms, in document 01's order.
+
+use crate::sheet::{Rule, Sheet, Unit, MOST_COUNT, MOST_RULES, MOST_SLOTS, MOST_UNITS};
+
+/// The lists as they are handed over: any span, any lengths.
+#[derive(Clone, Debug, Default, PartialEq, Eq)]
+pub struct Lists {
+    pub span: usize,
+    pub first: Vec<u16>,
+    pub last: Vec<u16>,
+    pub from: Vec<u16>,
+    pub to: Vec<u16>,
+    pub low: Vec<u16>,
+    pub high: Vec<u16>,
+}
+
+/// The lengths of the rooms lent to planning.
+#[derive(Clone, Copy, Debug, PartialEq, Eq)]
+pub struct Lengths {
+    pub table: usize,
+    pub plan: usize,
+    pub earliest: usize,
+    pub latest: usize,
+    pub ring: usize,
+}
+
+impl Lengths {
+    /// What question 12 asks for, and no place more.
+    pub fn exact(sheet: &Sheet) -> Lengths {
+        let (w, n) = (sheet.boundaries(), sheet.units.len());
+        Lengths { table: w * w, plan: n, earliest: n, latest: n, ring: w }
+    }
+}
+
+impl From<&Sheet> for Lists {
+    fn from(sheet: &Sheet) -> Lists {
+        Lists {
+            span: sheet.span,
+            first: sheet.units.iter().map(|u| u.first).collect(),
+            last: sheet.units.iter().map(|u| u.last).collect(),
+            from: sheet.rules.iter().map(|r| r.from).collect(),
+            to: sheet.rules.iter().map(|r| r.to).collect(),
+            low: sheet.rules.iter().map(|r| r.low).collect(),
+            high: sheet.rules.iter().map(|r| r.high).collect(),
+        }
+    }
+}
+
+impl Lists {
+    /// The sheet that lists of fitting lengths give.
+    pub fn sheet(&self) -> Sheet {
+        let units = self.first.iter().zip(&self.last).map(|(&first, &last)| Unit { first, last });
+        let rules = (0..self.from.len()).map(|i| Rule {
+            from: self.from[i],
+            to: self.to[i],
+            low: self.low[i],
+            high: self.high[i],
+        });
+        Sheet { span: self.span, units: units.collect(), rules: rules.collect() }
+    }
+}
+
+/// Question 7.
+pub fn lies_in_span(first: u16, last: u16, span: usize) -> bool {
+    1 <= first && first <= last && last as usize <= span
+}
+
+/// Question 8.
+pub fn is_count(low: u16, high: u16) -> bool {
+    low <= high && high <= MOST_COUNT
+}
+
+/// The first question that is answered no, or 0. Question 14 is answered yes for every sheet that passes the others.
+pub fn planning_refusal(lists: &Lists, rooms: &Lengths) -> usize {
+    let (n, k) = (lists.first.len(), lists.from.len());
+    if lists.last.len() != n || lists.to.len() != k || lists.low.len() != k || lists.high.len() != k {
+        return 13;
+    }
+    if lists.span < 1 || lists.span > MOST_SLOTS {
+        return 6;
+    }
+    if n > MOST_UNITS {
+        return 9;
+    }
+    if k > MOST_RULES {
+        return 10;
+    }
+    let units_lie = (0..n).all(|i| lies_in_span(lists.first[i], lists.last[i], lists.span));
+    let rules_lie = (0..k).all(|i| lies_in_span(lists.from[i], lists.to[i], lists.span));
+    if !units_lie || !rules_lie {
+        return 7;
+    }
+    if !(0..k).all(|i| is_count(lists.low[i], lists.high[i])) {
+        return 8;
+    }
+    let needed = Lengths::exact(&lists.sheet());
+    let enough = rooms.table >= needed.table
+        && rooms.plan >= needed.plan
+        && rooms.earliest >= needed.earliest
+        && rooms.latest >= needed.latest
+        && rooms.ring >= needed.ring;
+    if enough { 0 } else { 12 }
+}

@@ -1,0 +1,197 @@
+//! Random numbers from a printed seed, and random sheets.
+
+use crate::enumerated::count;
+use crate::sheet::{Rule, Sheet, Unit, MOST_COUNT};
+
+/// SplitMix64.
+#[derive(Clone, Debug)]
+pub struct Random(u64);
+
+impl Random {
+    pub fn new(seed: u64) -> Random {
+        Random(seed)
+    }
+
+    /// The generator of case `i` of a test: any case can be run again alone.
+    pub fn of_case(seed: u64, i: usize) -> Random {
+        Random(Random(seed ^ (i as u64).wrapping_mul(0xd134_2543_de82_ef95)).next())
+    }
+
+    pub fn next(&mut self) -> u64 {
+        self.0 = self.0.wrapping_add(0x9e37_79b9_7f4a_7c15);
+        let mut z = self.0;
+        z = (z ^ (z >> 30)).wrapping_mul(0xbf58_476d_1ce4_e5b9);
+        z = (z ^ (z >> 27)).wrapping_mul(0x94d0_49bb_1331_11eb);
+        z ^ (z >> 31)
+    }
+
+    /// 0 to n - 1.
+    pub fn below(&mut self, n: usize) -> usize {
+        ((self.next() as u128 * n as u128) >> 64) as usize
+    }
+
+    pub fn between(&mut self, least: usize, greatest: usize) -> usize {
+        least + self.below(greatest - least + 1)
+    }
+
+    pub fn chance(&mut self, percent: usize) -> bool {
+        self.below(100) < percent
+    }
+
+    pub fn pick<'a, T>(&mut self, all: &'a [T]) -> &'a T {
+        &all[self.below(all.len())]
+    }
+
+    /// An interval inside 1 to span, at most `widest` slots wide.
+    pub fn interval(&mut self, span: usize, widest: usize) -> (u16, u16) {
+        let width = self.between(1, widest.clamp(1, span));
+        let first = self.between(1, span - width + 1);
+        (first as u16, (first + width - 1) as u16)
+    }
+}
+
+fn windows(r: &mut Random, span: usize, n: usize, widest: usize) -> Vec<Unit> {
+    (0..n)
+        .map(|_| {
+            let (first, last) = r.interval(span, widest);
+            Unit { first, last }
+        })
+        .collect()
+}
+
+/// A rule whose count leaves a plan's count this much room below and above; a negative room shuts that plan out.
+fn rule_around(plan: &[u16], (from, to): (u16, u16), below: i64, above: i64) -> Rule {
+    let c = count(plan, from as usize - 1, to as usize) as i64;
+    let low = (c - below).clamp(0, MOST_COUNT as i64);
+    let high = (c + above).clamp(low, MOST_COUNT as i64);
+    Rule { from, to, low: low as u16, high: high as u16 }
+}
+
+/// Some plan that keeps to the windows.
+fn any_plan(r: &mut Random, units: &[Unit]) -> Vec<u16> {
+    units.iter().map(|u| r.between(u.first as usize, u.last as usize) as u16).collect()
+}
+
+/// A rule with no regard to any plan; some lows lie above n.
+fn free_rule(r: &mut Random, stretch: (u16, u16), n: usize) -> Rule {
+    let low = if r.chance(60) { 0 } else { r.below(n + 2) };
+    let high = if r.chance(10) { MOST_COUNT as usize } else { low + r.below(n + 2) };
+    Rule { from: stretch.0, to: stretch.1, low: low as u16, high: high as u16 }
+}
+
+/// A sheet small enough to try every plan: at most 5 units and 5 slots. Half of them are built around a plan, with little
+/// room or a little too little, so that plan and none are about as frequent.
+pub fn small_sheet(r: &mut Random) -> Sheet {
+    let span = r.between(1, 5);
+    let n = if r.chance(5) { 0 } else { r.between(1, 5) };
+    let widest = r.between(1, span);
+    let units = windows(r, span, n, widest);
+    let plan = any_plan(r, &units);
+    let around = r.chance(60);
+    let tight = r.chance(50);
+    let wanted = if r.chance(5) { 0 } else { r.between(1, 7) };
+    let mut rules: Vec<Rule> = Vec::new();
+    for _ in 0..wanted {
+        // Often a stretch that a rule has already: several rules on one stretch all count.
+        let stretch = if !rules.is_empty() && r.chance(20) {
+            let old = r.pick(&rules);
+            (old.from, old.to)
+        } else {
+            r.interval(span, span)
+        };
+        let rule = if around {
+            let room = |r: &mut Random| {
+                if r.chance(6) { -1 } else if tight || r.chance(50) { 0 } else { r.below(2) as i64 }
+            };
+            let (below, above) = (room(r), room(r));
+            rule_around(&plan, stretch, below, above)
+        } else {
+            free_rule(r, stretch, n)
+        };
+        rules.push(rule);
+    }
+    Sheet { span, units, rules }
+}
+
+/// A sheet of any size up to the greatest, built around a plan. `slack` is the room that rules leave, `shut` how often in a
+/// hundred a rule shuts that plan out by one.
+pub fn sheet_around(r: &mut Random, span: usize, n: usize, k: usize, widest: usize, slack: usize, shut: usize) -> Sheet {
+    let units = windows(r, span, n, widest);
+    let plan = any_plan(r, &units);
+    let rules = (0..k)
+        .map(|_| {
+            let stretch = r.interval(span, span);
+            let (below, above) = (r.between(0, slack) as i64, r.between(0, slack) as i64);
+            if r.chance(shut) {
+                if r.chance(50) { rule_around(&plan, stretch, -1, 1) } else { rule_around(&plan, stretch, 1, -1) }
+            } else {
+                rule_around(&plan, stretch, below, above)
+            }
+        })
+        .collect();
+    Sheet { span, units, rules }
+}
+
+/// A sheet as in 001, section 4: as many units and rules as slots, counts within one of an a priori plan's.
+pub fn paper_sheet(r: &mut Random, n: usize) -> Sheet {
+    let units = windows(r, n, n, n);
+    let plan = any_plan(r, &units);
+    let rules = (0..n)
+        .map(|_| {
+            let stretch = r.interval(n, n);
+            rule_around(&plan, stretch, 1, 1)
+        })
+        .collect();
+    Sheet { span: n, units, rules }
+}
+
+/// A sheet of any kind: short and long spans, few and many units, with and without a plan.
+pub fn any_sheet(r: &mut Random) -> Sheet {
+    match r.below(8) {
+        0 => small_sheet(r),
+        1 => {
+            let (n, k) = (r.below(6), r.below(4));
+            sheet_around(r, 1, n, k, 1, 1, 20)
+        }
+        2 => {
+            let n = r.between(10, 32);
+            paper_sheet(r, n)
+        }
+        3 => {
+            let (n, k, widest) = (r.between(0, 300), r.between(0, 60), r.between(1, 48));
+            sheet_around(r, 48, n, k, widest, 2, 0)
+        }
+        4 => {
+            let (k, widest) = (r.between(0, 60), r.between(1, 48));
+            sheet_around(r, 48, 300, k, widest, 0, 1)
+        }
+        5 => {
+            let (span, n, k) = (r.between(2, 48), r.between(0, 40), r.between(0, 20));
+            let widest = r.between(1, span);
+            sheet_around(r, span, n, k, widest, 1, 5)
+        }
+        6 => {
+            let (span, n, k) = (r.between(2, 12), r.between(0, 20), r.between(1, 30));
+            let widest = r.between(1, span);
+            sheet_around(r, span, n, k, widest, 0, 2)
+        }
+        _ => {
+            let (span, n, k) = (r.between(1, 48), r.between(0, 300), r.between(0, 10));
+            sheet_around(r, span, n, k, span, 3, 3)
+        }
+    }
+}
+
+/// The largest sheet with this room in its rules; every rule lies on a stretch of its own.
+pub fn largest_sheet(r: &mut Random, slack: usize, widest: usize) -> Sheet {
+    let mut sheet = sheet_around(r, 48, 300, 0, widest, 0, 0);
+    let plan = any_plan(r, &sheet.units);
+    while sheet.rules.len() < 60 {
+        let stretch = r.interval(48, 48);
+        if sheet.rules.iter().all(|x| (x.from, x.to) != stretch) {
+            let (below, above) = (r.between(0, slack) as i64, r.between(0, slack) as i64);
+            sheet.rules.push(rule_around(&plan, stretch, below, above));
+        }
+    }
+    sheet
+}

@@ -1,0 +1,169 @@
+//! A reader of sheets, straight from document 01: a line is split by hand, and each question is asked of it in turn.
+
+use crate::questions::{is_count, lies_in_span};
+use crate::sheet::{Rule, Sheet, Unit, MOST_RULES, MOST_SLOTS, MOST_UNITS};
+
+/// The greatest length of a text (question 1), and the greatest depth of a note (question 11).
+pub const MOST_BYTES: usize = 16_000;
+pub const MOST_DEPTH: usize = 16;
+
+#[derive(Clone, Copy, Debug, PartialEq, Eq)]
+pub struct Refusal {
+    pub number: usize,
+    pub line: usize,
+}
+
+/// The refusal, as the program prints it.
+pub fn refusal_page(r: Refusal) -> Vec<u8> {
+    format!("(refused {} (line {}))\n", r.number, r.line).into_bytes()
+}
+
+/// A line's form, its numbers as their digits.
+enum Form<'a> {
+    Sheet(&'a [u8]),
+    Unit([&'a [u8]; 2]),
+    Rule([&'a [u8]; 4]),
+}
+
+/// The numbers of a line that is `words[0] number words[1] number .. words[last]`.
+fn numbers<'a>(mut line: &'a [u8], words: &[&str]) -> Option<Vec<&'a [u8]>> {
+    let mut found = Vec::new();
+    for (i, word) in words.iter().enumerate() {
+        if i > 0 {
+            let digits = line.iter().take_while(|b| b.is_ascii_digit()).count();
+            if digits == 0 {
+                return None;
+            }
+            found.push(&line[..digits]);
+            line = &line[digits..];
+        }
+        line = line.strip_prefix(word.as_bytes())?;
+    }
+    line.is_empty().then_some(found)
+}
+
+fn form(line: &[u8]) -> Option<Form<'_>> {
+    if let Some(n) = numbers(line, &["(sheet ", ")"]) {
+        return Some(Form::Sheet(n[0]));
+    }
+    if let Some(n) = numbers(line, &["(unit (window ", " ", "))"]) {
+        return Some(Form::Unit([n[0], n[1]]));
+    }
+    let n = numbers(line, &["(rule (slots ", " ", ") (count ", " ", "))"])?;
+    Some(Form::Rule([n[0], n[1], n[2], n[3]]))
+}
+
+/// Is the line taken for a note?
+fn is_note(line: &[u8]) -> bool {
+    line.starts_with(b"(note ") || line.starts_with(b"(note)")
+}
+
+/// Question 11: brackets matched, the outer one closing at the end of the line, at most 16 deep.
+fn note_closes(line: &[u8]) -> bool {
+    let mut depth = 0;
+    for (i, &b) in line.iter().enumerate() {
+        match b {
+            b'(' => depth += 1,
+            b')' => depth -= 1,
+            _ => (),
+        }
+        if depth > MOST_DEPTH {
+            return false;
+        }
+        if depth == 0 {
+            return i + 1 == line.len();
+        }
+    }
+    false
+}
+
+/// Question 4, and the number.
+fn number(digits: &[u8]) -> Option<u16> {
+    if digits.len() > 4 || (digits.len() > 1 && digits[0] == b'0') {
+        return None;
+    }
+    std::str::from_utf8(digits).ok()?.parse().ok()
+}
+
+fn all_numbers<const N: usize>(digits: [&[u8]; N]) -> Option<[u16; N]> {
+    let mut found = [0; N];
+    for (place, d) in found.iter_mut().zip(digits) {
+        *place = number(d)?;
+    }
+    Some(found)
+}
+
+/// What the lines so far have given.
+#[derive(Default)]
+struct Reader {
+    span: Option<usize>,
+    units: Vec<Unit>,
+    rules: Vec<Rule>,
+}
+
+impl Reader {
+    /// Asks one line its questions; the number of the first that is answered no.
+    fn take(&mut self, line: &[u8], fed: bool) -> Result<(), usize> {
+        let ask = |yes: bool, question: usize| if yes { Ok(()) } else { Err(question) };
+        ask(line.iter().all(|b| (32..=126).contains(b)), 2)?;
+        if is_note(line) {
+            ask(note_closes(line), 11)?;
+            return ask(fed, 3);
+        }
+        ask(fed, 3)?;
+        match form(line).ok_or(3usize)? {
+            Form::Sheet(digits) => {
+                let span = number(digits).ok_or(4usize)?;
+                ask(self.span.is_none(), 5)?;
+                ask((1..=MOST_SLOTS).contains(&(span as usize)), 6)?;
+                self.span = Some(span as usize);
+            }
+            Form::Unit(digits) => {
+                let [first, last] = all_numbers(digits).ok_or(4usize)?;
+                let span = self.span.ok_or(5usize)?;
+                ask(lies_in_span(first, last, span), 7)?;
+                ask(self.units.len() < MOST_UNITS, 9)?;
+                self.units.push(Unit { first, last });
+            }
+            Form::Rule(digits) => {
+                let [from, to, low, high] = all_numbers(digits).ok_or(4usize)?;
+                let span = self.span.ok_or(5usize)?;
+                ask(lies_in_span(from, to, span), 7)?;
+                ask(is_count(low, high), 8)?;
+                ask(self.rules.len() < MOST_RULES, 10)?;
+                self.rules.push(Rule { from, to, low, high });
+            }
+        }
+        Ok(())
+    }
+}
+
+/// The sheet, or the refusal, up to question 12.
+pub fn read(text: &[u8]) -> Result<Sheet, Refusal> {
+    if text.len() > MOST_BYTES {
+        return Err(Refusal { number: 1, line: 0 });
+    }
+    let mut reader = Reader::default();
+    let mut rest = text;
+    let mut at = 0;
+    while !rest.is_empty() {
+        at += 1;
+        let (line, fed) = match rest.iter().position(|&b| b == b'\n') {
+            Some(end) => (&rest[..end], true),
+            None => (rest, false),
+        };
+        reader.take(line, fed).map_err(|number| Refusal { number, line: at })?;
+        rest = &rest[line.len() + fed as usize..];
+    }
+    match reader.span {
+        Some(span) => Ok(Sheet { span, units: reader.units, rules: reader.rules }),
+        None => Err(Refusal { number: 5, line: 0 }),
+    }
+}
+
+/// Reading into lists of these lengths: two for units, four for rules.
+pub fn read_into(text: &[u8], units: [usize; 2], rules: [usize; 4]) -> Result<Sheet, Refusal> {
+    let sheet = read(text)?;
+    let enough = units.iter().all(|&l| l >= sheet.units.len()) && rules.iter().all(|&l| l >= sheet.rules.len());
+    if enough { Ok(sheet) } else { Err(Refusal { number: 12, line: 0 }) }
+}

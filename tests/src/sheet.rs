@@ -1,0 +1,118 @@
+//! Sheets, the limits of steps between boundaries, and rings, as document 01 defines them.
+
+/// The sheet's limits (document 01, "Units, windows, rules").
+pub const MOST_SLOTS: usize = 48;
+pub const MOST_UNITS: usize = 300;
+pub const MOST_RULES: usize = 60;
+pub const MOST_COUNT: u16 = 300;
+
+#[derive(Clone, Copy, Debug, PartialEq, Eq)]
+pub struct Unit {
+    pub first: u16,
+    pub last: u16,
+}
+
+#[derive(Clone, Copy, Debug, PartialEq, Eq)]
+pub struct Rule {
+    pub from: u16,
+    pub to: u16,
+    pub low: u16,
+    pub high: u16,
+}
+
+#[derive(Clone, Debug, PartialEq, Eq)]
+pub struct Sheet {
+    pub span: usize,
+    pub units: Vec<Unit>,
+    pub rules: Vec<Rule>,
+}
+
+/// What a plan leaves: the plan, the narrowed windows, and the table, row by row.
+#[derive(Clone, Debug, PartialEq, Eq)]
+pub struct Solved {
+    pub plan: Vec<u16>,
+    pub earliest: Vec<u16>,
+    pub latest: Vec<u16>,
+    pub table: Vec<i16>,
+}
+
+impl Sheet {
+    pub fn new(span: usize, windows: &[(u16, u16)], rules: &[(u16, u16, u16, u16)]) -> Sheet {
+        Sheet {
+            span,
+            units: windows.iter().map(|&(first, last)| Unit { first, last }).collect(),
+            rules: rules.iter().map(|&(from, to, low, high)| Rule { from, to, low, high }).collect(),
+        }
+    }
+
+    /// The number of boundaries, 0 to span.
+    pub fn boundaries(&self) -> usize {
+        self.span + 1
+    }
+
+    /// The number of windows inside the stretch a+1 to b.
+    pub fn windows_inside(&self, a: usize, b: usize) -> usize {
+        self.units.iter().filter(|u| a < u.first as usize && u.last as usize <= b).count()
+    }
+
+    fn rules_on(&self, a: usize, b: usize) -> impl Iterator<Item = &Rule> {
+        self.rules.iter().filter(move |r| r.from as usize == a + 1 && r.to as usize == b)
+    }
+
+    /// The limit of the step from boundary a to boundary b.
+    pub fn limit(&self, a: usize, b: usize) -> i64 {
+        if a < b {
+            self.rules_on(a, b).map(|r| r.high as i64).fold(self.units.len() as i64, i64::min)
+        } else if a > b {
+            -self.rules_on(b, a).map(|r| r.low as i64).fold(self.windows_inside(b, a) as i64, i64::max)
+        } else {
+            0
+        }
+    }
+
+    /// All limits, row by row.
+    pub fn limits(&self) -> Vec<i64> {
+        let w = self.boundaries();
+        (0..w * w).map(|i| self.limit(i / w, i % w)).collect()
+    }
+
+    /// The steps of a closed list of boundaries, the one back to its front last.
+    pub fn steps(ring: &[u16]) -> Vec<(usize, usize)> {
+        (0..ring.len()).map(|i| (ring[i] as usize, ring[(i + 1) % ring.len()] as usize)).collect()
+    }
+
+    /// The sum of a closed list's limits.
+    pub fn ring_sum(&self, ring: &[u16]) -> i64 {
+        Sheet::steps(ring).into_iter().map(|(a, b)| self.limit(a, b)).sum()
+    }
+
+    /// Is this a ring of the sheet, given from its lowest boundary on? Says why not.
+    pub fn ring_fault(&self, ring: &[u16]) -> Option<String> {
+        if ring.len() < 2 {
+            return Some(format!("{} boundaries", ring.len()));
+        }
+        if let Some(b) = ring.iter().find(|&&b| b as usize > self.span) {
+            return Some(format!("{b} is no boundary"));
+        }
+        if (1..ring.len()).any(|i| ring[..i].contains(&ring[i])) {
+            return Some("a boundary twice".into());
+        }
+        if ring.iter().any(|&b| b < ring[0]) {
+            return Some("the lowest boundary is not first".into());
+        }
+        let sum = self.ring_sum(ring);
+        (sum >= 0).then(|| format!("the limits add up to {sum}"))
+    }
+
+    /// The sheet in its text form, no notes.
+    pub fn text(&self) -> Vec<u8> {
+        let mut text = format!("(sheet {})\n", self.span);
+        for u in &self.units {
+            text += &format!("(unit (window {} {}))\n", u.first, u.last);
+        }
+        for r in &self.rules {
+            text += &format!("(rule (slots {} {}) (count {} {}))\n", r.from, r.to, r.low, r.high);
+        }
+        text.into_bytes()
+    }
+}

@@ -1,0 +1,161 @@
+//! The model's reader: document 01's sentences and their readings, one by one.
+
+use reference::damage::{any_text, note_of_depth, valid};
+use reference::random::Random;
+use reference::reading::{read, read_into, refusal_page, Refusal};
+use reference::sheet::Sheet;
+use reference::{cases, effort, seed};
+
+/// The refusal's number and line; 0 and 0 for a sheet.
+fn reply(text: &str) -> (usize, usize) {
+    read(text.as_bytes()).map_or_else(|r| (r.number, r.line), |_| (0, 0))
+}
+
+#[test]
+fn written_sheets_read_back() {
+    for case in cases::all() {
+        assert_eq!(read(&case.sheet.text()), Ok(case.sheet));
+    }
+}
+
+#[test]
+fn length_is_asked_first() {
+    let line = format!("(sheet 4)\n(note {})\n", "x".repeat(15_982));
+    assert_eq!(line.len(), 16_000);
+    assert_eq!(reply(&line), (0, 0));
+    assert_eq!(reply(&format!("\n{line}")), (1, 0));
+}
+
+#[test]
+fn bytes_before_forms() {
+    assert_eq!(reply("(sheet 4)\r\n"), (2, 1));
+    assert_eq!(reply("(sheet 4)\n(note \t\n"), (2, 2));
+    assert_eq!(reply("(sheet 4)\n(note \x7f)\n"), (2, 2));
+    assert_eq!(reply("(sheet 4)\nx\x01"), (2, 2));
+}
+
+#[test]
+fn notes() {
+    for (line, number) in [
+        ("(note)\n", 0),
+        ("(note )\n", 0),
+        ("(note a (b) (note c))\n", 0),
+        ("(note\n", 3),
+        ("(noted)\n", 3),
+        ("(note(x))\n", 3),
+        (" (note)\n", 3),
+        ("(note a) \n", 11),
+        ("(note a))\n", 11),
+        ("(note a) (note b)\n", 11),
+        ("(note (a)\n", 11),
+        ("(note (a)", 11),
+        ("(note a)", 3),
+        ("(note))\n", 11),
+    ] {
+        let expected = if number == 0 { (0, 0) } else { (number, 2) };
+        assert_eq!(reply(&format!("(sheet 4)\n{line}")), expected, "{line:?}");
+        if number == 0 {
+            assert_eq!(reply(&format!("{line}(sheet 4)\n")), (0, 0), "{line:?}");
+            assert_eq!(reply(line), (5, 0), "{line:?}");
+        }
+    }
+    let deep = |d| String::from_utf8(note_of_depth(d)).unwrap();
+    assert_eq!(reply(&format!("{}\n(sheet 1)\n", deep(16))), (0, 0));
+    assert_eq!(reply(&format!("{}\n(sheet 1)\n", deep(17))), (11, 1));
+}
+
+#[test]
+fn forms_are_exact() {
+    for line in [
+        "", " ", "(sheet  4)", "(sheet 4 )", "(sheet 4) ", " (sheet 4)", "(sheet)", "(sheet )", "(sheet -4)", "(sheet +4)",
+        "(Sheet 4)", "(sheet 4", "sheet 4", "(unit (window 1))", "(unit (window 1 2)", "(unit (window 1 2)) ",
+        "(unit (window 1  2))", "(unit(window 1 2))", "(rule (slots 1 2)(count 1 1))", "(rule (slots 1 2) (count 1 1)",
+        "(rule (slots 1 2) (count 1))", "(rule (count 1 1) (slots 1 2))", "(unit (slots 1 2))", "(rule (window 1 2) (count 1 1))",
+        "(answer none)", "()", "(",
+    ] {
+        assert_eq!(reply(&format!("(sheet 4)\n{line}\n")), (3, 2), "{line:?}");
+    }
+    for line in ["(sheet 4)", "(unit (window 1 2))", "x", "(rule (slots 05 6) (count 0 1))"] {
+        assert_eq!(reply(line), (3, 1), "{line:?} has no line feed");
+    }
+}
+
+#[test]
+fn numbers() {
+    for n in ["05", "00", "10000", "000000", "99999999999999999999"] {
+        assert_eq!(reply(&format!("(sheet {n})\n")), (4, 1));
+        assert_eq!(reply(&format!("(sheet 4)\n(unit (window 1 {n}))\n")), (4, 2));
+        assert_eq!(reply(&format!("(sheet 4)\n(rule (slots 1 1) (count {n} 1))\n")), (4, 2));
+    }
+    assert_eq!(reply("(sheet 0)\n"), (6, 1));
+    assert_eq!(reply("(sheet 9999)\n"), (6, 1));
+    assert_eq!(reply("(rule (slots 05 6) (count 0 1))\n"), (4, 1), "4, not 5");
+}
+
+#[test]
+fn the_sheet_form_is_first_and_only() {
+    assert_eq!(reply(""), (5, 0));
+    assert_eq!(reply("\n"), (3, 1));
+    assert_eq!(reply("(unit (window 9 1))\n(sheet 4)\n"), (5, 1), "before 7");
+    assert_eq!(reply("(rule (slots 1 1) (count 1 0))\n"), (5, 1), "before 8");
+    assert_eq!(reply("(sheet 4)\n(sheet 49)\n"), (5, 2), "before 6");
+    assert_eq!(reply("(note)\n(note)\n"), (5, 0));
+}
+
+#[test]
+fn limits() {
+    assert_eq!(reply("(sheet 48)\n"), (0, 0));
+    assert_eq!(reply("(sheet 49)\n"), (6, 1));
+    for (window, number) in [("1 4", 0), ("4 4", 0), ("0 1", 7), ("4 3", 7), ("1 5", 7), ("5 5", 7)] {
+        let line = if number == 0 { 0 } else { 2 };
+        assert_eq!(reply(&format!("(sheet 4)\n(unit (window {window}))\n")), (number, line), "{window}");
+        assert_eq!(reply(&format!("(sheet 4)\n(rule (slots {window}) (count 0 1))\n")), (number, line), "{window}");
+    }
+    assert_eq!(reply("(sheet 4)\n(rule (slots 1 4) (count 300 300))\n"), (0, 0));
+    assert_eq!(reply("(sheet 4)\n(rule (slots 1 4) (count 0 301))\n"), (8, 2));
+    assert_eq!(reply("(sheet 4)\n(rule (slots 1 4) (count 2 1))\n"), (8, 2));
+    assert_eq!(reply("(sheet 4)\n(rule (slots 4 1) (count 2 1))\n"), (7, 2), "7 before 8");
+    let units = |n: usize| "(unit (window 1 4))\n".repeat(n);
+    let rules = |n: usize| "(rule (slots 1 4) (count 0 1))\n".repeat(n);
+    assert_eq!(reply(&format!("(sheet 4)\n{}", units(300))), (0, 0));
+    assert_eq!(reply(&format!("(sheet 4)\n{}", units(301))), (9, 302));
+    assert_eq!(reply(&format!("(sheet 4)\n{}(unit (window 4 3))\n", units(300))), (7, 302), "7 before 9");
+    assert_eq!(reply(&format!("(sheet 4)\n{}", rules(60))), (0, 0));
+    assert_eq!(reply(&format!("(sheet 4)\n{}", rules(61))), (10, 62));
+    assert_eq!(reply(&format!("(sheet 4)\n{}(rule (slots 1 4) (count 2 1))\n", rules(60))), (8, 62), "8 before 10");
+}
+
+#[test]
+fn lines_come_before_questions() {
+    assert_eq!(reply("(sheet 49)\n\x01\n"), (6, 1));
+    assert_eq!(reply("(sheet 4)\n(unit (window 4 3))\nx"), (7, 2));
+}
+
+#[test]
+fn rooms_are_asked_last() {
+    let text = Sheet::new(2, &[(1, 2)], &[(1, 1, 0, 1)]).text();
+    assert!(read_into(&text, [1, 1], [1, 1, 1, 1]).is_ok());
+    for short in 0..6 {
+        let mut l = [1; 6];
+        l[short] = 0;
+        let reply = read_into(&text, [l[0], l[1]], [l[2], l[3], l[4], l[5]]);
+        assert_eq!(reply, Err(Refusal { number: 12, line: 0 }));
+    }
+    assert_eq!(read_into(b"x", [0, 0], [0; 4]), Err(Refusal { number: 3, line: 1 }));
+    assert_eq!(refusal_page(Refusal { number: 7, line: 3 }), b"(refused 7 (line 3))\n");
+}
+
+/// The generators reach a sheet and every refusal of reading.
+#[test]
+fn generators_reach_every_reply() {
+    let mut seen = [0usize; 13];
+    for i in 0..effort(20_000) {
+        let mut r = Random::of_case(seed(21), i);
+        let text = any_text(&mut r);
+        seen[read(&text).map_or_else(|r| r.number, |_| 0)] += 1;
+        assert!(read(&valid(&mut r)).is_ok(), "seed {} case {i}", seed(21));
+    }
+    for number in [0, 2, 3, 4, 5, 6, 7, 8, 11] {
+        assert!(seen[number] > 20, "{number}: {seen:?}");
+    }
+}
