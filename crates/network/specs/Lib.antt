@@ -5,3 +5,4 @@ pub mod ClosureLaws
 pub mod Table
 pub mod TableLaws
 pub mod PassLaws
+pub mod PassFront

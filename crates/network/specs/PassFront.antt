@@ -1,0 +1,82 @@
+-- A pass over a table that stands at the front of a longer room is the pass over the table alone, with the room's other places behind it.
+-- Key idea: everything that the pass reads lies inside the table, so each definition agrees on the two lists, and the rest is carried along.
+use mathlib.Core.Path.{_≡_, refl, sym, ap, ap₂, _∙_}
+use mathlib.Core.Bool.{Bool, true, false, cond}
+use mathlib.Core.List.{List, [], _∷_, _++_, map, append-assoc, append-nil}
+use Prim.Native.Nat.{ℕ, zero, suc, _+_, _*_, _≤_, _<_}
+use native.Mathlib.Omega.{arith}
+use lib.ListN.{length, getD, drop, drop-of-length-le, List·getD-append}
+use lib.Seq.{drop-at}
+use lib.IntN.{ℤ, pos, _+ℤ_}
+use lib.Signed.{ltZ}
+use Rattle.lists.specs.Lists.{run, every, joined}
+use Rattle.integers.specs.Parts.{minℤ}
+use Rattle.network.specs.Network.{Weights}
+use Rattle.network.specs.Closure.{step}
+use Rattle.network.specs.Table.{listOf, tableOf, entry, middle, sumInRange, rowInRange, Passed, finished, stopped, outOfRange, afterRows, passFrom, passOf}
+use Rattle.network.specs.TableLaws.{length-tableOf, length-middle, row-inside}
+
+-- ---- lists of values and tables that agree place by place
+values-same : {A : Type 0} (f g : ℕ → A) (i k : ℕ) → ((j : ℕ) → i ≤ j → j < i + k → f j ≡ g j) → map f (run i k) ≡ map g (run i k)
+values-same f g i zero h = refl
+values-same f g i (suc k) h = ap₂ (λ x xs. x ∷ xs) (h i (omega arith) (omega arith)) (values-same f g (suc i) k (λ j a b. h j (omega arith) (omega arith)))
+
+listOf-same : (w : ℕ) (f g : ℕ → ℤ) → ((b : ℕ) → b < w → f b ≡ g b) → listOf w f ≡ listOf w g
+listOf-same w f g h = values-same f g 0 w (λ j a b. h j (omega arith))
+
+pub tableOf-same : (w : ℕ) (f g : Weights) → ((a b : ℕ) → a < w → b < w → f a b ≡ g a b) → tableOf w f ≡ tableOf w g
+tableOf-same w f g h = ap joined (values-same (λ a. listOf w (f a)) (λ a. listOf w (g a)) 0 w (λ a l k. listOf-same w (f a) (g a) (λ b hb. h a b (omega arith) hb)))
+
+-- ---- the table t with other places r behind it
+abbrev pub withRest : List ℤ → Passed → Passed
+withRest r (finished t) = finished (t ++ r)
+withRest r stopped = stopped
+withRest r outOfRange = outOfRange
+
+module _ (w m : ℕ) (hm : m < w) (t r : List ℤ) (size : length t ≡ w * w) where
+  entry-same : (a b : ℕ) → a < w → b < w → entry w (t ++ r) a b ≡ entry w t a b
+  entry-same a b ha hb = List·getD-append t r (pos 0) (a * w + b) (omega (arith, row-inside a w ha))
+
+  step-same : (a b : ℕ) → a < w → b < w → step m (entry w (t ++ r)) a b ≡ step m (entry w t) a b
+  unfolding step
+  step-same a b ha hb = ap₂ minℤ (entry-same a b ha hb) (ap₂ _+ℤ_ (entry-same a m ha hm) (entry-same m b hm hb))
+
+  middle-front : middle w m (t ++ r) ≡ middle w m t ++ r
+  unfolding middle
+  middle-front =
+      let T = tableOf w (step m (entry w t)) in
+      let none : drop (w * w) t ≡ [] = drop-of-length-le t {i = w * w} (omega arith) in
+      ap₂ _++_ (tableOf-same w (step m (entry w (t ++ r))) (step m (entry w t)) step-same) (drop-at t r (w * w) size)
+      ∙ sym (ap (λ (x : List ℤ). (T ++ x) ++ r) none ∙ ap (λ (x : List ℤ). x ++ r) (append-nil T))
+
+  row-same : (a : ℕ) → a < w → rowInRange w m (t ++ r) a ≡ rowInRange w m t a
+  unfolding rowInRange
+  row-same a ha =
+      ap₂ (λ (x : ℤ) (ys : List ℤ). every (λ y. sumInRange (x +ℤ y)) ys) (entry-same a m ha hm)
+      (listOf-same w (entry w (t ++ r) m) (entry w t m) (λ b hb. entry-same m b hm hb))
+
+  chosen : (ok low : Bool) (next : Passed) → cond ok (cond low stopped (withRest r next)) outOfRange ≡ withRest r (cond ok (cond low stopped next) outOfRange)
+  chosen true true next = refl
+  chosen true false next = refl
+  chosen false low next = refl
+
+  rows-front : (k a : ℕ) → a + k ≤ w → (next : Passed) → afterRows k a w m (t ++ r) (withRest r next) ≡ withRest r (afterRows k a w m t next)
+  unfolding afterRows
+  rows-front zero a h next = refl
+  rows-front (suc k) a h next =
+      ap₂ (λ (ok low : Bool). cond ok (cond low stopped (afterRows k (suc a) w m (t ++ r) (withRest r next))) outOfRange)
+      (row-same a (omega arith)) (ap (λ (z : ℤ). ltZ z (pos 0)) (step-same a a (omega arith) (omega arith)))
+      ∙ ap (λ (p : Passed). cond (rowInRange w m t a) (cond (ltZ (step m (entry w t) a a) (pos 0)) stopped p) outOfRange) (rows-front k (suc a) (omega arith) next)
+      ∙ chosen (rowInRange w m t a) (ltZ (step m (entry w t) a a) (pos 0)) (afterRows k (suc a) w m t next)
+
+from-front : (w k m : ℕ) → m + k ≤ w → (t r : List ℤ) → length t ≡ w * w → passFrom k m w (t ++ r) ≡ withRest r (passFrom k m w t)
+unfolding passFrom
+from-front w zero m h t r size = refl
+from-front w (suc k) m h t r size =
+    let n = middle w m t in
+    ap (λ (x : List ℤ). afterRows w 0 w m (t ++ r) (passFrom k (suc m) w x)) (middle-front w m (omega arith) t r size)
+    ∙ ap (afterRows w 0 w m (t ++ r)) (from-front w k (suc m) (omega arith) n r (length-middle w m t (omega arith) ∙ size))
+    ∙ rows-front w m (omega arith) t r size w 0 (omega arith) (passFrom k (suc m) w n)
+
+pub pass-front : (w : ℕ) (t r : List ℤ) → length t ≡ w * w → passOf w (t ++ r) ≡ withRest r (passOf w t)
+pass-front w t r size = from-front w w 0 (omega arith) t r size
