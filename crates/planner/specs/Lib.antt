@@ -1,3 +1,4 @@
 pub mod Planning
+pub mod PlanningLaws
 pub mod Asking
 pub mod AskingLaws
