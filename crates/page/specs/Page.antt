@@ -1,0 +1,108 @@
+-- The answer page, byte by byte (document 01, "The sheet and the answer page"). Definitions only, over plain lists and functions:
+-- the sheet's definitions go in for the plan, the narrowed windows, the least and greatest counts and the limits.
+use mathlib.Core.Path.{_≡_}
+use mathlib.Core.Bool.{cond}
+use mathlib.Core.List.{List, [], _∷_, _++_, map}
+use Prim.Native.Nat.{ℕ, zero, suc, _+_, _/_, _%_, _≤_}
+use Prim.Native.Char.{code}
+use Prim.Native.String.{String, [] as end-of-text, _∷_ as _then_}
+use lib.Dec.{ltb, eqb}
+use lib.ListN.{length, take, drop, getD}
+use lib.IntN.{negℤ}
+use Rattle.integers.specs.Parts.{up}
+use Rattle.lists.specs.Lists.{run, fromTo, howMany, joined}
+use Rattle.network.specs.Network.{Weights, around}
+
+-- the page with these bytes from the place on, and nothing else changed
+unfoldable pub onto : List ℕ → ℕ → List ℕ → List ℕ
+onto page at bytes = take at page ++ bytes ++ drop (at + length bytes) page
+
+-- there is room for the bytes from the place on
+pub record Room (page : List ℕ) (at : ℕ) (bytes : List ℕ) : Type 0 where
+  pub fits : at + length bytes ≤ length page
+
+-- what a call that writes the bytes leaves: the page, and the place just past them
+pub record Written (page : List ℕ) (at : ℕ) (bytes : List ℕ) (left : List ℕ) (next : ℕ) : Type 0 where
+  pub filled : left ≡ onto page at bytes
+  pub moved : next ≡ at + length bytes
+
+-- ---- words and numbers
+
+-- the bytes of a text
+unfoldable pub text : String → List ℕ
+text end-of-text = []
+text (c then s) = code c ∷ text s
+
+-- the byte of a digit
+abbrev pub digit : ℕ → ℕ
+digit d = 48 + d
+
+-- the decimal digits of n, highest first, where k digits are enough
+unfoldable pub digitsWithin : ℕ → ℕ → List ℕ
+digitsWithin zero n = []
+digitsWithin (suc k) n = cond (ltb n 10) (digit n ∷ []) (digitsWithin k (n / 10) ++ (digit (n % 10) ∷ []))
+
+-- a number in decimal with no leading zero; 0 is `0`
+unfoldable pub digits : ℕ → List ℕ
+digits n = digitsWithin (suc n) n
+
+-- ---- the page of a plan
+
+unfoldable pub planHead : ℕ → List ℕ
+planHead units = joined (text "(answer plan " ∷ digits units ∷ text ")\n" ∷ [])
+
+unfoldable pub unitLine : ℕ → ℕ → ℕ → ℕ → List ℕ
+unitLine unit slot earliest latest = joined (
+  text "(unit " ∷ digits unit ∷ text " (slot " ∷ digits slot ∷ text ") (between " ∷ digits earliest ∷ text " " ∷ digits latest ∷ text "))\n" ∷ []
+)
+
+unfoldable pub slotLine : ℕ → ℕ → ℕ → ℕ → List ℕ
+slotLine slot count least greatest = joined (
+  text "(slot " ∷ digits slot ∷ text " (count " ∷ digits count ∷ text ") (range " ∷ digits least ∷ text " " ∷ digits greatest ∷ text "))\n" ∷ []
+)
+
+-- the line of the unit at a place of the lists; units are numbered from 1
+unfoldable pub unitLineAt : List ℕ → List ℕ → List ℕ → ℕ → List ℕ
+unitLineAt slots earliest latest j = unitLine (suc j) (getD slots j 0) (getD earliest j 0) (getD latest j 0)
+
+-- the line of a slot, with the number of units that have it
+unfoldable pub slotLineAt : List ℕ → (ℕ → ℕ) → (ℕ → ℕ) → ℕ → List ℕ
+slotLineAt slots least greatest t = slotLine t (howMany (eqb t) slots) (least t) (greatest t)
+
+unfoldable pub planPage : ℕ → List ℕ → List ℕ → List ℕ → (ℕ → ℕ) → (ℕ → ℕ) → List ℕ
+planPage span slots earliest latest least greatest = joined (
+  planHead (length slots)
+  ∷ joined (map (unitLineAt slots earliest latest) (run 0 (length slots)))
+  ∷ joined (map (slotLineAt slots least greatest) (fromTo 1 span))
+  ∷ []
+)
+
+-- ---- the page of a ring
+
+-- the bound that a step sets on the count of a stretch of slots
+unfoldable pub boundLine : String → ℕ → ℕ → ℕ → List ℕ
+boundLine word bound first last = joined (
+  text word ∷ digits bound ∷ text " (slots " ∷ digits first ∷ text " " ∷ digits last ∷ text "))\n" ∷ []
+)
+
+-- forward, the step's limit on the slots it crosses; backward, minus its limit
+unfoldable pub stepLine : Weights → ℕ → ℕ → List ℕ
+stepLine d a b =
+    cond (ltb a b) (boundLine "(at-most " (up (d a b)) (suc a) b) (boundLine "(at-least " (up (negℤ (d a b))) (suc b) a)
+
+-- the steps from a over a list of boundaries and on to e
+unfoldable pub stepLines : Weights → ℕ → List ℕ → ℕ → List ℕ
+stepLines d a [] e = stepLine d a e
+stepLines d a (b ∷ bs) e = stepLine d a b ++ stepLines d b bs e
+
+-- a ring closed on itself
+unfoldable pub ringLines : Weights → List ℕ → List ℕ
+ringLines d [] = []
+ringLines d (a ∷ bs) = stepLines d a bs a
+
+-- minus the ring's sum
+unfoldable pub shortfallLine : Weights → List ℕ → List ℕ
+shortfallLine d ring = joined (text "(shortfall " ∷ digits (up (negℤ (around d ring))) ∷ text ")\n" ∷ [])
+
+unfoldable pub nonePage : Weights → List ℕ → List ℕ
+nonePage d ring = joined (text "(answer none)\n" ∷ ringLines d ring ∷ shortfallLine d ring ∷ [])

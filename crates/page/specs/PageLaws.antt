@@ -1,0 +1,121 @@
+-- Laws of writing in order.
+-- Key idea: while something is written piece by piece, what is left to write, written from the present place on, gives the whole page. `Left` says so, and
+-- one law takes it over each piece: the same for a word, a number, a line and all lines of a page.
+use mathlib.Core.Path.{_≡_, refl, sym, ap, ap₂, _∙_, subst}
+use mathlib.Core.Bool.{Bool, true, false, cond}
+use mathlib.Core.List.{List, [], _∷_, _++_, map, append-assoc, append-nil}
+use Prim.Native.Nat.{ℕ, zero, suc, _+_, _-_, _*_, _/_, _%_, _≤_, _<_}
+use native.Mathlib.Omega.{arith}
+use native.Mathlib.Decide.{decLe}
+use native.Mathlib.Nat.{add-zero, add-suc, suc-add}
+use native.Mathlib.Numerals.{add-one}
+use lib.Dec.{T, ltb}
+use lib.ListN.{length, take, drop, getD, set, length-append, length-set}
+use lib.Seq.{sets, length-sets, sets-eq}
+use borrow.Author.Tests.{lt-ltb, le-ltb}
+use Rattle.lists.specs.Lists.{run, fromTo, joined}
+use Rattle.page.specs.Page.{onto, Room, Written, text, digit, digitsWithin, digits}
+
+-- ---- writing one thing after another
+sets-append : (page : List ℕ) (at : ℕ) (xs ys : List ℕ) → sets (sets page at xs) (at + length xs) ys ≡ sets page at (xs ++ ys)
+sets-append page at [] ys = ap (λ k. sets page k ys) (add-zero at)
+sets-append page at (x ∷ xs) ys =
+    ap (λ k. sets (sets page at (x ∷ xs)) k ys) (add-suc at (length xs) ∙ sym (suc-add at (length xs)))
+    ∙ sets-append _ (suc at) xs ys
+
+pub onto-sets : (page : List ℕ) (at : ℕ) (bytes : List ℕ) → Room page at bytes → onto page at bytes ≡ sets page at bytes
+unfolding onto
+onto-sets page at bytes h = sym (sets-eq bytes page at (h .fits))
+
+pub onto-length : (page : List ℕ) (at : ℕ) (bytes : List ℕ) → Room page at bytes → length (onto page at bytes) ≡ length page
+onto-length page at bytes h = ap length (onto-sets page at bytes h) ∙ length-sets page at bytes
+
+-- `whole` is to be written on `page₀` from `at₀` on; when `page` and `at` are reached, `rest` is left to write
+pub record Left (page₀ : List ℕ) (at₀ : ℕ) (whole page : List ℕ) (at : ℕ) (rest : List ℕ) : Type 0 where
+  pub same : sets page at rest ≡ sets page₀ at₀ whole
+  pub place : at + length rest ≡ at₀ + length whole
+  pub kept : length page ≡ length page₀
+  pub fits : Room page₀ at₀ whole
+
+pub left-whole : (page : List ℕ) (at : ℕ) (whole : List ℕ) → Room page at whole → Left page at whole page at whole
+left-whole page at whole h = record { same = refl; place = refl; kept = refl; fits = h }
+
+module _ {page₀ : List ℕ} {at₀ : ℕ} {whole page : List ℕ} {at : ℕ} where
+  -- there is room for the next piece
+  pub left-room : (piece rest : List ℕ) → Left page₀ at₀ whole page at (piece ++ rest) → Room page at piece
+  left-room piece rest l = record { fits = omega (arith, length-append piece rest) }
+
+  -- once it is written, the rest is left
+  pub left-after : (piece rest : List ℕ) {page′ : List ℕ} {at′ : ℕ} → Left page₀ at₀ whole page at (piece ++ rest)
+      → Written page at piece page′ at′ → Left page₀ at₀ whole page′ at′ rest
+  left-after piece rest {page′} {at′} l w =
+      let room = left-room piece rest l in
+      let e : page′ ≡ sets page at piece = w .filled ∙ onto-sets page at piece room in
+      record {
+        same = ap₂ (λ p k. sets p k rest) e (w .moved) ∙ sets-append page at piece rest ∙ l .same;
+        place = omega (arith, l .place, w .moved, length-append piece rest);
+        kept = ap length e ∙ length-sets page at piece ∙ l .kept;
+        fits = l .fits;
+      }
+
+  -- one byte is stored
+  pub left-byte : (b : ℕ) (rest : List ℕ) → Left page₀ at₀ whole page at (b ∷ rest) → Left page₀ at₀ whole (set page at b) (suc at) rest
+  left-byte b rest l = record { same = l .same; place = omega (arith, l .place); kept = length-set page at b ∙ l .kept; fits = l .fits }
+
+  -- there is room for all that is left
+  pub left-fits : (rest : List ℕ) → Left page₀ at₀ whole page at rest → Room page at rest
+  left-fits rest l = record { fits = omega arith }
+
+  -- nothing is left
+  pub left-nothing : Left page₀ at₀ whole page at [] → Written page₀ at₀ whole page at
+  left-nothing l = record { filled = l .same ∙ sym (onto-sets page₀ at₀ whole (l .fits)); moved = omega (arith, l .place) }
+
+-- ---- digits
+module _ (k n : ℕ) where
+  within-one : n < 10 → digitsWithin (suc k) n ≡ digit n ∷ []
+  unfolding digitsWithin
+  within-one h = rw (lt-ltb n 10 h)
+
+  within-more : 10 ≤ n → digitsWithin (suc k) n ≡ digitsWithin k (n / 10) ++ (digit (n % 10) ∷ [])
+  unfolding digitsWithin
+  within-more h = rw (le-ltb n 10 h)
+
+-- more room than enough changes nothing
+within-enough : (k m n : ℕ) → n < k → n < m → digitsWithin k n ≡ digitsWithin m n
+within-enough zero m n h g = absurd (omega arith)
+within-enough (suc k) zero n h g = absurd (omega arith)
+within-enough (suc k) (suc m) n h g = elim (decLe 10 n) [
+  | yes l ↦ within-more k n l ∙ ap (λ r. r ++ (digit (n % 10) ∷ [])) (within-enough k m (n / 10) (omega arith) (omega arith)) ∙ sym (within-more m n l)
+  | no g ↦ within-one k n (omega arith) ∙ sym (within-one m n (omega arith))
+]
+
+pub digits-one : (n : ℕ) → n < 10 → digits n ≡ digit n ∷ []
+unfolding digits
+digits-one n h = within-one n n h
+
+-- the last digit is the remainder by ten
+pub digits-last : (n : ℕ) → 10 ≤ n → digits n ≡ digits (n / 10) ++ digits (n % 10)
+unfolding digits
+digits-last n h =
+    within-more n n h
+    ∙ ap₂ (λ r s. r ++ s) (within-enough n (suc (n / 10)) (n / 10) (omega arith) (omega arith)) (sym (within-one (n % 10) (n % 10) (omega arith)))
+
+-- ---- a number is its front digits and then its last one
+module _ {page : List ℕ} {at n : ℕ} (h : 10 ≤ n) (room : Room page at (digits n)) where
+  number-left : Left page at (digits n) page at (digits (n / 10) ++ digits (n % 10))
+  number-left = subst (λ r. Left page at (digits n) page at r) (digits-last n h) (left-whole page at (digits n) room)
+
+  pub front-room : Room page at (digits (n / 10))
+  front-room = left-room (digits (n / 10)) (digits (n % 10)) number-left
+
+  module _ {page′ : List ℕ} {at′ : ℕ} (w : Written page at (digits (n / 10)) page′ at′) where
+    last-left : Left page at (digits n) page′ at′ (digits (n % 10) ++ [])
+    last-left =
+        subst (λ r. Left page at (digits n) page′ at′ r) (sym (append-nil (digits (n % 10))))
+        (left-after (digits (n / 10)) (digits (n % 10)) number-left w)
+
+    pub last-room : Room page′ at′ (digits (n % 10))
+    last-room = left-room (digits (n % 10)) [] last-left
+
+    pub number-written : {page″ : List ℕ} {at″ : ℕ} → Written page′ at′ (digits (n % 10)) page″ at″ → Written page at (digits n) page″ at″
+    number-written v = left-nothing (left-after (digits (n % 10)) [] last-left v)

@@ -1,0 +1,84 @@
+ghost use mathlib.Core.Path.{_≡_};
+ghost use Prim.Native.Nat.{ℕ, _+_, _-_, _*_, _<_, _≤_};
+ghost use lib.ListN.{length, getD};
+ghost use Rattle.page.specs.Page.{Room, Written, text, digits};
+
+// The answer page. Every function that writes takes the page and a place, writes from there on, and gives the place just past what it
+// wrote; a caller has asked for the length before.
+
+fn put_word(page: &mut [u8], at: usize, word: &[u8]) -> usize
+    requires { ⌜ Room (now page) at (now word) ⌝ }
+    ensures { λ r. ⌜ Written (now (page .entry)) at (now (word .entry)) (now (page .exit)) r ⌝ }
+{
+    let mut i = 0;
+    while i < word.len() {
+        page[at + i] = word[i];
+        i += 1;
+    }
+    at + i
+}
+
+// A number of one digit, two, and so on: the last digit stands behind the others.
+fn put_one(page: &mut [u8], at: usize, n: u16) -> usize
+    requires { ⌜ n < 10 ⌝ }
+    requires { ⌜ Room (now page) at (digits n) ⌝ }
+    ensures { λ r. ⌜ Written (now (page .entry)) at (digits n) (now (page .exit)) r ⌝ }
+{
+    page[at] = (48 + n) as u8;
+    at + 1
+}
+
+fn put_two(page: &mut [u8], at: usize, n: u16) -> usize
+    requires { ⌜ (10 ≤ n) × (n < 100) ⌝ }
+    requires { ⌜ Room (now page) at (digits n) ⌝ }
+    ensures { λ r. ⌜ Written (now (page .entry)) at (digits n) (now (page .exit)) r ⌝ }
+{
+    let last = put_one(page, at, n / 10);
+    put_one(page, last, n % 10)
+}
+
+fn put_three(page: &mut [u8], at: usize, n: u16) -> usize
+    requires { ⌜ (100 ≤ n) × (n < 1000) ⌝ }
+    requires { ⌜ Room (now page) at (digits n) ⌝ }
+    ensures { λ r. ⌜ Written (now (page .entry)) at (digits n) (now (page .exit)) r ⌝ }
+{
+    let last = put_two(page, at, n / 10);
+    put_one(page, last, n % 10)
+}
+
+fn put_four(page: &mut [u8], at: usize, n: u16) -> usize
+    requires { ⌜ (1000 ≤ n) × (n < 10000) ⌝ }
+    requires { ⌜ Room (now page) at (digits n) ⌝ }
+    ensures { λ r. ⌜ Written (now (page .entry)) at (digits n) (now (page .exit)) r ⌝ }
+{
+    let last = put_three(page, at, n / 10);
+    put_one(page, last, n % 10)
+}
+
+fn put_five(page: &mut [u8], at: usize, n: u16) -> usize
+    requires { ⌜ 10000 ≤ n ⌝ }
+    requires { ⌜ Room (now page) at (digits n) ⌝ }
+    ensures { λ r. ⌜ Written (now (page .entry)) at (digits n) (now (page .exit)) r ⌝ }
+{
+    let last = put_four(page, at, n / 10);
+    put_one(page, last, n % 10)
+}
+
+fn put_number(page: &mut [u8], at: usize, n: u16) -> usize
+    requires { ⌜ Room (now page) at (digits n) ⌝ }
+    ensures { λ r. ⌜ Written (now (page .entry)) at (digits n) (now (page .exit)) r ⌝ }
+{
+    if n < 10 {
+        return put_one(page, at, n);
+    }
+    if n < 100 {
+        return put_two(page, at, n);
+    }
+    if n < 1000 {
+        return put_three(page, at, n);
+    }
+    if n < 10000 {
+        return put_four(page, at, n);
+    }
+    put_five(page, at, n)
+}
