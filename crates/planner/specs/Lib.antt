@@ -1,4 +1,6 @@
 pub mod Planning
 pub mod PlanningLaws
+pub mod ConditionLaws
+pub mod Conditions
 pub mod Asking
 pub mod AskingLaws

@@ -109,6 +109,11 @@ ringLength (Refused n) = 0
 ringLength Plan = 0
 ringLength (None k) = k
 
+abbrev pub hasPlan : Answer → Bool
+hasPlan (Refused n) = false
+hasPlan Plan = true
+hasPlan (None k) = false
+
 -- refused: nothing is changed, but 14 leaves the table's places 0
 abbrev pub refused : Sheet → ℕ → Rooms → Rooms
 refused s n r =
@@ -149,7 +154,7 @@ pub data Verdict : Type 0 where
   plan : List ℤ → Verdict
   none : Verdict
 
-abbrev byPass : Passed → Verdict
+abbrev pub byPass : Passed → Verdict
 byPass (finished t) = plan t
 byPass stopped = none
 byPass outOfRange = refuse 14
