@@ -6,3 +6,4 @@ pub mod FairLaws
 pub mod FeasibleLaws
 pub mod RangeLaws
 pub mod PrintedLaws
+pub mod DistinctLaws
