@@ -2,3 +2,4 @@ mod SinkLaws
 mod CutLaws
 mod MirrorLaws
 mod ExtremeLaws
+mod CarryLaws

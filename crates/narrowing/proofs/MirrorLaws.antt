@@ -9,7 +9,7 @@ use lib.Signed.{_≤ℤ_}
 use Rattle.integers.specs.Parts.{ints, sum, neg}
 use Rattle.network.specs.Network.{Weights, Potential, Feasible}
 use Rattle.narrowing.specs.Cut.{Admits, mirrored}
-use Rattle.narrowing.specs.Sink.{Small, Closed}
+use Rattle.narrowing.specs.Sink.{Within, Closed}
 
 -- N is M seen from the end
 abbrev pub IsMirrored : ℕ → Weights → Weights → Type 0
@@ -31,7 +31,7 @@ module _ (top : ℕ) (D D′ : Weights) (same : IsMirrored top D D′) where
       sum (D′ a k) (D′ k b),
     );
     diagonal = λ a ha. same a a ha ha ∙ net .diagonal (top - a) (omega arith);
-    small = λ a b ha hb. subst Small (sym (same a b ha hb)) (net .small (top - b) (top - a) (omega arith) (omega arith));
+    small = λ a b ha hb. subst (Within 300) (sym (same a b ha hb)) (net .small (top - b) (top - a) (omega arith) (omega arith));
   }
 
   pub turned-feasible : (z : Potential) → Feasible top D z → Feasible top D′ (turned top z)

@@ -13,7 +13,7 @@ use Rattle.integers.specs.Parts.{up, dn, ints, sum, neg, apart, nonneg, minℤ,
 use Rattle.network.specs.Network.{Weights, Potential, Feasible}
 use Rattle.network.specs.NetworkLaws.{lesser-feasible}
 use Rattle.narrowing.specs.Cut.{Keeps, Admits}
-use Rattle.narrowing.specs.Sink.{Small, Closed, Sunk, height}
+use Rattle.narrowing.specs.Sink.{Within, Closed, Sunk, height}
 
 -- fewer arcs are easier to keep
 pub admits-later : (top : ℕ) (D E : Weights) (f u v l : ℕ) → u ≤ v → Admits top D E f u l → Admits top D E f v l
@@ -39,7 +39,7 @@ module _ (top : ℕ) (D E : Weights) (net : Closed top D) (f v l : ℕ) (hf : 1 
     pub sunk-low : (c : ℕ) → c ≤ top → pos 0 ≤ℤ (z c +ℤ D c (f - 1))
     sunk-low c hc = omega (ints, s .feasible c (f - 1) hc (omega arith), s .start)
 
-    pub sunk-small : (c : ℕ) → c ≤ top → Small (z c)
+    pub sunk-small : (c : ℕ) → c ≤ top → Within 300 (z c)
     sunk-small c hc =
         let p = net .small c (f - 1) hc (omega arith) in
         let q = net .small (f - 1) c (omega arith) hc in
@@ -92,6 +92,7 @@ module _ (top : ℕ) (D E : Weights) (net : Closed top D) (f v l : ℕ) (hf : 1 
 
       at-end : k <ℤ z b → y b <ℤ z b
       at-end h = omega (ints, carried b (omega arith), min≤r (z b) (k +ℤ D b b), sum k (D b b), net .diagonal b (omega arith))
+
 
       pub carried-falls : pos 0 ≤ℤ y (f - 1) → k <ℤ z b → height D (f - 1) y (suc top) < height D (f - 1) z (suc top)
       carried-falls h h′ = total (suc top) (omega arith) (omega arith)

@@ -8,14 +8,15 @@ use Rattle.network.specs.Network.{Weights, Potential, Feasible}
 use Rattle.network.specs.Closure.{ClosedBelow}
 use Rattle.narrowing.specs.Cut.{Keeps}
 
--- a closed table, with 0 from each boundary to itself, and arcs; all weights within 300 of 0
-abbrev pub Small : ℤ → Type 0
-Small z = (up z ≤ 300) × (dn z ≤ 300)
+-- z is at most k away from 0
+abbrev pub Within : ℕ → ℤ → Type 0
+Within k z = (up z ≤ k) × (dn z ≤ k)
 
+-- a closed table, with 0 from each boundary to itself, of weights within 300 of 0
 pub record Closed (top : ℕ) (D : Weights) : Type 0 where
   pub closed : ClosedBelow top (suc top) D
   pub diagonal : (a : ℕ) → a ≤ top → D a a ≡ pos 0
-  pub small : (a b : ℕ) → a ≤ top → b ≤ top → Small (D a b)
+  pub small : (a b : ℕ) → a ≤ top → b ≤ top → Within 300 (D a b)
 
 -- z is feasible for D and 0 at the boundary before the window, and no feasible potential that keeps the arcs rises more from there
 pub record Sunk (top : ℕ) (D E : Weights) (f v l : ℕ) (z : Potential) : Type 0 where
