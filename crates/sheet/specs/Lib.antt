@@ -9,3 +9,5 @@ pub mod QuestionLaws
 pub mod Solved
 pub mod Tightened
 pub mod EntryLaws
+pub mod LimitTable
+pub mod InsideLaws

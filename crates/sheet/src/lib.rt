@@ -1,7 +1,8 @@
 ghost use mathlib.Core.Path.{_≡_};
-ghost use Prim.Native.Nat.{ℕ, _+_, _-_, _<_, _≤_};
+ghost use Prim.Native.Nat.{ℕ, _+_, _-_, _*_, _^_, _<_, _≤_};
 ghost use Rattle.sheet.specs.Limits.{maxSlots, maxUnits, maxRules, maxCount};
 
+pub mod inside;
 pub mod limit;
 
 // Slots run 1 to span, boundaries 0 to top; boundary b is the end of slot b.
@@ -16,6 +17,24 @@ impl Slot {
     {
         Boundary(self.0)
     }
+}
+
+impl Boundary {
+    // The boundary before this one.
+    pub fn before(self) -> Boundary
+        requires { ⌜ 0 < self .0 ⌝ }
+        ensures { λ r. ⌜ r .0 ≡ self .0 - 1 ⌝ }
+    {
+        Boundary(self.0 - 1)
+    }
+}
+
+// The place of the step from one boundary to another in a table of w boundaries.
+pub fn place(from: Boundary, to: Boundary, w: usize) -> usize
+    requires { ⌜ (from .0 < w) × (to .0 < w) × (w * w < 2 ^ 64) ⌝ }
+    ensures { λ r. ⌜ r ≡ from .0 * w + to .0 ⌝ }
+{
+    from.0 * w + to.0
 }
 
 // A sheet's span and its numbers of units and rules; the lists themselves are lent.

@@ -1,0 +1,38 @@
+-- The table of a sheet's limits, as code fills it. Definitions only.
+use mathlib.Core.Path.{_≡_}
+use mathlib.Core.Bool.{Bool, _&&_, cond}
+use mathlib.Core.List.{List}
+use Prim.Native.Nat.{ℕ, suc, _≤_, _<_}
+use lib.Dec.{ltb, eqb}
+use lib.ListN.{length, getD}
+use lib.IntN.{ℤ, pos, negℤ}
+use Rattle.lists.specs.Lists.{howMany}
+use Rattle.network.specs.Network.{Weights}
+use Rattle.sheet.specs.Limits.{maxUnits}
+use Rattle.sheet.specs.Sheet.{Slot, Window, Sheet, top, insideOf, slotAfter}
+
+-- how many boundaries a sheet has
+unfoldable pub boundaries : Sheet → ℕ
+boundaries s = suc (top s)
+
+-- the units' windows, as first and last slots: at most 300, each 1 ≤ first ≤ last, and last a boundary of w
+pub record WindowsFit (w : ℕ) (first last : List Slot) : Type 0 where
+  pub paired : length last ≡ length first
+  pub few : length first ≤ maxUnits
+  pub each : (j : ℕ) → j < length first → (1 ≤ getD first j 0) × (getD first j 0 ≤ getD last j 0) × (getD last j 0 < w)
+
+-- minus the number of windows inside the slots b+1 to a; none is inside where a ≤ b
+unfoldable pub insideWeights : List Window → Weights
+insideWeights ws a b = negℤ (pos (howMany (insideOf (slotAfter b) a) ws))
+
+-- the window is exactly the slots f to t
+abbrev pub exactly : Slot → Slot → Window → Bool
+exactly f t w = eqb (w .first) f && eqb (w .last) t
+
+-- minus the number of windows that are exactly the slots b+1 to a
+unfoldable pub exactWeights : List Window → Weights
+exactWeights ws a b = negℤ (pos (howMany (exactly (slotAfter b) a) ws))
+
+-- n on every forward step, and the other steps as they are
+unfoldable pub withForward : ℕ → Weights → Weights
+withForward n d a b = cond (ltb a b) (pos n) (d a b)
