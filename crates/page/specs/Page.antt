@@ -51,15 +51,21 @@ digits n = digitsWithin (suc n) n
 unfoldable pub planHead : ℕ → List ℕ
 planHead units = joined (text "(answer plan " ∷ digits units ∷ text ")\n" ∷ [])
 
+-- a line of four numbers
+unfoldable pub fourNumbers : List ℕ → ℕ → List ℕ → ℕ → List ℕ → ℕ → ℕ → List ℕ
+fourNumbers first a second b third c d = joined (
+  first ∷ digits a ∷ second ∷ digits b ∷ third ∷ digits c ∷ text " " ∷ digits d ∷ text "))\n" ∷ []
+)
+
 unfoldable pub unitLine : ℕ → ℕ → ℕ → ℕ → List ℕ
 unitLine unit slot earliest latest = joined (
-    text "(unit " ∷ digits unit ∷ text " (slot " ∷ digits slot ∷ text ") (between " ∷ digits earliest ∷ text " " ∷ digits latest ∷ text "))\n" ∷ []
-    )
+  text "(unit " ∷ digits unit ∷ text " (slot " ∷ digits slot ∷ text ") (between " ∷ digits earliest ∷ text " " ∷ digits latest ∷ text "))\n" ∷ []
+)
 
 unfoldable pub slotLine : ℕ → ℕ → ℕ → ℕ → List ℕ
 slotLine slot count least greatest = joined (
-    text "(slot " ∷ digits slot ∷ text " (count " ∷ digits count ∷ text ") (range " ∷ digits least ∷ text " " ∷ digits greatest ∷ text "))\n" ∷ []
-    )
+  text "(slot " ∷ digits slot ∷ text " (count " ∷ digits count ∷ text ") (range " ∷ digits least ∷ text " " ∷ digits greatest ∷ text "))\n" ∷ []
+)
 
 -- the line of the unit at a place of the lists; units are numbered from 1
 unfoldable pub unitLineAt : List ℕ → List ℕ → List ℕ → ℕ → List ℕ
@@ -71,19 +77,19 @@ slotLineAt slots least greatest t = slotLine t (howMany (eqb t) slots) (least t)
 
 unfoldable pub planPage : ℕ → List ℕ → List ℕ → List ℕ → (ℕ → ℕ) → (ℕ → ℕ) → List ℕ
 planPage span slots earliest latest least greatest = joined (
-    planHead (length slots)
-    ∷ joined (map (unitLineAt slots earliest latest) (run 0 (length slots)))
-    ∷ joined (map (slotLineAt slots least greatest) (fromTo 1 span))
-    ∷ []
-    )
+  planHead (length slots)
+  ∷ joined (map (unitLineAt slots earliest latest) (run 0 (length slots)))
+  ∷ joined (map (slotLineAt slots least greatest) (fromTo 1 span))
+  ∷ []
+)
 
 -- ---- the page of a ring
 
 -- the bound that a step sets on the count of a stretch of slots
 unfoldable pub boundLine : String → ℕ → ℕ → ℕ → List ℕ
 boundLine word bound first last = joined (
-    text word ∷ digits bound ∷ text " (slots " ∷ digits first ∷ text " " ∷ digits last ∷ text "))\n" ∷ []
-    )
+  text word ∷ digits bound ∷ text " (slots " ∷ digits first ∷ text " " ∷ digits last ∷ text "))\n" ∷ []
+)
 
 -- forward, the step's limit on the slots it crosses; backward, minus its limit
 unfoldable pub stepLine : Weights → ℕ → ℕ → List ℕ

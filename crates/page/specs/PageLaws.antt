@@ -30,45 +30,53 @@ onto-sets page at bytes h = sym (sets-eq bytes page at (h .fits))
 pub onto-length : (page : List ℕ) (at : ℕ) (bytes : List ℕ) → Room page at bytes → length (onto page at bytes) ≡ length page
 onto-length page at bytes h = ap length (onto-sets page at bytes h) ∙ length-sets page at bytes
 
--- `whole` is to be written on `page₀` from `at₀` on; when `page` and `at` are reached, `rest` is left to write
-pub record Left (page₀ : List ℕ) (at₀ : ℕ) (whole page : List ℕ) (at : ℕ) (rest : List ℕ) : Type 0 where
-  pub same : sets page at rest ≡ sets page₀ at₀ whole
-  pub place : at + length rest ≡ at₀ + length whole
+-- `whole` is to be written on `page₀` from `at₀` on; when `page` and `at` are reached, the pieces are left to write
+pub record Left (page₀ : List ℕ) (at₀ : ℕ) (whole page : List ℕ) (at : ℕ) (pieces : List (List ℕ)) : Type 0 where
+  pub same : sets page at (joined pieces) ≡ sets page₀ at₀ whole
+  pub place : at + length (joined pieces) ≡ at₀ + length whole
   pub kept : length page ≡ length page₀
   pub fits : Room page₀ at₀ whole
 
-pub left-whole : (page : List ℕ) (at : ℕ) (whole : List ℕ) → Room page at whole → Left page at whole page at whole
-left-whole page at whole h = record { same = refl; place = refl; kept = refl; fits = h }
+pub left-whole : {page : List ℕ} {at : ℕ} {whole : List ℕ} (pieces : List (List ℕ)) → whole ≡ joined pieces → Room page at whole
+    → Left page at whole page at pieces
+left-whole {page} {at} {whole} pieces e h =
+    record { same = ap (sets page at) (sym e); place = ap (λ r. at + length r) (sym e); kept = refl; fits = h }
 
 module _ {page₀ : List ℕ} {at₀ : ℕ} {whole page : List ℕ} {at : ℕ} where
   -- there is room for the next piece
-  pub left-room : (piece rest : List ℕ) → Left page₀ at₀ whole page at (piece ++ rest) → Room page at piece
-  left-room piece rest l = record { fits = omega (arith, length-append piece rest) }
+  pub left-room : {piece : List ℕ} {rest : List (List ℕ)} → Left page₀ at₀ whole page at (piece ∷ rest) → Room page at piece
+  left-room {piece} {rest} l = record { fits = omega (arith, length-append piece (joined rest)) }
 
   -- once it is written, the rest is left
-  pub left-after : (piece rest : List ℕ) {page′ : List ℕ} {at′ : ℕ} → Left page₀ at₀ whole page at (piece ++ rest)
+  pub left-after : {piece : List ℕ} {rest : List (List ℕ)} {page′ : List ℕ} {at′ : ℕ} → Left page₀ at₀ whole page at (piece ∷ rest)
       → Written page at piece page′ at′ → Left page₀ at₀ whole page′ at′ rest
-  left-after piece rest {page′} {at′} l w =
-      let room = left-room piece rest l in
-      let e : page′ ≡ sets page at piece = w .filled ∙ onto-sets page at piece room in
+  left-after {piece} {rest} {page′} {at′} l w =
+      let e : page′ ≡ sets page at piece = w .filled ∙ onto-sets page at piece (left-room l) in
       record {
-        same = ap₂ (λ p k. sets p k rest) e (w .moved) ∙ sets-append page at piece rest ∙ l .same;
-        place = omega (arith, l .place, w .moved, length-append piece rest);
+        same = ap₂ (λ p k. sets p k (joined rest)) e (w .moved) ∙ sets-append page at piece (joined rest) ∙ l .same;
+        place = omega (arith, l .place, w .moved, length-append piece (joined rest));
         kept = ap length e ∙ length-sets page at piece ∙ l .kept;
         fits = l .fits;
       }
 
-  -- one byte is stored
-  pub left-byte : (b : ℕ) (rest : List ℕ) → Left page₀ at₀ whole page at (b ∷ rest) → Left page₀ at₀ whole (set page at b) (suc at) rest
-  left-byte b rest l = record { same = l .same; place = omega (arith, l .place); kept = length-set page at b ∙ l .kept; fits = l .fits }
+  -- a word and a number are one piece
+  pub left-pair : {word number : List ℕ} {rest : List (List ℕ)} → Left page₀ at₀ whole page at (word ∷ number ∷ rest)
+      → Left page₀ at₀ whole page at ((word ++ number) ∷ rest)
+  left-pair {word} {number} {rest} l =
+      let e : word ++ number ++ joined rest ≡ word ++ (number ++ joined rest) = append-assoc word number (joined rest) in
+      record { same = ap (sets page at) e ∙ l .same; place = ap (λ r. at + length r) e ∙ l .place; kept = l .kept; fits = l .fits }
 
-  -- there is room for all that is left
-  pub left-fits : (rest : List ℕ) → Left page₀ at₀ whole page at rest → Room page at rest
-  left-fits rest l = record { fits = omega arith }
+  -- one byte is stored
+  pub left-byte : {b : ℕ} {bytes : List ℕ} {rest : List (List ℕ)} → Left page₀ at₀ whole page at ((b ∷ bytes) ∷ rest)
+      → Left page₀ at₀ whole (set page at b) (suc at) (bytes ∷ rest)
+  left-byte {b} l = record { same = l .same; place = omega (arith, l .place); kept = length-set page at b ∙ l .kept; fits = l .fits }
 
   -- nothing is left
   pub left-nothing : Left page₀ at₀ whole page at [] → Written page₀ at₀ whole page at
   left-nothing l = record { filled = l .same ∙ sym (onto-sets page₀ at₀ whole (l .fits)); moved = omega (arith, l .place) }
+
+  pub left-empty : {rest : List (List ℕ)} → Left page₀ at₀ whole page at ([] ∷ rest) → Left page₀ at₀ whole page at rest
+  left-empty l = record { same = l .same; place = l .place; kept = l .kept; fits = l .fits }
 
 -- ---- digits
 module _ (k n : ℕ) where
@@ -100,22 +108,8 @@ digits-last n h =
     within-more n n h
     ∙ ap₂ (λ r s. r ++ s) (within-enough n (suc (n / 10)) (n / 10) (omega arith) (omega arith)) (sym (within-one (n % 10) (n % 10) (omega arith)))
 
--- ---- a number is its front digits and then its last one
-module _ {page : List ℕ} {at n : ℕ} (h : 10 ≤ n) (room : Room page at (digits n)) where
-  number-left : Left page at (digits n) page at (digits (n / 10) ++ digits (n % 10))
-  number-left = subst (λ r. Left page at (digits n) page at r) (digits-last n h) (left-whole page at (digits n) room)
-
-  pub front-room : Room page at (digits (n / 10))
-  front-room = left-room (digits (n / 10)) (digits (n % 10)) number-left
-
-  module _ {page′ : List ℕ} {at′ : ℕ} (w : Written page at (digits (n / 10)) page′ at′) where
-    last-left : Left page at (digits n) page′ at′ (digits (n % 10) ++ [])
-    last-left =
-        subst (λ r. Left page at (digits n) page′ at′ r) (sym (append-nil (digits (n % 10))))
-        (left-after (digits (n / 10)) (digits (n % 10)) number-left w)
-
-    pub last-room : Room page′ at′ (digits (n % 10))
-    last-room = left-room (digits (n % 10)) [] last-left
-
-    pub number-written : {page″ : List ℕ} {at″ : ℕ} → Written page′ at′ (digits (n % 10)) page″ at″ → Written page at (digits n) page″ at″
-    number-written v = left-nothing (left-after (digits (n % 10)) [] last-left v)
+-- a number is its front digits and then its last one
+pub number-left : {page : List ℕ} {at n : ℕ} → 10 ≤ n → Room page at (digits n)
+    → Left page at (digits n) page at (digits (n / 10) ∷ digits (n % 10) ∷ [])
+number-left {page} {at} {n} h room =
+    left-whole (digits (n / 10) ∷ digits (n % 10) ∷ []) (digits-last n h ∙ ap (λ r. digits (n / 10) ++ r) (sym (append-nil (digits (n % 10))))) room

@@ -1,7 +1,8 @@
 ghost use mathlib.Core.Path.{_≡_};
+ghost use mathlib.Core.List.{_++_};
 ghost use Prim.Native.Nat.{ℕ, _+_, _-_, _*_, _<_, _≤_};
 ghost use lib.ListN.{length, getD};
-ghost use Rattle.page.specs.Page.{Room, Written, text, digits};
+ghost use Rattle.page.specs.Page.{Room, Written, text, digits, fourNumbers, planHead, unitLine, slotLine};
 
 // The answer page. Every function that writes takes the page and a place, writes from there on, and gives the place just past what it
 // wrote; a caller has asked for the length before.
@@ -81,4 +82,48 @@ fn put_number(page: &mut [u8], at: usize, n: u16) -> usize
         return put_four(page, at, n);
     }
     put_five(page, at, n)
+}
+
+fn put_pair(page: &mut [u8], at: usize, word: &[u8], n: u16) -> usize
+    requires { ⌜ Room (now page) at (now word ++ digits n) ⌝ }
+    ensures { λ r. ⌜ Written (now (page .entry)) at (now (word .entry) ++ digits n) (now (page .exit)) r ⌝ }
+{
+    let next = put_word(page, at, word);
+    put_number(page, next, n)
+}
+
+fn put_four_numbers(
+    page: &mut [u8],
+    at: usize,
+    first: &[u8],
+    a: u16,
+    second: &[u8],
+    b: u16,
+    third: &[u8],
+    c: u16,
+    d: u16,
+) -> usize
+    requires { ⌜ Room (now page) at (fourNumbers (now first) a (now second) b (now third) c d) ⌝ }
+    ensures { λ r. ⌜ Written (now (page .entry)) at (fourNumbers (now (first .entry)) a (now (second .entry)) b (now (third .entry)) c d)
+        (now (page .exit)) r ⌝ }
+{
+    let next = put_pair(page, at, first, a);
+    let next2 = put_pair(page, next, second, b);
+    let next3 = put_pair(page, next2, third, c);
+    let next4 = put_pair(page, next3, b" ", d);
+    put_word(page, next4, b"))\n")
+}
+
+pub fn put_unit(page: &mut [u8], at: usize, unit: u16, slot: u16, earliest: u16, latest: u16) -> usize
+    requires { ⌜ Room (now page) at (unitLine unit slot earliest latest) ⌝ }
+    ensures { λ r. ⌜ Written (now (page .entry)) at (unitLine unit slot earliest latest) (now (page .exit)) r ⌝ }
+{
+    put_four_numbers(page, at, b"(unit ", unit, b" (slot ", slot, b") (between ", earliest, latest)
+}
+
+pub fn put_slot(page: &mut [u8], at: usize, slot: u16, count: u16, least: u16, greatest: u16) -> usize
+    requires { ⌜ Room (now page) at (slotLine slot count least greatest) ⌝ }
+    ensures { λ r. ⌜ Written (now (page .entry)) at (slotLine slot count least greatest) (now (page .exit)) r ⌝ }
+{
+    put_four_numbers(page, at, b"(slot ", slot, b" (count ", count, b") (range ", least, greatest)
 }
