@@ -3,3 +3,4 @@ mod CutLaws
 mod MirrorLaws
 mod ExtremeLaws
 mod CarryLaws
+mod SettleLaws

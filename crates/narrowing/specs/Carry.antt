@@ -1,6 +1,7 @@
 -- The decider's steps over lists. Definitions only.
 -- A table's rows run over w boundaries, 0 to w - 1; `into w m` reads arcs that are listed by the boundary they lead into.
 use mathlib.Core.Path.{_≡_}
+use mathlib.Core.Bool.{Bool, true, false}
 use mathlib.Core.List.{List}
 use Prim.Native.Nat.{ℕ, suc, _+_, _-_, _*_, _≤_, _<_}
 use lib.ListN.{length, getD}
@@ -9,7 +10,7 @@ use lib.Signed.{_≤ℤ_}
 use Rattle.integers.specs.Parts.{minℤ}
 use Rattle.network.specs.Network.{Weights, Potential}
 use Rattle.network.specs.Table.{mostBoundaries, entry}
-use Rattle.narrowing.specs.Cut.{Keeps, Admits}
+use Rattle.narrowing.specs.Cut.{Admits}
 use Rattle.narrowing.specs.Sink.{Within, Closed, Sunk, height}
 use Rattle.narrowing.specs.declared.Settled.{Settled}
 use Rattle.narrowing.specs.declared.Settled.the-variants.{Still, Lower, Lost}
@@ -59,12 +60,18 @@ AdmitsAt w d m f v l = Admits (w - 1) (entry w d) (into w m) f v l
 abbrev pub heightAt : ℕ → List ℤ → ℕ → List ℤ → ℕ
 heightAt w d f z = height (entry w d) (f - 1) (at z) (suc (w - 1))
 
--- z keeps the arcs of the cut into the boundaries below k
-abbrev pub KeepsBelow : ℕ → List ℤ → ℕ → ℕ → ℕ → List ℤ → Type 0
-KeepsBelow w m k v l z = Keeps (into w m) k v l (at z)
-
 -- what lowering z to the arcs into the boundaries from h to k leaves: nothing was to be done, or z fell, or no potential keeps the arcs
 abbrev pub Settling : ℕ → List ℤ → List ℤ → ℕ → ℕ → ℕ → ℕ → ℕ → List ℤ → List ℤ → Settled → Type 0
 Settling w d m f v l h k z z′ Still = (z′ ≡ z) × ((a b : ℕ) → h ≤ b → b < k → v ≤ a → a < l → at z b ≤ℤ (at z a +ℤ into w m a b))
 Settling w d m f v l h k z z′ Lower = SunkAt w d m f v l z′ × (heightAt w d f z′ < heightAt w d f z)
 Settling w d m f v l h k z z′ Lost = AdmitsAt w d m f v l → ⊥
+
+-- a sweep over boundaries says whether z fell
+abbrev pub fell : Bool → Settled
+fell true = Lower
+fell false = Still
+
+-- a flag decides a statement
+abbrev pub Decides : Bool → Type 0 → Type 0
+Decides true A = A
+Decides false A = A → ⊥

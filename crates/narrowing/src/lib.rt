@@ -5,8 +5,9 @@ ghost use Prim.Native.Nat.{ℕ, _+_, _-_, _*_, _<_, _≤_};
 ghost use lib.ListN.{length, getD};
 ghost use lib.IntN.{ℤ, pos, _+ℤ_};
 ghost use Rattle.network.specs.Table.{entry};
+ghost use Rattle.narrowing.specs.Cut.{LeastCut};
 ghost use Rattle.narrowing.specs.Sink.{Within};
-ghost use Rattle.narrowing.specs.Carry.{at, Modest, Carried, LeastSum, Network, Cuts, SunkAt, Settling};
+ghost use Rattle.narrowing.specs.Carry.{at, Modest, Carried, LeastSum, Network, Cuts, SunkAt, AdmitsAt, Settling, Decides, into};
 
 // What lowering a potential to the arcs of a cut comes to: it keeps them, it fell, or no potential keeps them.
 enum Settled {
@@ -34,4 +35,86 @@ fn least_sum(xs: &[i16], ys: &[i16]) -> i16
         r = lesser(r, xs[i] + ys[i]);
     }
     r
+}
+
+// Lowers z to what the arcs of the cut ask at boundary b, and carries that through row b of the table.
+fn settle(d: &[i16], m: &[i16], w: usize, f: usize, v: usize, l: usize, b: usize, z: &mut [i16]) -> Settled
+    requires { ⌜ Network w (now d) (now m) × Cuts w f v l × (b < f) × (w ≤ length (now z)) × SunkAt w (now d) (now m) f v l (now z) ⌝ }
+    ensures { λ r. ⌜ Settling w (now (d .entry)) (now (m .entry)) f v l b (b + 1) (now (z .entry)) (now (z .exit)) r ⌝ }
+{
+    let row = b * w;
+    let end = row + w;
+    let arcs = row + v;
+    let arcs_end = row + l;
+    let k = least_sum(&z[v..l], &m[arcs..arcs_end]);
+    if less(k, z[b]) {
+        carry(z, &d[row..end], k);
+        if less(z[f - 1], 0) {
+            return Settled::Lost;
+        }
+        return Settled::Lower;
+    }
+    Settled::Still
+}
+
+// Settles every boundary before the window once.
+fn sweep(d: &[i16], m: &[i16], w: usize, f: usize, v: usize, l: usize, z: &mut [i16]) -> Settled
+    requires { ⌜ Network w (now d) (now m) × Cuts w f v l × (w ≤ length (now z)) × SunkAt w (now d) (now m) f v l (now z) ⌝ }
+    ensures { λ r. ⌜ Settling w (now (d .entry)) (now (m .entry)) f v l 0 f (now (z .entry)) (now (z .exit)) r ⌝ }
+{
+    let mut lower = false;
+    for b in 0..f {
+        let s = settle(d, m, w, f, v, l, b, z);
+        match s {
+            Settled::Still => {}
+            Settled::Lower => {
+                lower = true;
+            }
+            Settled::Lost => {
+                return Settled::Lost;
+            }
+        }
+    }
+    if lower { Settled::Lower } else { Settled::Still }
+}
+
+// Whether the network admits the cut of the window f..l at v. The potential starts as the highest that is 0 before the window.
+fn admits(d: &[i16], m: &[i16], w: usize, f: usize, v: usize, l: usize) -> bool
+    requires { ⌜ Network w (now d) (now m) × Cuts w f v l ⌝ }
+    ensures { λ r. ⌜ Decides r (AdmitsAt w (now (d .entry)) (now (m .entry)) f v l) ⌝ }
+{
+    let mut z = [1000i16; 49];
+    let row = (f - 1) * w;
+    let end = row + w;
+    carry(&mut z, &d[row..end], 0);
+    loop {
+        let s = sweep(d, m, w, f, v, l, &mut z);
+        match s {
+            Settled::Still => {
+                return true;
+            }
+            Settled::Lost => {
+                return false;
+            }
+            Settled::Lower => {}
+        }
+    }
+}
+
+// The least admitted cut of the window f..l, by halving; `known` is an admitted one.
+fn least_cut(d: &[i16], m: &[i16], w: usize, f: usize, l: usize, known: usize) -> usize
+    requires { ⌜ Network w (now d) (now m) × (1 ≤ f) × (f ≤ known) × (known ≤ l) × (l < w) × AdmitsAt w (now d) (now m) f known l ⌝ }
+    ensures { λ r. ⌜ LeastCut (w - 1) (entry w (now (d .entry))) (into w (now (m .entry))) f l r ⌝ }
+{
+    let mut low = f;
+    let mut high = known;
+    while low < high {
+        let middle = low + (high - low) / 2;
+        if admits(d, m, w, f, middle, l) {
+            high = middle;
+        } else {
+            low = middle + 1;
+        }
+    }
+    high
 }
