@@ -1,4 +1,4 @@
--- Both loops keep `Summed`: the inner one moves along the row, the outer one to the next row.
+-- Both loops keep `Swept`: the inner one moves along the row, the outer one to the next row.
 use native.Mathlib.Omega.{arith}
 use mathlib.Core.Path.{_≡_, refl, sym, ap, _∙_, subst}
 use mathlib.Core.List.{List}
@@ -17,20 +17,21 @@ use Rattle.sheet.specs.QuestionLaws.{windowsOf-length}
 use Rattle.sheet.specs.LimitTable.{exactWeights, insideWeights}
 use Rattle.sheet.specs.InsideLaws.{endsIn, ends-none, fit-in-order}
 use Rattle.sheet.specs.EntryLaws.{Filled, filled-is, is-filled, filled-over}
-use Rattle.sheet.proofs.Sums.{Summed, rebase, own-base, Turn, turn, first-row, next-row, last-row}
+use Rattle.sheet.proofs.Sweep.{Swept, swept-last, rebase, own-base}
+use Rattle.sheet.proofs.Sums.{Turn, turn, first-row, next-row}
 use Rattle.sheet.proofs.inside.windows_inside.Statement.{statement}
 use Rattle.sheet.proofs.inside.windows_inside.Tie as tie
 
 abbrev Inv-loop2 : tie.InvT-loop2
 Inv-loop2 first last w t₀ a row sum₀ b₀ t sum b =
     (w * w ≤ length t₀) × (0 < a) × (a < w) × (b ≤ a)
-    × (toZ w16 sum ≡ negℤ (pos (howMany (endsIn b a) (windowsOf first last)))) × Summed w (windowsOf first last) t₀ a b t
+    × (toZ w16 sum ≡ negℤ (pos (howMany (endsIn b a) (windowsOf first last)))) × Swept w (exactWeights (windowsOf first last)) (insideWeights (windowsOf first last)) t₀ a b t
 
 abbrev μ-loop2 : tie.MeasureT-loop2
 μ-loop2 first last w t₀ a row sum₀ b₀ t sum b = b
 
 abbrev Inv-loop : tie.InvT-loop
-Inv-loop first last w t₀ a₀ t a = (0 < a) × (w * w ≤ length t₀) × Summed w (windowsOf first last) t₀ a a t
+Inv-loop first last w t₀ a₀ t a = (0 < a) × (w * w ≤ length t₀) × Swept w (exactWeights (windowsOf first last)) (insideWeights (windowsOf first last)) t₀ a a t
 
 abbrev μ-loop : tie.MeasureT-loop
 μ-loop first last w t₀ a₀ t a = w - a
@@ -57,7 +58,7 @@ loop-holds c =
     let f = exact (c .before) in (
       omega arith,
       omega (arith, f .long, s .pre .0),
-      own-base (a .w) ws (a .t .now) t 1 1 (first-row (a .w) ws (fit-in-order (a .w) (a .first .now) (a .last .now) (s .pre .1)) (a .t .now) t f),
+      own-base (a .w) (exactWeights ws) (insideWeights ws) (a .t .now) t 1 1 (first-row (a .w) ws (fit-in-order (a .w) (a .first .now) (a .last .now) (s .pre .1)) (a .t .now) t f),
     )
 
 mul-row : tie.Need-mul-row Inv-loop2 μ-loop2 Inv-loop μ-loop
@@ -77,7 +78,7 @@ loop2-holds c =
       omega arith,
       omega arith,
       ap (λ (n : ℕ). negℤ (pos n)) (sym none),
-      own-base (a .w) ws (c .before .before .before .exact-windows .last .1 .1 .1 .0) (l .t) (l .a) (l .a) (l .inv .2),
+      own-base (a .w) (exactWeights ws) (insideWeights ws) (c .before .before .before .exact-windows .last .1 .1 .1 .0) (l .t) (l .a) (l .a) (l .inv .2),
     )
 
 sub-b : tie.Need-sub-b Inv-loop2 μ-loop2 Inv-loop μ-loop
@@ -172,11 +173,11 @@ loop-again c =
     let ws = windowsOf (a .first .now) (a .last .now) in
     let t₀ = c .before .before .before .before .before .exact-windows .last .1 .1 .1 .0 in
     let e : l .b ≡ 0 = omega arith in
-    let done : Summed (a .w) ws (r .t) (r .a) 0 (l .t) = subst (λ (b : ℕ). Summed (a .w) ws (r .t) (r .a) b (l .t)) e (l .inv .5) in (
+    let done : Swept (a .w) (exactWeights ws) (insideWeights ws) (r .t) (r .a) 0 (l .t) = subst (λ (b : ℕ). Swept (a .w) (exactWeights ws) (insideWeights ws) (r .t) (r .a) b (l .t)) e (l .inv .5) in (
       omega arith,
       r .inv .1,
       next-row (a .w) ws (fit-in-order (a .w) (a .first .now) (a .last .now) (s .pre .1)) t₀ (l .t) (r .a)
-          (rebase (a .w) ws t₀ (r .t) (l .t) (r .a) (r .a) (r .a) 0 (r .inv .2) done),
+          (rebase (a .w) (exactWeights ws) (insideWeights ws) (r .t) (l .t) t₀ (r .a) (r .a) (r .a) 0 (r .inv .2) done),
     )
 
 whole : (c : tie.After-loop Inv-loop2 μ-loop2 Inv-loop μ-loop)
@@ -189,7 +190,7 @@ whole c =
     let ws = windowsOf (a .first .now) (a .last .now) in
     let t₀ = c .before .before .before .exact-windows .last .1 .1 .1 .0 in
     filled-over (a .w) (exactWeights ws) (insideWeights ws) (a .t .now) t₀ (l .t) (exact (c .before .before .before))
-    (last-row (a .w) ws (fit-in-order (a .w) (a .first .now) (a .last .now) (s .pre .1)) t₀ (l .t) (l .a) (omega arith) (l .inv .2))
+    (swept-last (a .w) (exactWeights ws) (insideWeights ws) t₀ (l .t) (l .a) (l .a) (omega arith) (l .inv .2))
 
 same-length : tie.Need-same-length Inv-loop2 μ-loop2 Inv-loop μ-loop
 same-length c = whole c .long
