@@ -3,15 +3,16 @@
 use mathlib.Core.Path.{_≡_}
 use mathlib.Core.Bool.{cond}
 use mathlib.Core.List.{List, [], _∷_, _++_, map}
-use Prim.Native.Nat.{ℕ, zero, suc, _+_, _/_, _%_, _≤_}
+use Prim.Native.Nat.{ℕ, zero, suc, _+_, _-_, _/_, _%_, _≤_}
 use Prim.Native.Char.{code}
 use Prim.Native.String.{String, [] as end-of-text, _∷_ as _then_}
 use lib.Dec.{ltb, eqb}
 use lib.ListN.{length, take, drop, getD}
-use lib.IntN.{negℤ}
-use Rattle.integers.specs.Parts.{up}
+use lib.IntN.{ℤ, negℤ}
+use Rattle.integers.specs.Parts.{up, dn}
 use Rattle.lists.specs.Lists.{run, fromTo, howMany, joined}
 use Rattle.network.specs.Network.{Weights, around}
+use Rattle.network.specs.Table.{entry, mostBoundaries, listOf}
 
 -- the page with these bytes from the place on, and nothing else changed
 unfoldable pub onto : List ℕ → ℕ → List ℕ → List ℕ
@@ -71,17 +72,34 @@ slotLine slot count least greatest = joined (
 unfoldable pub unitLineAt : List ℕ → List ℕ → List ℕ → ℕ → List ℕ
 unitLineAt slots earliest latest j = unitLine (suc j) (getD slots j 0) (getD earliest j 0) (getD latest j 0)
 
--- the line of a slot, with the number of units that have it
-unfoldable pub slotLineAt : List ℕ → (ℕ → ℕ) → (ℕ → ℕ) → ℕ → List ℕ
-slotLineAt slots least greatest t = slotLine t (howMany (eqb t) slots) (least t) (greatest t)
+unfoldable pub unitLines : List ℕ → List ℕ → List ℕ → List ℕ
+unitLines slots earliest latest = joined (map (unitLineAt slots earliest latest) (run 0 (length slots)))
 
+unfoldable pub slotLineAt : (ℕ → ℕ) → (ℕ → ℕ) → (ℕ → ℕ) → ℕ → List ℕ
+slotLineAt count least greatest t = slotLine t (count t) (least t) (greatest t)
+
+unfoldable pub slotLines : ℕ → (ℕ → ℕ) → (ℕ → ℕ) → (ℕ → ℕ) → List ℕ
+slotLines span count least greatest = joined (map (slotLineAt count least greatest) (fromTo 1 span))
+
+-- the number of units that have a slot
+abbrev pub unitsIn : List ℕ → ℕ → ℕ
+unitsIn slots t = howMany (eqb t) slots
+
+-- the number of units in each slot, from slot 0 on, which none has
+unfoldable pub tally : List ℕ → List ℕ
+tally slots = listOf mostBoundaries (unitsIn slots)
+
+-- each unit's slot and narrowed window; each slot's count in this plan, and the least and the greatest over lawful plans
 unfoldable pub planPage : ℕ → List ℕ → List ℕ → List ℕ → (ℕ → ℕ) → (ℕ → ℕ) → List ℕ
-planPage span slots earliest latest least greatest = joined (
-  planHead (length slots)
-  ∷ joined (map (unitLineAt slots earliest latest) (run 0 (length slots)))
-  ∷ joined (map (slotLineAt slots least greatest) (fromTo 1 span))
-  ∷ []
-)
+planPage span slots earliest latest least greatest =
+    joined (planHead (length slots) ∷ unitLines slots earliest latest ∷ slotLines span (unitsIn slots) least greatest ∷ [])
+
+-- the least and the greatest count of a slot, from the finished table of w boundaries: slot t is the stretch from boundary t - 1 to boundary t
+abbrev pub leastFrom : ℕ → List ℤ → ℕ → ℕ
+leastFrom w table t = dn (entry w table t (t - 1))
+
+abbrev pub greatestFrom : ℕ → List ℤ → ℕ → ℕ
+greatestFrom w table t = up (entry w table (t - 1) t)
 
 -- ---- the page of a ring
 

@@ -1,5 +1,5 @@
 -- Laws of writing in order.
--- Key idea: while something is written piece by piece, what is left to write, written from the present place on, gives the whole page. `Left` says so, and
+-- Key idea: while something is written piece by piece, what is left to write, written from the present place on, gives the whole page. `Pending` says so, and
 -- one law takes it over each piece: the same for a word, a number, a line and all lines of a page.
 use mathlib.Core.Path.{_≡_, refl, sym, ap, ap₂, _∙_, subst}
 use mathlib.Core.Bool.{Bool, true, false, cond}
@@ -31,27 +31,27 @@ pub onto-length : (page : List ℕ) (at : ℕ) (bytes : List ℕ) → Room page 
 onto-length page at bytes h = ap length (onto-sets page at bytes h) ∙ length-sets page at bytes
 
 -- `whole` is to be written on `page₀` from `at₀` on; when `page` and `at` are reached, the pieces are left to write
-pub record Left (page₀ : List ℕ) (at₀ : ℕ) (whole page : List ℕ) (at : ℕ) (pieces : List (List ℕ)) : Type 0 where
+pub record Pending (page₀ : List ℕ) (at₀ : ℕ) (whole page : List ℕ) (at : ℕ) (pieces : List (List ℕ)) : Type 0 where
   pub same : sets page at (joined pieces) ≡ sets page₀ at₀ whole
   pub place : at + length (joined pieces) ≡ at₀ + length whole
   pub kept : length page ≡ length page₀
   pub fits : Room page₀ at₀ whole
 
-pub left-whole : {page : List ℕ} {at : ℕ} {whole : List ℕ} (pieces : List (List ℕ)) → whole ≡ joined pieces → Room page at whole
-    → Left page at whole page at pieces
-left-whole {page} {at} {whole} pieces e h =
+pub pending-whole : {page : List ℕ} {at : ℕ} {whole : List ℕ} (pieces : List (List ℕ)) → whole ≡ joined pieces → Room page at whole
+    → Pending page at whole page at pieces
+pending-whole {page} {at} {whole} pieces e h =
     record { same = ap (sets page at) (sym e); place = ap (λ r. at + length r) (sym e); kept = refl; fits = h }
 
 module _ {page₀ : List ℕ} {at₀ : ℕ} {whole page : List ℕ} {at : ℕ} where
   -- there is room for the next piece
-  pub left-room : {piece : List ℕ} {rest : List (List ℕ)} → Left page₀ at₀ whole page at (piece ∷ rest) → Room page at piece
-  left-room {piece} {rest} l = record { fits = omega (arith, length-append piece (joined rest)) }
+  pub pending-room : {piece : List ℕ} {rest : List (List ℕ)} → Pending page₀ at₀ whole page at (piece ∷ rest) → Room page at piece
+  pending-room {piece} {rest} l = record { fits = omega (arith, length-append piece (joined rest)) }
 
   -- once it is written, the rest is left
-  pub left-after : {piece : List ℕ} {rest : List (List ℕ)} {page′ : List ℕ} {at′ : ℕ} → Left page₀ at₀ whole page at (piece ∷ rest)
-      → Written page at piece page′ at′ → Left page₀ at₀ whole page′ at′ rest
-  left-after {piece} {rest} {page′} {at′} l w =
-      let e : page′ ≡ sets page at piece = w .filled ∙ onto-sets page at piece (left-room l) in
+  pub pending-after : {piece : List ℕ} {rest : List (List ℕ)} {page′ : List ℕ} {at′ : ℕ} → Pending page₀ at₀ whole page at (piece ∷ rest)
+      → Written page at piece page′ at′ → Pending page₀ at₀ whole page′ at′ rest
+  pending-after {piece} {rest} {page′} {at′} l w =
+      let e : page′ ≡ sets page at piece = w .filled ∙ onto-sets page at piece (pending-room l) in
       record {
         same = ap₂ (λ p k. sets p k (joined rest)) e (w .moved) ∙ sets-append page at piece (joined rest) ∙ l .same;
         place = omega (arith, l .place, w .moved, length-append piece (joined rest));
@@ -60,23 +60,23 @@ module _ {page₀ : List ℕ} {at₀ : ℕ} {whole page : List ℕ} {at : ℕ} w
       }
 
   -- a word and a number are one piece
-  pub left-pair : {word number : List ℕ} {rest : List (List ℕ)} → Left page₀ at₀ whole page at (word ∷ number ∷ rest)
-      → Left page₀ at₀ whole page at ((word ++ number) ∷ rest)
-  left-pair {word} {number} {rest} l =
+  pub pending-pair : {word number : List ℕ} {rest : List (List ℕ)} → Pending page₀ at₀ whole page at (word ∷ number ∷ rest)
+      → Pending page₀ at₀ whole page at ((word ++ number) ∷ rest)
+  pending-pair {word} {number} {rest} l =
       let e : word ++ number ++ joined rest ≡ word ++ (number ++ joined rest) = append-assoc word number (joined rest) in
       record { same = ap (sets page at) e ∙ l .same; place = ap (λ r. at + length r) e ∙ l .place; kept = l .kept; fits = l .fits }
 
   -- one byte is stored
-  pub left-byte : {b : ℕ} {bytes : List ℕ} {rest : List (List ℕ)} → Left page₀ at₀ whole page at ((b ∷ bytes) ∷ rest)
-      → Left page₀ at₀ whole (set page at b) (suc at) (bytes ∷ rest)
-  left-byte {b} l = record { same = l .same; place = omega (arith, l .place); kept = length-set page at b ∙ l .kept; fits = l .fits }
+  pub pending-byte : {b : ℕ} {bytes : List ℕ} {rest : List (List ℕ)} → Pending page₀ at₀ whole page at ((b ∷ bytes) ∷ rest)
+      → Pending page₀ at₀ whole (set page at b) (suc at) (bytes ∷ rest)
+  pending-byte {b} l = record { same = l .same; place = omega (arith, l .place); kept = length-set page at b ∙ l .kept; fits = l .fits }
 
   -- nothing is left
-  pub left-nothing : Left page₀ at₀ whole page at [] → Written page₀ at₀ whole page at
-  left-nothing l = record { filled = l .same ∙ sym (onto-sets page₀ at₀ whole (l .fits)); moved = omega (arith, l .place) }
+  pub pending-nothing : Pending page₀ at₀ whole page at [] → Written page₀ at₀ whole page at
+  pending-nothing l = record { filled = l .same ∙ sym (onto-sets page₀ at₀ whole (l .fits)); moved = omega (arith, l .place) }
 
-  pub left-empty : {rest : List (List ℕ)} → Left page₀ at₀ whole page at ([] ∷ rest) → Left page₀ at₀ whole page at rest
-  left-empty l = record { same = l .same; place = l .place; kept = l .kept; fits = l .fits }
+  pub pending-empty : {rest : List (List ℕ)} → Pending page₀ at₀ whole page at ([] ∷ rest) → Pending page₀ at₀ whole page at rest
+  pending-empty l = record { same = l .same; place = l .place; kept = l .kept; fits = l .fits }
 
 -- ---- digits
 module _ (k n : ℕ) where
@@ -110,6 +110,22 @@ digits-last n h =
 
 -- a number is its front digits and then its last one
 pub number-left : {page : List ℕ} {at n : ℕ} → 10 ≤ n → Room page at (digits n)
-    → Left page at (digits n) page at (digits (n / 10) ∷ digits (n % 10) ∷ [])
+    → Pending page at (digits n) page at (digits (n / 10) ∷ digits (n % 10) ∷ [])
 number-left {page} {at} {n} h room =
-    left-whole (digits (n / 10) ∷ digits (n % 10) ∷ []) (digits-last n h ∙ ap (λ r. digits (n / 10) ++ r) (sym (append-nil (digits (n % 10))))) room
+    pending-whole (digits (n / 10) ∷ digits (n % 10) ∷ []) (digits-last n h ∙ ap (λ r. digits (n / 10) ++ r) (sym (append-nil (digits (n % 10))))) room
+
+-- ---- lines one after another
+
+-- the next line stands in front
+pub lines-next : {page₀ : List ℕ} {at₀ : ℕ} {whole page : List ℕ} {at : ℕ} (f : ℕ → List ℕ) (i n : ℕ) → i < n
+    → Pending page₀ at₀ whole page at (map f (run i (n - i))) → Pending page₀ at₀ whole page at (f i ∷ map f (run (i + 1) (n - (i + 1))))
+lines-next {page₀} {at₀} {whole} {page} {at} f i n h l =
+    let e : n - i ≡ suc (n - (i + 1)) = omega arith in
+    rw (add-one i) (subst (λ k. Pending page₀ at₀ whole page at (map f (run i k))) (rw (add-one i) at e) l)
+
+-- none is left
+pub lines-end : {page₀ : List ℕ} {at₀ : ℕ} {whole page : List ℕ} {at : ℕ} (f : ℕ → List ℕ) (i n : ℕ) → n ≤ i
+    → Pending page₀ at₀ whole page at (map f (run i (n - i))) → Written page₀ at₀ whole page at
+lines-end {page₀} {at₀} {whole} {page} {at} f i n h l =
+    let e : n - i ≡ 0 = omega arith in
+    pending-nothing (subst (λ k. Pending page₀ at₀ whole page at (map f (run i k))) e l)

@@ -1,8 +1,12 @@
 ghost use mathlib.Core.Path.{_≡_};
 ghost use mathlib.Core.List.{_++_};
 ghost use Prim.Native.Nat.{ℕ, _+_, _-_, _*_, _<_, _≤_};
-ghost use lib.ListN.{length, getD};
-ghost use Rattle.page.specs.Page.{Room, Written, text, digits, fourNumbers, planHead, unitLine, slotLine};
+ghost use lib.ListN.{length, getD, replicate};
+ghost use lib.IntN.{ℤ, pos};
+ghost use Rattle.integers.specs.Parts.{up, dn};
+ghost use Rattle.network.specs.Table.{entry, mostBoundaries};
+ghost use Rattle.sheet.specs.Limits.{maxUnits};
+ghost use Rattle.page.specs.Page.{Room, Written, text, digits, fourNumbers, planHead, unitLine, slotLine, unitLines, slotLines, tally, leastFrom, greatestFrom};
 
 // The answer page. Every function that writes takes the page and a place, writes from there on, and gives the place just past what it
 // wrote; a caller has asked for the length before.
@@ -126,4 +130,54 @@ pub fn put_slot(page: &mut [u8], at: usize, slot: u16, count: u16, least: u16, g
     ensures { λ r. ⌜ Written (now (page .entry)) at (slotLine slot count least greatest) (now (page .exit)) r ⌝ }
 {
     put_four_numbers(page, at, b"(slot ", slot, b" (count ", count, b") (range ", least, greatest)
+}
+
+pub fn put_units(page: &mut [u8], at: usize, plan: &[u16], earliest: &[u16], latest: &[u16]) -> usize
+    requires { ⌜ (length (now earliest) ≡ length (now plan)) × (length (now latest) ≡ length (now plan)) × (length (now plan) ≤ maxUnits) ⌝ }
+    requires { ⌜ Room (now page) at (unitLines (now plan) (now earliest) (now latest)) ⌝ }
+    ensures { λ r. ⌜ Written (now (page .entry)) at (unitLines (now (plan .entry)) (now (earliest .entry)) (now (latest .entry)))
+        (now (page .exit)) r ⌝ }
+{
+    let mut next = at;
+    let mut j = 0;
+    while j < plan.len() {
+        next = put_unit(page, next, (j + 1) as u16, plan[j], earliest[j], latest[j]);
+        j += 1;
+    }
+    next
+}
+
+// How many units have each slot.
+pub fn count_slots(plan: &[u16], counts: &mut [u16])
+    requires { ⌜ (now counts ≡ replicate mostBoundaries 0) × (length (now plan) ≤ maxUnits) ⌝ }
+    ensures { λ _. ⌜ now (counts .exit) ≡ tally (now (plan .entry)) ⌝ }
+{
+    let mut j = 0;
+    while j < plan.len() {
+        let slot = plan[j] as usize;
+        if slot < counts.len() {
+            counts[slot] += 1;
+        }
+        j += 1;
+    }
+}
+
+fn entry_at(table: &[i16], w: usize, a: usize, b: usize) -> i16
+    requires { ⌜ (a < w) × (b < w) × (w ≤ mostBoundaries) × (w * w ≤ length (now table)) ⌝ }
+    ensures { λ r. ⌜ r ≡ entry w (now (table .entry)) a b ⌝ }
+{
+    table[a * w + b]
+}
+
+// The size of a number that is not below 0, and of one that is not above; 0 for the others.
+fn above(x: i16) -> u16
+    ensures { λ r. ⌜ r ≡ up x ⌝ }
+{
+    if x < 0 { 0 } else { x as u16 }
+}
+
+fn below(x: i16) -> u16
+    ensures { λ r. ⌜ r ≡ dn x ⌝ }
+{
+    if x < 0 { (-(x as i32)) as u16 } else { 0 }
 }

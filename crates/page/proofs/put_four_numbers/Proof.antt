@@ -5,7 +5,7 @@ use Prim.Native.Nat.{ℕ}
 use denote.Ref.{now}
 use Rattle.lists.specs.Lists.{joined}
 use Rattle.page.specs.Page.{Room, Written, text, digits, fourNumbers}
-use Rattle.page.specs.PageLaws.{Left, left-whole, left-room, left-pair, left-after, left-nothing}
+use Rattle.page.specs.PageLaws.{Pending, pending-whole, pending-room, pending-pair, pending-after, pending-nothing}
 use borrow.Author.Needs.{needs}
 use Rattle.page.proofs.put_four_numbers.Statement.{statement}
 use Rattle.page.proofs.put_four_numbers.Tie as tie
@@ -17,8 +17,8 @@ use Rattle.page.proofs.put_word.Reads as put-word-reads
 abbrev line : tie.Start → List ℕ
 line c = fourNumbers (now (c .args .first)) (c .args .a) (now (c .args .second)) (c .args .b) (now (c .args .third)) (c .args .c) (c .args .d)
 
-abbrev LeftOf : tie.Start → List ℕ → ℕ → List (List ℕ) → Type 0
-LeftOf c page at rest = Left (now (c .args .page)) (c .args .at) (line c) page at rest
+abbrev PendingOf : tie.Start → List ℕ → ℕ → List (List ℕ) → Type 0
+PendingOf c page at rest = Pending (now (c .args .page)) (c .args .at) (line c) page at rest
 
 abbrev after-first : tie.Start → List (List ℕ)
 after-first c = now (c .args .second) ∷ digits (c .args .b) ∷ now (c .args .third) ∷ digits (c .args .c) ∷ text " " ∷ digits (c .args .d) ∷ text "))\n" ∷ []
@@ -29,34 +29,34 @@ after-second c = now (c .args .third) ∷ digits (c .args .c) ∷ text " " ∷ d
 abbrev after-third : tie.Start → List (List ℕ)
 after-third c = text " " ∷ digits (c .args .d) ∷ text "))\n" ∷ []
 
-line0 : (c : tie.Start) → LeftOf c (now (c .args .page)) (c .args .at) (now (c .args .first) ∷ digits (c .args .a) ∷ after-first c)
+line0 : (c : tie.Start) → PendingOf c (now (c .args .page)) (c .args .at) (now (c .args .first) ∷ digits (c .args .a) ∷ after-first c)
 unfolding fourNumbers
-line0 c = left-whole (now (c .args .first) ∷ digits (c .args .a) ∷ after-first c) refl (c .pre)
+line0 c = pending-whole (now (c .args .first) ∷ digits (c .args .a) ∷ after-first c) refl (c .pre)
 
-line1 : (c : tie.After-put-pair) → LeftOf (c .before .before .before .before .before .before) (c .put-pair .last .0) (c .put-pair .result) (after-first (c .before .before .before .before .before .before))
-line1 c = left-after (left-pair (line0 (c .before .before .before .before .before .before))) (c .put-pair .ensures)
+line1 : (c : tie.After-put-pair) → PendingOf (c .before .before .before .before .before .before) (c .put-pair .last .0) (c .put-pair .result) (after-first (c .before .before .before .before .before .before))
+line1 c = pending-after (pending-pair (line0 (c .before .before .before .before .before .before))) (c .put-pair .ensures)
 
-line2 : (c : tie.After-put-pair2) → LeftOf (c .before .before .before .before .before .before .before .before .before .before) (c .put-pair2 .last .0) (c .put-pair2 .result) (after-second (c .before .before .before .before .before .before .before .before .before .before))
-line2 c = left-after (left-pair (line1 (c .before .before .before .before))) (c .put-pair2 .ensures)
+line2 : (c : tie.After-put-pair2) → PendingOf (c .before .before .before .before .before .before .before .before .before .before) (c .put-pair2 .last .0) (c .put-pair2 .result) (after-second (c .before .before .before .before .before .before .before .before .before .before))
+line2 c = pending-after (pending-pair (line1 (c .before .before .before .before))) (c .put-pair2 .ensures)
 
-line3 : (c : tie.After-put-pair3) → LeftOf (c .before .before .before .before .before .before .before .before .before .before .before .before .before .before) (c .put-pair3 .last .0) (c .put-pair3 .result) (after-third (c .before .before .before .before .before .before .before .before .before .before .before .before .before .before))
-line3 c = left-after (left-pair (line2 (c .before .before .before .before))) (c .put-pair3 .ensures)
+line3 : (c : tie.After-put-pair3) → PendingOf (c .before .before .before .before .before .before .before .before .before .before .before .before .before .before) (c .put-pair3 .last .0) (c .put-pair3 .result) (after-third (c .before .before .before .before .before .before .before .before .before .before .before .before .before .before))
+line3 c = pending-after (pending-pair (line2 (c .before .before .before .before))) (c .put-pair3 .ensures)
 
-line4 : (c : tie.After-put-pair4) → LeftOf (c .before .before .before .before .before .before .before .before .before .before .before .before .before .before .before .before .before .before .before) (c .put-pair4 .last .0) (c .put-pair4 .result) (text "))\n" ∷ [])
+line4 : (c : tie.After-put-pair4) → PendingOf (c .before .before .before .before .before .before .before .before .before .before .before .before .before .before .before .before .before .before .before) (c .put-pair4 .last .0) (c .put-pair4 .result) (text "))\n" ∷ [])
 unfolding text
-line4 c = left-after (left-pair (line3 (c .before .before .before .before .before))) (c .put-pair4 .ensures)
+line4 c = pending-after (pending-pair (line3 (c .before .before .before .before .before))) (c .put-pair4 .ensures)
 
 -- src/lib.rt:110:9
 put-pair-requires : tie.Need-put-pair-requires
-put-pair-requires c κs = left-room (left-pair (line0 (c .before .before .before .before .before)))
+put-pair-requires c κs = pending-room (pending-pair (line0 (c .before .before .before .before .before)))
 
 -- src/lib.rt:111:9
 put-pair-requires-2 : tie.Need-put-pair-requires-2
-put-pair-requires-2 c κs = left-room (left-pair (line1 (c .before .before .before)))
+put-pair-requires-2 c κs = pending-room (pending-pair (line1 (c .before .before .before)))
 
 -- src/lib.rt:112:9
 put-pair-requires-3 : tie.Need-put-pair-requires-3
-put-pair-requires-3 c κs = left-room (left-pair (line2 (c .before .before .before)))
+put-pair-requires-3 c κs = pending-room (pending-pair (line2 (c .before .before .before)))
 
 -- src/lib.rt:113:39
 slice-aggregate-put-pair : tie.Need-slice-aggregate-put-pair
@@ -65,7 +65,7 @@ slice-aggregate-put-pair c = search needs
 -- src/lib.rt:113:9
 put-pair-requires-4 : tie.Need-put-pair-requires-4
 unfolding text
-put-pair-requires-4 c κs = left-room (left-pair (line3 (c .before .before .before .before)))
+put-pair-requires-4 c κs = pending-room (pending-pair (line3 (c .before .before .before .before)))
 
 -- src/lib.rt:114:27
 slice-aggregate-put-word : tie.Need-slice-aggregate-put-word
@@ -74,7 +74,7 @@ slice-aggregate-put-word c = search needs
 -- src/lib.rt:114:5
 put-word-requires : tie.Need-put-word-requires
 unfolding text
-put-word-requires c κs = left-room (line4 (c .before .before .before .before))
+put-word-requires c κs = pending-room (line4 (c .before .before .before .before))
 
 -- src/lib.rt:95:1
 same-length : tie.Need-same-length
@@ -83,7 +83,7 @@ same-length c = search needs
 -- src/lib.rt:95:1
 returns : tie.Need-returns
 unfolding text
-returns c = left-nothing (left-after (line4 (c .before .before .before .before .before .before .before)) (c .before .before .put-word .ensures))
+returns c = pending-nothing (pending-after (line4 (c .before .before .before .before .before .before .before)) (c .before .before .put-word .ensures))
 
 pub put-four-numbers-spec : {M : Type 1} → statement M
 put-four-numbers-spec =

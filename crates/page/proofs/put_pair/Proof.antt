@@ -2,7 +2,7 @@ use mathlib.Core.Path.{_≡_, sym, ap}
 use mathlib.Core.List.{List, [], _∷_, _++_, append-nil}
 use denote.Ref.{now}
 use Rattle.page.specs.Page.{digits}
-use Rattle.page.specs.PageLaws.{Left, left-whole, left-room, left-after, left-nothing}
+use Rattle.page.specs.PageLaws.{Pending, pending-whole, pending-room, pending-after, pending-nothing}
 use borrow.Author.Needs.{needs}
 use Rattle.page.proofs.put_pair.Statement.{statement}
 use Rattle.page.proofs.put_pair.Tie as tie
@@ -12,18 +12,18 @@ use Rattle.page.proofs.put_number.Reads as put-number-reads
 use Rattle.page.proofs.put_word.Reads as put-word-reads
 
 whole : (c : tie.Start) →
-    Left (now (c .args .page)) (c .args .at) (now (c .args .word) ++ digits (c .args .n)) (now (c .args .page)) (c .args .at)
+    Pending (now (c .args .page)) (c .args .at) (now (c .args .word) ++ digits (c .args .n)) (now (c .args .page)) (c .args .at)
     (now (c .args .word) ∷ digits (c .args .n) ∷ [])
 whole c =
-    left-whole (now (c .args .word) ∷ digits (c .args .n) ∷ []) (ap (λ r. now (c .args .word) ++ r) (sym (append-nil (digits (c .args .n))))) (c .pre)
+    pending-whole (now (c .args .word) ∷ digits (c .args .n) ∷ []) (ap (λ r. now (c .args .word) ++ r) (sym (append-nil (digits (c .args .n))))) (c .pre)
 
 -- src/lib.rt:91:9
 put-word-requires : tie.Need-put-word-requires
-put-word-requires c κs = left-room (whole (c .before .before .before))
+put-word-requires c κs = pending-room (whole (c .before .before .before))
 
 -- src/lib.rt:92:5
 put-number-requires : tie.Need-put-number-requires
-put-number-requires c κs = left-room (left-after (whole (c .before .before .before .before .before .before .before)) (c .before .before .before .put-word .ensures))
+put-number-requires c κs = pending-room (pending-after (whole (c .before .before .before .before .before .before .before)) (c .before .before .before .put-word .ensures))
 
 -- src/lib.rt:87:1
 same-length : tie.Need-same-length
@@ -31,7 +31,7 @@ same-length c = search needs
 
 -- src/lib.rt:87:1
 returns : tie.Need-returns
-returns c = left-nothing (left-after (left-after (whole (c .before .before .before .before .before .before .before .before .before .before)) (c .before .before .before .before .before .before .put-word .ensures)) (c .before .before .put-number .ensures))
+returns c = pending-nothing (pending-after (pending-after (whole (c .before .before .before .before .before .before .before .before .before .before)) (c .before .before .before .before .before .before .put-word .ensures)) (c .before .before .put-number .ensures))
 
 pub put-pair-spec : {M : Type 1} → statement M
 put-pair-spec = tie.close (tie.spec put-word-requires put-number-requires same-length returns)

@@ -1,5 +1,5 @@
 use native.Mathlib.Omega.{arith}
-use Rattle.page.specs.PageLaws.{number-left, left-room, left-after, left-nothing}
+use Rattle.page.specs.PageLaws.{number-left, pending-room, pending-after, pending-nothing}
 use borrow.Author.Needs.{needs}
 use Rattle.page.proofs.put_two.Statement.{statement}
 use Rattle.page.proofs.put_two.Tie as tie
@@ -9,11 +9,11 @@ use Rattle.page.proofs.put_one.Reads as put-one-reads
 
 -- src/lib.rt:36:9
 put-one-requires : tie.Need-put-one-requires
-put-one-requires c κs = (omega arith, left-room (number-left (omega arith) (c .before .before .pre .1)))
+put-one-requires c κs = (omega arith, pending-room (number-left (omega arith) (c .before .before .pre .1)))
 
 -- src/lib.rt:37:5
 put-one-requires-2 : tie.Need-put-one-requires-2
-put-one-requires-2 c κs = (omega arith, left-room (left-after (number-left (omega arith) (c .before .before .before .before .before .before .pre .1)) (c .before .before .before .put-one .ensures)))
+put-one-requires-2 c κs = (omega arith, pending-room (pending-after (number-left (omega arith) (c .before .before .before .before .before .before .pre .1)) (c .before .before .before .put-one .ensures)))
 
 -- src/lib.rt:31:1
 same-length : tie.Need-same-length
@@ -22,8 +22,8 @@ same-length c = search needs
 -- src/lib.rt:31:1
 returns : tie.Need-returns
 returns c =
-    left-nothing
-    (left-after (left-after (number-left (omega arith) (c .before .before .before .before .before .before .before .before .before .pre .1)) (c .before .before .before .before .before .before .put-one .ensures)) (c .before .before .put-one2 .ensures))
+    pending-nothing
+    (pending-after (pending-after (number-left (omega arith) (c .before .before .before .before .before .before .before .before .before .pre .1)) (c .before .before .before .before .before .before .put-one .ensures)) (c .before .before .put-one2 .ensures))
 
 pub put-two-spec : {M : Type 1} → statement M
 put-two-spec = tie.close (tie.spec put-one-requires put-one-requires-2 same-length returns)

@@ -8,14 +8,14 @@ use native.Mathlib.Numerals.{add-one}
 use denote.Ref.{now}
 use lib.ListN.{length, getD, drop, drop-of-length-le}
 use lib.Seq.{drop-cons}
-use Rattle.page.specs.PageLaws.{Left, left-whole, left-byte, left-empty, left-nothing}
+use Rattle.page.specs.PageLaws.{Pending, pending-whole, pending-byte, pending-empty, pending-nothing}
 use Rattle.page.proofs.put_word.Statement.{statement}
 use Rattle.page.proofs.put_word.Tie as tie
 use Rattle.page.proofs.put_word.Reads as reads
 use Rattle.page.proofs.put_word.Lts as lts
 
 abbrev Inv-loop : tie.InvT-loop
-Inv-loop page₀ at word i₀ page i = (i ≤ length word) × Left page₀ at word page (at + i) (drop i word ∷ [])
+Inv-loop page₀ at word i₀ page i = (i ≤ length word) × Pending page₀ at word page (at + i) (drop i word ∷ [])
 
 abbrev μ-loop : tie.MeasureT-loop
 μ-loop page₀ at word i₀ page i = length word - i
@@ -24,7 +24,7 @@ abbrev μ-loop : tie.MeasureT-loop
 loop-holds : tie.Need-loop-holds Inv-loop μ-loop
 loop-holds c =
     let a = c .args in
-    (omega arith, rw (add-zero (a .at)) (left-whole (now (a .word) ∷ []) (sym (append-nil (now (a .word)))) (c .pre)))
+    (omega arith, rw (add-zero (a .at)) (pending-whole (now (a .word) ∷ []) (sym (append-nil (now (a .word)))) (c .pre)))
 
 -- src/lib.rt:15:24
 shared-slice-read-page : tie.Need-shared-slice-read-page Inv-loop μ-loop
@@ -55,7 +55,7 @@ loop-again c =
     let t : l .i < length w = c .before .loop-test .taken in
     (omega arith,
     rw (sym (add-assoc (a .at) (l .i) 1), add-one (a .at + l .i), add-one (l .i))
-    (left-byte (rw (drop-cons w (l .i) 0 t) at (l .inv .1))))
+    (pending-byte (rw (drop-cons w (l .i) 0 t) at (l .inv .1))))
 
 -- src/lib.rt:18:5
 add-result : tie.Need-add-result Inv-loop μ-loop
@@ -70,7 +70,7 @@ returns : tie.Need-returns Inv-loop μ-loop
 returns c =
     let l = c .before .loop in
     let w = now (c .before .before .args .word) in
-    left-nothing (left-empty (rw (drop-of-length-le w (c .loop-test .left)) at (l .inv .1)))
+    pending-nothing (pending-empty (rw (drop-of-length-le w (c .loop-test .left)) at (l .inv .1)))
 
 pub put-word-spec : {M : Type 1} → statement M
 put-word-spec =

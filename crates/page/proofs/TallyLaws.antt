@@ -1,0 +1,83 @@
+-- Counting by one store a unit.
+-- Key idea: one unit more raises the count of its own slot by one and no other, and so does the store.
+use mathlib.Core.Path.{_≡_, refl, sym, ap, _∙_, subst}
+use mathlib.Core.Bool.{Bool, true, false}
+use mathlib.Core.List.{List, [], _∷_, _++_, map}
+use Prim.Native.Nat.{ℕ, zero, suc, _+_, _≤_, _<_}
+use native.Mathlib.Omega.{arith}
+use native.Mathlib.Decide.{ℕ-discrete}
+use native.Mathlib.Numerals.{add-one}
+use lib.Dec.{eqb}
+use lib.ListN.{length, getD, take, set, replicate, length-set, length-replicate, length-take, getD-replicate}
+use lib.Seq.{take-suc, take-all, getD-set-same, getD-set-other, ext-getD}
+use borrow.Author.Tests.{eq-eqb, ne-eqb}
+use Rattle.lists.specs.Lists.{run, howMany, oneIf}
+use Rattle.lists.specs.Counts.{howMany-count, count-most}
+use Rattle.network.specs.Table.{mostBoundaries}
+use Rattle.page.specs.Page.{unitsIn, tally}
+
+howMany-last : (t : ℕ → Bool) (xs : List ℕ) (x : ℕ) → howMany t (xs ++ (x ∷ [])) ≡ howMany t xs + oneIf (t x)
+howMany-last t [] x = omega arith
+howMany-last t (y ∷ ys) x = omega (arith, howMany-last t ys x)
+
+-- the counts of the first j units
+pub record Counted (plan : List ℕ) (j : ℕ) (counts : List ℕ) : Type 0 where
+  pub long : length counts ≡ mostBoundaries
+  pub at : (t : ℕ) → t < mostBoundaries → getD counts t 0 ≡ unitsIn (take j plan) t
+
+pub counted-none : (plan counts : List ℕ) → counts ≡ replicate mostBoundaries 0 → Counted plan 0 counts
+counted-none plan counts e = record {
+  long = ap length e;
+  at = λ t h. ap (λ c. getD c t 0) e ∙ getD-replicate mostBoundaries t 0 0 h;
+}
+
+pub counted-small : {plan : List ℕ} {j : ℕ} {counts : List ℕ} → Counted plan j counts → (t : ℕ) → t < mostBoundaries → getD counts t 0 ≤ j
+counted-small {plan} {j} {counts} c t h =
+    omega (arith, c .at t h, howMany-count (eqb t) 0 (take j plan), count-most (length (take j plan)) (λ i. eqb t (getD (take j plan) i 0)), length-take j plan)
+
+module _ {plan : List ℕ} {j : ℕ} {counts : List ℕ} (less : j < length plan) (c : Counted plan j counts) where
+  one-more : (t : ℕ) → unitsIn (take (j + 1) plan) t ≡ unitsIn (take j plan) t + oneIf (eqb t (getD plan j 0))
+  one-more t = rw (add-one j, take-suc plan j 0 less) (howMany-last (eqb t) (take j plan) (getD plan j 0))
+
+  -- the unit's slot has a count
+  pub counted-store : getD plan j 0 < mostBoundaries → Counted plan (j + 1) (set counts (getD plan j 0) (getD counts (getD plan j 0) 0 + 1))
+  counted-store h = record { long = length-set counts _ _ ∙ c .long; at = at }
+    where
+      at : (t : ℕ) → t < mostBoundaries → getD (set counts (getD plan j 0) (getD counts (getD plan j 0) 0 + 1)) t 0 ≡ unitsIn (take (j + 1) plan) t
+      at t g = elim (ℕ-discrete t (getD plan j 0)) [
+        | yes e ↦ rw e (getD-set-same counts (getD plan j 0) (getD counts (getD plan j 0) 0 + 1) 0 (omega (arith, c .long))
+            ∙ omega (arith, c .at (getD plan j 0) h, one-more (getD plan j 0), ap oneIf (eq-eqb (getD plan j 0) (getD plan j 0) refl)))
+        | no n ↦ getD-set-other counts (getD plan j 0) t (getD counts (getD plan j 0) 0 + 1) 0 n
+            ∙ omega (arith, c .at t g, one-more t, ap oneIf (ne-eqb t (getD plan j 0) n))
+      ]
+
+  -- it has none
+  pub counted-pass : mostBoundaries ≤ getD plan j 0 → Counted plan (j + 1) counts
+  counted-pass h = record {
+    long = c .long;
+    at = λ t g. omega (arith, c .at t g, one-more t, ap oneIf (ne-eqb t (getD plan j 0) (λ e. omega arith)));
+  }
+
+-- a list of values, place by place
+values-length : (g : ℕ → ℕ) (i n : ℕ) → length (map g (run i n)) ≡ n
+values-length g i zero = refl
+values-length g i (suc n) = ap suc (values-length g (suc i) n)
+
+values-at : (g : ℕ → ℕ) (i n j : ℕ) → j < n → getD (map g (run i n)) j 0 ≡ g (i + j)
+values-at g i zero j h = absurd (omega arith)
+values-at g i (suc n) zero h = let e : i ≡ i + 0 = omega arith in ap g e
+values-at g i (suc n) (suc j) h = let e : suc i + j ≡ i + suc j = omega arith in values-at g (suc i) n j (omega arith) ∙ ap g e
+
+pub tally-at : (plan : List ℕ) (t : ℕ) → t < mostBoundaries → getD (tally plan) t 0 ≡ unitsIn plan t
+unfolding tally
+tally-at plan t h = let e : 0 + t ≡ t = omega arith in values-at (unitsIn plan) 0 mostBoundaries t h ∙ ap (unitsIn plan) e
+
+pub tally-length : (plan : List ℕ) → length (tally plan) ≡ mostBoundaries
+unfolding tally
+tally-length plan = values-length (unitsIn plan) 0 mostBoundaries
+
+-- all units are counted
+pub counted-all : {plan : List ℕ} {j : ℕ} {counts : List ℕ} → length plan ≤ j → Counted plan j counts → counts ≡ tally plan
+counted-all {plan} {j} {counts} e c =
+    ext-getD 0 counts (tally plan) (c .long ∙ sym (tally-length plan))
+    (λ t h. let k : t < mostBoundaries = omega (arith, c .long) in c .at t k ∙ ap (λ p. unitsIn p t) (take-all j plan e) ∙ sym (tally-at plan t k))
