@@ -1,0 +1,24 @@
+use mathlib.Core.Path.{sym, _∙_}
+use Rattle.line.proofs.LineLaws.{sheet-read, sheet-faulty}
+use borrow.Author.Needs.{needs}
+use Rattle.line.proofs.sheet_line.Statement.{statement}
+use Rattle.line.proofs.sheet_line.Tie as tie
+
+number-at-requires : tie.Need-number-at-requires
+number-at-requires c κs = search needs
+
+enum-known-span : tie.Need-enum-known-span
+enum-known-span c = search needs
+
+enum-told : tie.Need-enum-told
+enum-told c = search needs
+
+returns : tie.Need-returns
+returns c = sheet-read _ _ _ (sym (c .before .before .before .number-at .ensures) ∙ c .before .span .given .1)
+
+returns-2 : tie.Need-returns-2
+returns-2 c = sheet-faulty _ (sym (c .before .before .number-at .ensures) ∙ c .enum-told .given .1)
+
+pub sheet-line-spec : {M : Type 1} → statement M
+sheet-line-spec =
+    tie.close (tie.spec number-at-requires enum-known-span enum-told returns returns-2)
