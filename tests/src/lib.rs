@@ -1,13 +1,16 @@
 //! An independent model of the wave planner, written from document 01 alone, and generators of sheets and texts.
 //!
 //! The model shares no code, no table and no algorithm with the planner. Small sheets are answered by enumeration of
-//! all plans (`enumerated`), large ones by shortest paths (`computed`); the two are held against each other.
+//! all plans (`enumerated`), large ones by shortest paths (`computed`); the two are held against each other. `calls` and
+//! `program` run the planner itself.
 
+pub mod calls;
 pub mod cases;
 pub mod computed;
 pub mod damage;
 pub mod enumerated;
 pub mod page;
+pub mod program;
 pub mod questions;
 pub mod random;
 pub mod reading;

@@ -1,0 +1,79 @@
+//! Finds the planner's static libraries and links them.
+//!
+//! They are looked for in `../target/staticlib`, and `rt staticlib` is run for each that is missing or older than its
+//! sources. Where `TUGROKT_LIB_DIR` names a folder, the libraries of that folder are taken as they are.
+//!
+//! A library that no crate of the repository exports yet is left out, and so is the part of this crate that calls it.
+
+use std::path::{Path, PathBuf};
+use std::process::Command;
+use std::time::SystemTime;
+use std::{env, fs};
+
+/// Each crate that has an open entry, and the entry's name.
+const ENTRIES: [(&str, &str); 3] = [("reader", "tugrokt_read"), ("planner", "tugrokt_plan"), ("page", "tugrokt_print")];
+
+fn main() {
+    let root = Path::new(&env::var("CARGO_MANIFEST_DIR").unwrap()).join("..").canonicalize().unwrap();
+    println!("cargo:rerun-if-env-changed=TUGROKT_LIB_DIR");
+    println!("cargo:rerun-if-changed=build.rs");
+    let given = env::var("TUGROKT_LIB_DIR").ok().map(PathBuf::from);
+    let folder = given.clone().unwrap_or_else(|| root.join("target/staticlib"));
+    println!("cargo:rustc-link-search=native={}", folder.display());
+    if given.is_none() {
+        println!("cargo:rerun-if-changed={}", root.join("crates").display());
+        println!("cargo:rerun-if-changed={}", root.join("crates.txt").display());
+    }
+    for (name, entry) in ENTRIES {
+        println!("cargo:rustc-check-cfg=cfg(has_{name})");
+        let archive = folder.join(format!("lib{name}.a"));
+        let present = match given {
+            Some(_) => archive.is_file(),
+            None => exports(&root.join("crates").join(name).join("src"), entry),
+        };
+        if !present {
+            continue;
+        }
+        if given.is_none() {
+            build(&root, name, &archive);
+        }
+        println!("cargo:rerun-if-changed={}", archive.display());
+        println!("cargo:rustc-link-lib=static={name}");
+        println!("cargo:rustc-cfg=has_{name}");
+        // Packages that depend on this one find these in DEP_TUGROKT_READER and so on.
+        println!("cargo:{name}={}", archive.display());
+    }
+}
+
+/// Does a source file of this folder define the entry?
+fn exports(folder: &Path, entry: &str) -> bool {
+    let Ok(files) = fs::read_dir(folder) else { return false };
+    let defined = format!("extern \"C\" fn {entry}(");
+    files.flatten().any(|f| fs::read_to_string(f.path()).is_ok_and(|text| text.contains(&defined)))
+}
+
+fn build(root: &Path, name: &str, archive: &Path) {
+    let sources = newest(&root.join("crates")).max(modified(&root.join("crates.txt")));
+    if modified(archive).is_some() && modified(archive) > sources {
+        return;
+    }
+    let run = Command::new("rt").args(["staticlib", name]).current_dir(root).output();
+    let run = run.unwrap_or_else(|e| panic!("rt staticlib {name}: {e}. Is the Rattle kit on this machine?"));
+    if !run.status.success() {
+        let said = String::from_utf8_lossy(&run.stdout);
+        panic!("rt staticlib {name} failed:\n{said}{}", String::from_utf8_lossy(&run.stderr));
+    }
+}
+
+fn modified(path: &Path) -> Option<SystemTime> {
+    fs::metadata(path).and_then(|m| m.modified()).ok()
+}
+
+/// When the newest file below a folder was changed.
+fn newest(folder: &Path) -> Option<SystemTime> {
+    let entries = fs::read_dir(folder).ok()?;
+    entries
+        .flatten()
+        .filter_map(|e| if e.path().is_dir() { newest(&e.path()) } else { modified(&e.path()) })
+        .max()
+}

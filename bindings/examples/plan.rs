@@ -1,0 +1,30 @@
+//! Plans the sheet of document 01 and prints each unit's slot and window, or the ring.
+//!
+//!     cargo run --release --example plan
+
+#[cfg(has_planner)]
+fn main() {
+    let mut sheet = tugrokt::Sheet::new(4);
+    sheet.add_unit(1, 2);
+    sheet.add_unit(1, 4);
+    for from in 1..=3 {
+        sheet.add_rule(from, from + 1, 1, 1);
+    }
+    match sheet.plan() {
+        Err(refusal) => println!("{refusal}"),
+        Ok(tugrokt::Answer::None { ring }) => println!("no plan: {ring:?}"),
+        Ok(tugrokt::Answer::Plan(plan)) => {
+            for (i, slot) in plan.slot.iter().enumerate() {
+                println!("unit {}: slot {slot}, from {} to {}", i + 1, plan.earliest[i], plan.latest[i]);
+            }
+            for slot in 1..=sheet.span {
+                println!("slot {slot}: {:?}", plan.range(slot, slot));
+            }
+        }
+    }
+}
+
+#[cfg(not(has_planner))]
+fn main() {
+    println!("the library has no planner");
+}

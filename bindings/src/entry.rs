@@ -1,0 +1,163 @@
+//! The planner's open entries, one safe function for each, with every room lent by the caller.
+//!
+//! The entries ask nothing of their caller: any lists, any rooms and any numbers get an answer. So the only duty here is the
+//! one that Rust's references already meet, that slices are valid and those lent for writing do not overlap.
+
+#[cfg(any(has_reader, has_planner, has_page))]
+use crate::border;
+
+/// The lists that planning takes. Lists that belong together have equal length, or the call is refused (13).
+#[derive(Clone, Copy, Debug)]
+pub struct Lists<'a> {
+    /// The number of slots, 1 to 48.
+    pub span: usize,
+    /// Each unit's window: its first and its last slot.
+    pub first: &'a [u16],
+    pub last: &'a [u16],
+    /// Each rule's stretch: its first and its last slot.
+    pub from: &'a [u16],
+    pub to: &'a [u16],
+    /// Each rule's count: the least and the greatest number of units in its stretch.
+    pub low: &'a [u16],
+    pub high: &'a [u16],
+}
+
+/// The rooms that planning fills. For a span of p and n units the table needs (p+1)² places, the ring p+1, the others n.
+#[derive(Debug)]
+pub struct Rooms<'a> {
+    /// Row by row, the greatest count of each stretch, and minus the least.
+    pub table: &'a mut [i16],
+    /// Each unit's slot.
+    pub plan: &'a mut [u16],
+    /// Each unit's narrowed window.
+    pub earliest: &'a mut [u16],
+    pub latest: &'a mut [u16],
+    /// The boundaries of a ring, where there is no plan.
+    pub ring: &'a mut [u16],
+}
+
+/// The lists that reading fills.
+#[derive(Debug)]
+pub struct ListRooms<'a> {
+    pub first: &'a mut [u16],
+    pub last: &'a mut [u16],
+    pub from: &'a mut [u16],
+    pub to: &'a mut [u16],
+    pub low: &'a mut [u16],
+    pub high: &'a mut [u16],
+}
+
+/// The numbers that reading gives beside its reply.
+#[derive(Clone, Copy, Debug, Default, PartialEq, Eq)]
+pub struct Counts {
+    pub span: usize,
+    pub units: usize,
+    pub rules: usize,
+    /// The line that a refusal names.
+    pub line: usize,
+}
+
+/// Reads a sheet. The reply is 0, or the number of the question that refused it.
+#[cfg(has_reader)]
+pub fn read(text: &[u8], lists: ListRooms, counts: &mut Counts) -> usize {
+    let ListRooms { first, last, from, to, low, high } = lists;
+    // SAFETY: each pointer comes from a reference with the length beside it, and the entry has no further demand.
+    unsafe {
+        border::tugrokt_read(
+            text.as_ptr(),
+            text.len(),
+            first.as_mut_ptr(),
+            first.len(),
+            last.as_mut_ptr(),
+            last.len(),
+            from.as_mut_ptr(),
+            from.len(),
+            to.as_mut_ptr(),
+            to.len(),
+            low.as_mut_ptr(),
+            low.len(),
+            high.as_mut_ptr(),
+            high.len(),
+            &mut counts.span,
+            &mut counts.units,
+            &mut counts.rules,
+            &mut counts.line,
+        )
+    }
+}
+
+/// Plans from lists. The reply is the number of the question that refused the call, or 0; then `ring_length` is 0 if there is
+/// a plan, and the length of the ring if there is none.
+#[cfg(has_planner)]
+pub fn plan(lists: Lists, rooms: Rooms, ring_length: &mut usize) -> usize {
+    let Lists { span, first, last, from, to, low, high } = lists;
+    let Rooms { table, plan, earliest, latest, ring } = rooms;
+    // SAFETY: each pointer comes from a reference with the length beside it, and the entry has no further demand.
+    unsafe {
+        border::tugrokt_plan(
+            span,
+            first.as_ptr(),
+            first.len(),
+            last.as_ptr(),
+            last.len(),
+            from.as_ptr(),
+            from.len(),
+            to.as_ptr(),
+            to.len(),
+            low.as_ptr(),
+            low.len(),
+            high.as_ptr(),
+            high.len(),
+            table.as_mut_ptr(),
+            table.len(),
+            plan.as_mut_ptr(),
+            plan.len(),
+            earliest.as_mut_ptr(),
+            earliest.len(),
+            latest.as_mut_ptr(),
+            latest.len(),
+            ring.as_mut_ptr(),
+            ring.len(),
+            ring_length,
+        )
+    }
+}
+
+/// Plans from lists and prints the answer on the page from `place` on; then `place` is just past it. The reply is 0, or the
+/// number of the question that refused the call.
+#[cfg(has_page)]
+pub fn print(lists: Lists, rooms: Rooms, page: &mut [u8], place: &mut usize) -> usize {
+    let Lists { span, first, last, from, to, low, high } = lists;
+    let Rooms { table, plan, earliest, latest, ring } = rooms;
+    // SAFETY: each pointer comes from a reference with the length beside it, and the entry has no further demand.
+    unsafe {
+        border::tugrokt_print(
+            span,
+            first.as_ptr(),
+            first.len(),
+            last.as_ptr(),
+            last.len(),
+            from.as_ptr(),
+            from.len(),
+            to.as_ptr(),
+            to.len(),
+            low.as_ptr(),
+            low.len(),
+            high.as_ptr(),
+            high.len(),
+            table.as_mut_ptr(),
+            table.len(),
+            plan.as_mut_ptr(),
+            plan.len(),
+            earliest.as_mut_ptr(),
+            earliest.len(),
+            latest.as_mut_ptr(),
+            latest.len(),
+            ring.as_mut_ptr(),
+            ring.len(),
+            page.as_mut_ptr(),
+            page.len(),
+            place,
+        )
+    }
+}

@@ -1,0 +1,207 @@
+//! The wave planner, called from Rust.
+//!
+//! [`Sheet`] reads, plans and prints with rooms of its own; [`entry`] has the planner's open entries as they are, with every
+//! room lent by the caller. Only numbers and slices cross the border.
+//!
+//! ```no_run
+//! # #[cfg(all())] {
+//! let mut sheet = tugrokt::Sheet::new(3);
+//! sheet.add_unit(1, 3);
+//! sheet.add_rule(2, 3, 1, 1);
+//! # }
+//! ```
+
+#[cfg(any(has_reader, has_planner, has_page))]
+mod border;
+pub mod entry;
+
+/// The sheet's limits, and the lengths that refuse no sheet.
+pub const MOST_SLOTS: usize = 48;
+pub const MOST_UNITS: usize = 300;
+pub const MOST_RULES: usize = 60;
+pub const MOST_BYTES: usize = 16_000;
+/// No answer page is longer.
+pub const LONGEST_PAGE: usize = 12_657;
+
+/// A call that was refused: the number of the question that was answered no, and the line that it names.
+#[derive(Clone, Copy, Debug, PartialEq, Eq)]
+pub struct Refusal {
+    pub question: usize,
+    pub line: usize,
+}
+
+impl std::fmt::Display for Refusal {
+    fn fmt(&self, f: &mut std::fmt::Formatter) -> std::fmt::Result {
+        write!(f, "(refused {} (line {}))", self.question, self.line)
+    }
+}
+
+impl std::error::Error for Refusal {}
+
+/// A sheet as parallel lists: a window for each unit, a stretch and a count for each rule.
+#[derive(Clone, Debug, Default, PartialEq, Eq)]
+pub struct Sheet {
+    pub span: usize,
+    pub first: Vec<u16>,
+    pub last: Vec<u16>,
+    pub from: Vec<u16>,
+    pub to: Vec<u16>,
+    pub low: Vec<u16>,
+    pub high: Vec<u16>,
+}
+
+/// An answer to a sheet.
+#[derive(Clone, Debug, PartialEq, Eq)]
+pub enum Answer {
+    Plan(Plan),
+    /// No plan is lawful: the limits of the steps round this list of boundaries add up to less than 0.
+    None { ring: Vec<u16> },
+}
+
+/// The printed plan, and what holds of all lawful plans.
+#[derive(Clone, Debug, PartialEq, Eq)]
+pub struct Plan {
+    /// Each unit's slot.
+    pub slot: Vec<u16>,
+    /// The earliest and the latest slot that each unit has in any lawful plan.
+    pub earliest: Vec<u16>,
+    pub latest: Vec<u16>,
+    table: Vec<i16>,
+    span: usize,
+}
+
+impl Plan {
+    /// The least and the greatest number of units that a lawful plan has in the slots `first` to `last`.
+    pub fn range(&self, first: usize, last: usize) -> (u16, u16) {
+        assert!(1 <= first && first <= last && last <= self.span, "{first} to {last} is no stretch");
+        let (w, before) = (self.span + 1, first - 1);
+        ((-self.table[last * w + before]) as u16, self.table[before * w + last] as u16)
+    }
+}
+
+impl Sheet {
+    /// A sheet with this many slots, no units and no rules.
+    pub fn new(span: usize) -> Sheet {
+        Sheet { span, ..Sheet::default() }
+    }
+
+    pub fn add_unit(&mut self, first: u16, last: u16) {
+        self.first.push(first);
+        self.last.push(last);
+    }
+
+    pub fn add_rule(&mut self, from: u16, to: u16, low: u16, high: u16) {
+        self.from.push(from);
+        self.to.push(to);
+        self.low.push(low);
+        self.high.push(high);
+    }
+
+    pub fn lists(&self) -> entry::Lists<'_> {
+        entry::Lists {
+            span: self.span,
+            first: &self.first,
+            last: &self.last,
+            from: &self.from,
+            to: &self.to,
+            low: &self.low,
+            high: &self.high,
+        }
+    }
+
+    /// Reads a sheet from its text.
+    #[cfg(has_reader)]
+    pub fn read(text: &[u8]) -> Result<Sheet, Refusal> {
+        let units = || vec![0; MOST_UNITS];
+        let rules = || vec![0; MOST_RULES];
+        let (mut first, mut last) = (units(), units());
+        let (mut from, mut to, mut low, mut high) = (rules(), rules(), rules(), rules());
+        let mut counts = entry::Counts::default();
+        let lists = entry::ListRooms {
+            first: &mut first,
+            last: &mut last,
+            from: &mut from,
+            to: &mut to,
+            low: &mut low,
+            high: &mut high,
+        };
+        let question = entry::read(text, lists, &mut counts);
+        if question != 0 {
+            return Err(Refusal { question, line: counts.line });
+        }
+        for list in [&mut first, &mut last] {
+            list.truncate(counts.units);
+        }
+        for list in [&mut from, &mut to, &mut low, &mut high] {
+            list.truncate(counts.rules);
+        }
+        Ok(Sheet { span: counts.span, first, last, from, to, low, high })
+    }
+
+    /// Plans the sheet.
+    #[cfg(has_planner)]
+    pub fn plan(&self) -> Result<Answer, Refusal> {
+        let mut own = OwnRooms::new(self);
+        let mut length = 0;
+        let question = entry::plan(self.lists(), own.lend(), &mut length);
+        if question != 0 {
+            return Err(Refusal { question, line: 0 });
+        }
+        let OwnRooms { table, plan, earliest, latest, mut ring } = own;
+        if length > 0 {
+            ring.truncate(length);
+            return Ok(Answer::None { ring });
+        }
+        Ok(Answer::Plan(Plan { slot: plan, earliest, latest, table, span: self.span }))
+    }
+
+    /// Plans the sheet and prints the answer page.
+    #[cfg(has_page)]
+    pub fn page(&self) -> Result<Vec<u8>, Refusal> {
+        let mut own = OwnRooms::new(self);
+        let mut page = vec![0; LONGEST_PAGE];
+        let mut place = 0;
+        let question = entry::print(self.lists(), own.lend(), &mut page, &mut place);
+        if question != 0 {
+            return Err(Refusal { question, line: 0 });
+        }
+        page.truncate(place);
+        Ok(page)
+    }
+}
+
+/// Rooms that are long enough for one sheet.
+#[cfg(any(has_planner, has_page))]
+struct OwnRooms {
+    table: Vec<i16>,
+    plan: Vec<u16>,
+    earliest: Vec<u16>,
+    latest: Vec<u16>,
+    ring: Vec<u16>,
+}
+
+#[cfg(any(has_planner, has_page))]
+impl OwnRooms {
+    fn new(sheet: &Sheet) -> OwnRooms {
+        // A span that is no span is refused before any room is asked for.
+        let w = sheet.span.min(MOST_SLOTS) + 1;
+        let units = vec![0; sheet.first.len()];
+        OwnRooms {
+            table: vec![0; w * w],
+            plan: units.clone(),
+            earliest: units.clone(),
+            latest: units,
+            ring: vec![0; w],
+        }
+    }
+
+    fn lend(&mut self) -> entry::Rooms<'_> {
+        entry::Rooms {
+            table: &mut self.table,
+            plan: &mut self.plan,
+            earliest: &mut self.earliest,
+            latest: &mut self.latest,
+            ring: &mut self.ring,
+        }
+    }
+}

@@ -1,0 +1,69 @@
+/*
+ * The wave planner's open entries.
+ *
+ * Any lists, any rooms and any numbers get an answer. The caller's one duty is that of every C function: each pointer has
+ * as many places behind it as the length beside it says, and what is lent for writing overlaps nothing else.
+ *
+ * The reply is 0, or the number of the question that refused the call. A refused call changes no room.
+ * Link libreader.a, libplanner.a and libpage.a (rt staticlib NAME), whichever are called.
+ */
+#ifndef TUGROKT_H
+#define TUGROKT_H
+
+#include <stddef.h>
+#include <stdint.h>
+
+/* The sheet's limits; rooms of these lengths are never refused. */
+#define TUGROKT_MOST_SLOTS 48
+#define TUGROKT_MOST_UNITS 300
+#define TUGROKT_MOST_RULES 60
+#define TUGROKT_MOST_BYTES 16000
+#define TUGROKT_MOST_BOUNDARIES (TUGROKT_MOST_SLOTS + 1)
+#define TUGROKT_TABLE (TUGROKT_MOST_BOUNDARIES * TUGROKT_MOST_BOUNDARIES)
+#define TUGROKT_LONGEST_PAGE 12657
+
+#ifdef __cplusplus
+extern "C" {
+#endif
+
+/*
+ * Reads a sheet into six lists: each unit's window, first to last; each rule's stretch, from to to, and its count, low to
+ * high. The span and the lengths of the lists stand in *span, *units and *rules. A refusal gives its line in *line.
+ */
+size_t tugrokt_read(const uint8_t *text, size_t text_length,
+                    uint16_t *first, size_t first_length, uint16_t *last, size_t last_length,
+                    uint16_t *from, size_t from_length, uint16_t *to, size_t to_length,
+                    uint16_t *low, size_t low_length, uint16_t *high, size_t high_length,
+                    size_t *span, size_t *units, size_t *rules, size_t *line);
+
+/*
+ * Plans from lists. With a plan, *ring_length is 0, plan has each unit's slot, earliest and latest its narrowed window, and
+ * table, with w = span + 1 numbers a row, the greatest count of the slots a+1 to b at a*w + b, and minus the least at b*w + a.
+ * With none, *ring_length boundaries stand in ring, whose steps' limits add up to less than 0.
+ * Rooms needed: w*w in table, w in ring, a place for each unit in the others.
+ */
+size_t tugrokt_plan(size_t span,
+                    const uint16_t *first, size_t first_length, const uint16_t *last, size_t last_length,
+                    const uint16_t *from, size_t from_length, const uint16_t *to, size_t to_length,
+                    const uint16_t *low, size_t low_length, const uint16_t *high, size_t high_length,
+                    int16_t *table, size_t table_length, uint16_t *plan, size_t plan_length,
+                    uint16_t *earliest, size_t earliest_length, uint16_t *latest, size_t latest_length,
+                    uint16_t *ring, size_t ring_room, size_t *ring_length);
+
+/*
+ * Plans from lists, prints the answer on the page from *place on, and moves *place just past it. The rooms are left as by
+ * tugrokt_plan.
+ */
+size_t tugrokt_print(size_t span,
+                     const uint16_t *first, size_t first_length, const uint16_t *last, size_t last_length,
+                     const uint16_t *from, size_t from_length, const uint16_t *to, size_t to_length,
+                     const uint16_t *low, size_t low_length, const uint16_t *high, size_t high_length,
+                     int16_t *table, size_t table_length, uint16_t *plan, size_t plan_length,
+                     uint16_t *earliest, size_t earliest_length, uint16_t *latest, size_t latest_length,
+                     uint16_t *ring, size_t ring_room, uint8_t *page, size_t page_length, size_t *place);
+
+#ifdef __cplusplus
+}
+#endif
+
+#endif

@@ -1,0 +1,68 @@
+//! Says which parts of the planner there are to test: those whose library `tugrokt` links, and the program.
+//!
+//! The program is `../target/bin/wave`; `rt check wave` is run where it is missing or older than its sources. Where
+//! `TUGROKT_WAVE` names a program, that one is run.
+
+use std::path::{Path, PathBuf};
+use std::process::Command;
+use std::time::SystemTime;
+use std::{env, fs};
+
+fn main() {
+    println!("cargo:rerun-if-changed=build.rs");
+    println!("cargo:rerun-if-env-changed=TUGROKT_WAVE");
+    for name in ["reader", "planner", "page"] {
+        let linked = env::var_os(format!("DEP_TUGROKT_{}", name.to_uppercase())).is_some();
+        tell(name, linked);
+    }
+    let root = Path::new(&env::var("CARGO_MANIFEST_DIR").unwrap()).join("..").canonicalize().unwrap();
+    let program = match env::var("TUGROKT_WAVE") {
+        Ok(path) => Some(PathBuf::from(path)),
+        Err(_) => built(&root),
+    };
+    tell("wave", program.is_some());
+    println!("cargo:rustc-env=WAVE={}", program.unwrap_or_default().display());
+    println!("cargo:rustc-env=ROOT={}", root.display());
+}
+
+/// Sets `has_NAME`, or warns that the tests of that part are left out.
+fn tell(name: &str, present: bool) {
+    println!("cargo:rustc-check-cfg=cfg(has_{name})");
+    if present {
+        println!("cargo:rustc-cfg=has_{name}");
+    } else {
+        println!("cargo:warning=there is no {name} yet: its tests are left out");
+    }
+}
+
+/// The program of the repository, built if need be.
+fn built(root: &Path) -> Option<PathBuf> {
+    println!("cargo:rerun-if-changed={}", root.join("crates").display());
+    println!("cargo:rerun-if-changed={}", root.join("crates.txt").display());
+    if !root.join("crates/wave/src/main.rt").is_file() {
+        return None;
+    }
+    let program = root.join("target/bin/wave");
+    println!("cargo:rerun-if-changed={}", program.display());
+    let sources = newest(&root.join("crates")).max(modified(&root.join("crates.txt")));
+    if modified(&program).is_none() || modified(&program) < sources {
+        let run = Command::new("rt").args(["check", "wave"]).current_dir(root).output();
+        let run = run.unwrap_or_else(|e| panic!("rt check wave: {e}. Is the Rattle kit on this machine?"));
+        let said = String::from_utf8_lossy(&run.stdout).into_owned() + &String::from_utf8_lossy(&run.stderr);
+        assert!(run.status.success(), "rt check wave failed:\n{said}");
+    }
+    Some(program)
+}
+
+fn modified(path: &Path) -> Option<SystemTime> {
+    fs::metadata(path).and_then(|m| m.modified()).ok()
+}
+
+/// When the newest file below a folder was changed.
+fn newest(folder: &Path) -> Option<SystemTime> {
+    let entries = fs::read_dir(folder).ok()?;
+    entries
+        .flatten()
+        .filter_map(|e| if e.path().is_dir() { newest(&e.path()) } else { modified(&e.path()) })
+        .max()
+}

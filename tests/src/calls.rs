@@ -1,0 +1,239 @@
+//! Calls of the planner's open entries with marked rooms, and what must stand in every place afterwards.
+
+#![cfg_attr(not(all(has_reader, has_planner, has_page)), allow(unused))]
+
+use crate::questions::{planning_refusal, Lengths, Lists};
+use crate::reading::{read_into, Refusal};
+use crate::sheet::{Sheet, Solved};
+use tugrokt::entry;
+
+/// Marks that no answer has, other ones in neighbouring places.
+pub fn marked_u16(length: usize) -> Vec<u16> {
+    (0..length).map(|i| 40_000 + (i * 7 % 20_000) as u16).collect()
+}
+
+pub fn marked_i16(length: usize) -> Vec<i16> {
+    (0..length).map(|i| -20_000 + (i * 7 % 10_000) as i16).collect()
+}
+
+pub fn marked_u8(length: usize) -> Vec<u8> {
+    (0..length).map(|i| 128 + (i * 7 % 128) as u8).collect()
+}
+
+/// A number that is lent and not yet written.
+pub const MARK: usize = 0xdead_beef;
+
+pub fn lent(lists: &Lists) -> entry::Lists<'_> {
+    entry::Lists {
+        span: lists.span,
+        first: &lists.first,
+        last: &lists.last,
+        from: &lists.from,
+        to: &lists.to,
+        low: &lists.low,
+        high: &lists.high,
+    }
+}
+
+/// The rooms of planning.
+#[derive(Clone, Debug, PartialEq, Eq)]
+pub struct Rooms {
+    pub table: Vec<i16>,
+    pub plan: Vec<u16>,
+    pub earliest: Vec<u16>,
+    pub latest: Vec<u16>,
+    pub ring: Vec<u16>,
+}
+
+impl Rooms {
+    pub fn marked(l: &Lengths) -> Rooms {
+        Rooms {
+            table: marked_i16(l.table),
+            plan: marked_u16(l.plan),
+            earliest: marked_u16(l.earliest),
+            latest: marked_u16(l.latest),
+            ring: marked_u16(l.ring),
+        }
+    }
+
+    pub fn lend(&mut self) -> entry::Rooms<'_> {
+        entry::Rooms {
+            table: &mut self.table,
+            plan: &mut self.plan,
+            earliest: &mut self.earliest,
+            latest: &mut self.latest,
+            ring: &mut self.ring,
+        }
+    }
+
+    /// What marked rooms become by a plan.
+    fn with_plan(l: &Lengths, solved: &Solved) -> Rooms {
+        let mut rooms = Rooms::marked(l);
+        let n = solved.plan.len();
+        rooms.table[..solved.table.len()].copy_from_slice(&solved.table);
+        rooms.plan[..n].copy_from_slice(&solved.plan);
+        rooms.earliest[..n].copy_from_slice(&solved.earliest);
+        rooms.latest[..n].copy_from_slice(&solved.latest);
+        rooms
+    }
+
+    /// What marked rooms become by this ring.
+    fn with_ring(l: &Lengths, sheet: &Sheet, ring: &[u16]) -> Rooms {
+        let mut rooms = Rooms::marked(l);
+        rooms.table[..sheet.boundaries().pow(2)].fill(0);
+        rooms.ring[..ring.len()].copy_from_slice(ring);
+        rooms
+    }
+
+    /// The ring at the front of a room that was marked, by where the marks begin.
+    pub fn ring_at_front(&self) -> &[u16] {
+        let marks = marked_u16(self.ring.len());
+        let length = (0..self.ring.len()).find(|&i| self.ring[i] == marks[i]).unwrap_or(self.ring.len());
+        &self.ring[..length]
+    }
+}
+
+fn differ<T: PartialEq + std::fmt::Debug>(name: &str, got: &T, expected: &T) -> Option<String> {
+    (got != expected).then(|| format!("{name}:\n     got {got:?}\nexpected {expected:?}"))
+}
+
+/// Compares every place of every room.
+pub fn rooms_fault(got: &Rooms, expected: &Rooms) -> Option<String> {
+    differ("table", &got.table, &expected.table)
+        .or_else(|| differ("plan", &got.plan, &expected.plan))
+        .or_else(|| differ("earliest", &got.earliest, &expected.earliest))
+        .or_else(|| differ("latest", &got.latest, &expected.latest))
+        .or_else(|| differ("ring", &got.ring, &expected.ring))
+}
+
+/// Plans in marked rooms of these lengths, and says what is wrong. `solved` is the model's answer to the lists' sheet, which
+/// is not looked at if the call is to be refused.
+#[cfg(has_planner)]
+pub fn planning_fault(lists: &Lists, lengths: &Lengths, solved: Option<&Solved>) -> Option<String> {
+    let mut rooms = Rooms::marked(lengths);
+    let mut ring_length = MARK;
+    let reply = entry::plan(lent(lists), rooms.lend(), &mut ring_length);
+    let refusal = planning_refusal(lists, lengths);
+    if let Some(fault) = differ("reply", &reply, &refusal) {
+        return Some(fault);
+    }
+    if refusal != 0 {
+        return differ("ring length", &ring_length, &MARK)
+            .or_else(|| rooms_fault(&rooms, &Rooms::marked(lengths)));
+    }
+    if let Some(solved) = solved {
+        return differ("ring length", &ring_length, &0)
+            .or_else(|| rooms_fault(&rooms, &Rooms::with_plan(lengths, solved)));
+    }
+    let sheet = lists.sheet();
+    if ring_length > rooms.ring.len() {
+        return Some(format!("a ring of {ring_length} boundaries"));
+    }
+    let ring = rooms.ring[..ring_length].to_vec();
+    if let Some(fault) = sheet.ring_fault(&ring) {
+        return Some(format!("{ring:?} is no ring: {fault}"));
+    }
+    rooms_fault(&rooms, &Rooms::with_ring(lengths, &sheet, &ring))
+}
+
+/// What one call of print left.
+#[cfg(has_page)]
+#[derive(Clone, Debug, PartialEq, Eq)]
+pub struct Printed {
+    pub reply: usize,
+    pub rooms: Rooms,
+    pub page: Vec<u8>,
+    pub place: usize,
+}
+
+/// Prints in marked rooms of these lengths onto a marked page of this length, from this place on.
+#[cfg(has_page)]
+pub fn print(lists: &Lists, lengths: &Lengths, page_length: usize, place: usize) -> Printed {
+    let mut printed =
+        Printed { reply: 0, rooms: Rooms::marked(lengths), page: marked_u8(page_length), place };
+    printed.reply = entry::print(lent(lists), printed.rooms.lend(), &mut printed.page, &mut printed.place);
+    printed
+}
+
+/// Is this what a refused call leaves?
+#[cfg(has_page)]
+pub fn refused_print_fault(printed: &Printed, number: usize, lengths: &Lengths, place: usize) -> Option<String> {
+    differ("reply", &printed.reply, &number)
+        .or_else(|| differ("place", &printed.place, &place))
+        .or_else(|| differ("page", &printed.page, &marked_u8(printed.page.len())))
+        .or_else(|| rooms_fault(&printed.rooms, &Rooms::marked(lengths)))
+}
+
+/// Prints, and says what is wrong: with all questions answered yes, with a page that is just long enough, and with one that is
+/// a byte too short. `before` is the place to print from, `extra` what the longer page has beyond the answer.
+#[cfg(has_page)]
+pub fn printing_fault(
+    lists: &Lists,
+    lengths: &Lengths,
+    solved: Option<&Solved>,
+    before: usize,
+    extra: usize,
+) -> Option<String> {
+    let refusal = planning_refusal(lists, lengths);
+    if refusal != 0 {
+        let printed = print(lists, lengths, before + extra, before);
+        return refused_print_fault(&printed, refusal, lengths, before);
+    }
+    let sheet = lists.sheet();
+    let long = print(lists, lengths, before + tugrokt::LONGEST_PAGE + extra, before);
+    if long.reply != 0 {
+        return Some(format!("refused by {}", long.reply));
+    }
+    let expected_rooms = match solved {
+        Some(solved) => Rooms::with_plan(lengths, solved),
+        None => {
+            let ring = long.rooms.ring_at_front();
+            if let Some(fault) = sheet.ring_fault(ring) {
+                return Some(format!("{ring:?} is no ring: {fault}"));
+            }
+            Rooms::with_ring(lengths, &sheet, ring)
+        }
+    };
+    let expected_page = match solved {
+        Some(solved) => crate::page::of_plan(&sheet, solved),
+        None => crate::page::of_ring(&sheet, long.rooms.ring_at_front()),
+    };
+    let end = before + expected_page.len();
+    let good = |printed: &Printed| {
+        let mut page = marked_u8(printed.page.len());
+        page[before..end].copy_from_slice(&expected_page);
+        differ("reply", &printed.reply, &0)
+            .or_else(|| differ("place", &printed.place, &end))
+            .or_else(|| differ("page", &String::from_utf8_lossy(&printed.page), &String::from_utf8_lossy(&page)))
+            .or_else(|| rooms_fault(&printed.rooms, &expected_rooms))
+    };
+    good(&long)
+        .or_else(|| good(&print(lists, lengths, end, before)))
+        .or_else(|| refused_print_fault(&print(lists, lengths, end - 1, before), 15, lengths, before))
+}
+
+/// Reads into marked lists of these lengths, and says what is wrong.
+#[cfg(has_reader)]
+pub fn reading_fault(text: &[u8], units: [usize; 2], rules: [usize; 4]) -> Option<String> {
+    let marked = || [units[0], units[1], rules[0], rules[1], rules[2], rules[3]].map(marked_u16);
+    let mut rooms = marked();
+    let mut expected_rooms = marked();
+    let mut counts = entry::Counts { span: MARK, units: MARK, rules: MARK, line: MARK };
+    let [first, last, from, to, low, high] = &mut rooms;
+    let reply = entry::read(text, entry::ListRooms { first, last, from, to, low, high }, &mut counts);
+    let (number, expected_counts) = match read_into(text, units, rules) {
+        Err(Refusal { number, line }) => (number, entry::Counts { span: MARK, units: MARK, rules: MARK, line }),
+        Ok(sheet) => {
+            let lists = Lists::from(&sheet);
+            let all = [&lists.first, &lists.last, &lists.from, &lists.to, &lists.low, &lists.high];
+            for (room, list) in expected_rooms.iter_mut().zip(all) {
+                room[..list.len()].copy_from_slice(list);
+            }
+            let (units, rules) = (sheet.units.len(), sheet.rules.len());
+            (0, entry::Counts { span: sheet.span, units, rules, line: 0 })
+        }
+    };
+    differ("reply", &(reply, counts.line), &(number, expected_counts.line))
+        .or_else(|| differ("counts", &counts, &expected_counts))
+        .or_else(|| differ("lists", &rooms, &expected_rooms))
+}

@@ -1,0 +1,139 @@
+//! Printing, through the border: page, place and rooms against the model, and refusals by every question.
+#![cfg(has_page)]
+
+use reference::calls::{print, printing_fault, refused_print_fault, Printed};
+use reference::questions::{planning_refusal, Lengths, Lists};
+use reference::random::{any_sheet, largest_sheet, small_sheet, Random};
+use reference::sheet::Sheet;
+use reference::{cases, computed, effort, enumerated, page, seed};
+
+#[test]
+fn document_cases() {
+    for case in cases::all() {
+        let solved = enumerated::solve(&case.sheet);
+        let lists = Lists::from(&case.sheet);
+        for before in [0, 1, 100] {
+            let fault = printing_fault(&lists, &Lengths::exact(&case.sheet), solved.as_ref(), before, 3);
+            assert_eq!(fault, None, "{}", case.name);
+        }
+    }
+    let printed = |i: usize| {
+        let sheet = &cases::all()[i].sheet;
+        let Printed { page, place, .. } = print(&Lists::from(sheet), &Lengths::exact(sheet), 1_000, 0);
+        String::from_utf8_lossy(&page[..place]).into_owned()
+    };
+    assert_eq!(printed(1), cases::P2_PAGE);
+    assert_eq!(printed(3), cases::P4_PAGE);
+}
+
+#[test]
+fn small_sheets() {
+    for i in 0..effort(6_000) {
+        let mut r = Random::of_case(seed(301), i);
+        let sheet = small_sheet(&mut r);
+        let solved = enumerated::solve(&sheet);
+        let (before, extra) = (r.below(20), r.below(20));
+        let fault = printing_fault(&Lists::from(&sheet), &Lengths::exact(&sheet), solved.as_ref(), before, extra);
+        if let Some(fault) = fault {
+            panic!("seed {} case {i}: {sheet:?}\n{fault}", seed(301));
+        }
+    }
+}
+
+#[test]
+fn sheets_of_all_sizes() {
+    for i in 0..effort(600) {
+        let mut r = Random::of_case(seed(302), i);
+        let sheet = if i % 20 == 0 { largest_sheet(&mut r, 1, 48) } else { any_sheet(&mut r) };
+        let solved = computed::solve(&sheet);
+        let (before, extra) = (r.below(20), r.below(20));
+        let fault = printing_fault(&Lists::from(&sheet), &Lengths::exact(&sheet), solved.as_ref(), before, extra);
+        if let Some(fault) = fault {
+            panic!("seed {} case {i}: {sheet:?}\n{fault}", seed(302));
+        }
+    }
+}
+
+/// A page of every length up to the answer's own, and places past the page's end.
+#[test]
+fn pages_that_do_not_hold_the_answer() {
+    for case in cases::all() {
+        let (lists, lengths) = (Lists::from(&case.sheet), Lengths::exact(&case.sheet));
+        let whole = print(&lists, &lengths, 1_000, 0).place;
+        for length in 0..whole {
+            assert_eq!(refused_print_fault(&print(&lists, &lengths, length, 0), 15, &lengths, 0), None, "{}", case.name);
+            assert_eq!(
+                refused_print_fault(&print(&lists, &lengths, 1_000, 1_000 - length), 15, &lengths, 1_000 - length),
+                None,
+                "{}",
+                case.name
+            );
+        }
+        for place in [1_001, 2_000, 1 << 32, usize::MAX - 1, usize::MAX] {
+            assert_eq!(refused_print_fault(&print(&lists, &lengths, 1_000, place), 15, &lengths, place), None);
+        }
+    }
+}
+
+/// Printing asks what planning asks, and only then 15.
+#[test]
+fn refusals() {
+    let sheet = Sheet::new(5, &[(1, 3), (2, 5)], &[(1, 2, 0, 2), (2, 4, 1, 2)]);
+    let changes: [(usize, fn(&mut Lists, &mut Lengths)); 9] = [
+        (13, |l, _| l.last.push(1)),
+        (13, |l, _| l.low.push(1)),
+        (6, |l, _| l.span = 49),
+        (9, |l, _| {
+            l.first.resize(301, 1);
+            l.last.resize(301, 1)
+        }),
+        (10, |l, _| {
+            l.from.resize(61, 1);
+            l.to.resize(61, 1);
+            l.low.resize(61, 0);
+            l.high.resize(61, 1)
+        }),
+        (7, |l, _| l.to[0] = 6),
+        (8, |l, _| l.high[0] = 301),
+        (12, |_, rooms| rooms.ring -= 1),
+        (12, |_, rooms| rooms.table -= 1),
+    ];
+    for (number, change) in changes {
+        let (mut lists, mut lengths) = (Lists::from(&sheet), Lengths::exact(&sheet));
+        change(&mut lists, &mut lengths);
+        assert_eq!(planning_refusal(&lists, &lengths), number);
+        for (page_length, place) in [(0, 0), (1_000, 0), (1_000, 1_000), (10, 11)] {
+            let printed = print(&lists, &lengths, page_length, place);
+            assert_eq!(refused_print_fault(&printed, number, &lengths, place), None);
+        }
+    }
+}
+
+/// Answers one after the other on one page.
+#[test]
+fn a_running_place() {
+    let mut r = Random::new(seed(303));
+    let sheets: Vec<Sheet> = (0..20).map(|_| small_sheet(&mut r)).collect();
+    let mut whole = vec![0; 20_000];
+    let mut place = 0;
+    for sheet in &sheets {
+        let (lists, mut rooms) = (Lists::from(sheet), reference::calls::Rooms::marked(&Lengths::exact(sheet)));
+        let start = place;
+        let reply = tugrokt::entry::print(reference::calls::lent(&lists), rooms.lend(), &mut whole, &mut place);
+        assert_eq!(reply, 0);
+        assert_eq!(page::fault(sheet, enumerated::solve(sheet).as_ref(), &whole[start..place]), None);
+    }
+    assert!(whole[place..].iter().all(|&b| b == 0));
+}
+
+/// The longest answer there is: every unit in slots of two digits, twenty slots with counts and leasts of two, slot 10 with a
+/// count of three, and as many greatests of three as there can be.
+#[test]
+fn the_longest_page() {
+    let rules: Vec<(u16, u16, u16, u16)> = (29..=48).map(|slot| (slot, slot, 10, 300)).collect();
+    let sheet = Sheet::new(48, &[(10, 48); 300], &rules);
+    let printed = print(&Lists::from(&sheet), &Lengths::exact(&sheet), tugrokt::LONGEST_PAGE, 0);
+    assert_eq!(printed.reply, 0);
+    assert_eq!(printed.place, tugrokt::LONGEST_PAGE);
+    assert_eq!(page::fault(&sheet, computed::solve(&sheet).as_ref(), &printed.page), None);
+}

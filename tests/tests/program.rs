@@ -1,0 +1,121 @@
+//! The program, through pipes.
+#![cfg(has_wave)]
+
+use std::time::Duration;
+
+use reference::damage::{any_text, note_of_depth, valid, with_notes};
+use reference::program::{fault, output_fault, run};
+use reference::random::{any_sheet, largest_sheet, Random};
+use reference::{cases, effort, seed};
+
+fn written(text: &str) -> String {
+    String::from_utf8_lossy(&run(text.as_bytes(), &[], None)).into_owned()
+}
+
+#[test]
+fn document_cases() {
+    for case in cases::all() {
+        assert_eq!(fault(&case.sheet.text()), None, "{}", case.name);
+    }
+    let text = |i: usize| String::from_utf8(cases::all()[i].sheet.text()).unwrap();
+    assert_eq!(written(&text(1)), cases::P2_PAGE);
+    assert_eq!(written(&text(3)), cases::P4_PAGE);
+}
+
+/// Document 01's "Run only" list.
+#[test]
+fn cases_that_are_run() {
+    let units = |n: usize| format!("(sheet 4)\n{}", "(unit (window 1 4))\n".repeat(n));
+    let rules = |n: usize| format!("(sheet 4)\n{}", "(rule (slots 1 4) (count 0 1))\n".repeat(n));
+    let note = |depth| format!("(sheet 1)\n{}\n", String::from_utf8(note_of_depth(depth)).unwrap());
+    let long = |length: usize| format!("(sheet 1)\n(note {})\n", "x".repeat(length - 18));
+    let refused = [
+        ("(sheet 49)\n".to_string(), "(refused 6 (line 1))\n"),
+        (units(301), "(refused 9 (line 302))\n"),
+        (rules(61), "(refused 10 (line 62))\n"),
+        ("(sheet 4)\n(rule (slots 1 4) (count 0 301))\n".into(), "(refused 8 (line 2))\n"),
+        (note(17), "(refused 11 (line 2))\n"),
+        (long(16_001), "(refused 1 (line 0))\n"),
+        ("(sheet 4)\n(unit (window 4 3))\n".into(), "(refused 7 (line 2))\n"),
+        (String::new(), "(refused 5 (line 0))\n"),
+        ("(rule (slots 05 6) (count 0 1))\n".into(), "(refused 4 (line 1))\n"),
+    ];
+    for (text, page) in refused {
+        assert_eq!(written(&text), page, "{:?}", &text[..text.len().min(100)]);
+    }
+    let taken = [
+        "(sheet 48)\n".to_string(),
+        units(300),
+        rules(60),
+        "(sheet 4)\n(rule (slots 1 4) (count 0 300))\n".into(),
+        note(16),
+        long(16_000),
+    ];
+    for text in taken {
+        assert!(written(&text).starts_with("(answer plan "), "{:?}", &text[..text.len().min(100)]);
+        assert_eq!(fault(text.as_bytes()), None);
+    }
+}
+
+/// Texts that come in small parts, so that the program's reads are short.
+#[test]
+fn short_reads() {
+    let pause = Some(Duration::from_micros(300));
+    for i in 0..effort(40) {
+        let mut r = Random::of_case(seed(401), i);
+        let text = match i % 4 {
+            0 => cases::all()[i / 4 % 10].sheet.text(),
+            1 => any_text(&mut r),
+            _ => valid(&mut r),
+        };
+        let small = text.len() < 400;
+        let parts: Vec<usize> = (0..7).map(|_| if small { r.between(1, 9) } else { r.between(50, 900) }).collect();
+        let written = run(&text, &parts, pause);
+        let fault = output_fault(&text, &written);
+        assert_eq!(fault, None, "seed {} case {i}: {:?}", seed(401), String::from_utf8_lossy(&text));
+    }
+    let p1 = cases::all()[0].sheet.text();
+    assert_eq!(output_fault(&p1, &run(&p1, &[1], pause)), None);
+}
+
+/// Texts far longer than the program takes, also than a pipe holds.
+#[test]
+fn texts_that_are_too_long() {
+    for length in [16_001, 16_002, 32_000, 32_001, 65_536, 65_537, 200_000, 1_000_000] {
+        for byte in [b'\n', b'x', 0, 255] {
+            assert_eq!(run(&vec![byte; length], &[], None), b"(refused 1 (line 0))\n", "{length}");
+        }
+        let text = vec![b'x'; length];
+        assert_eq!(run(&text, &[1_000], None), b"(refused 1 (line 0))\n", "{length} in parts");
+    }
+}
+
+#[test]
+fn sheets_at_random() {
+    for i in 0..effort(600) {
+        let mut r = Random::of_case(seed(402), i);
+        let sheet = any_sheet(&mut r);
+        let text = with_notes(&mut r, &sheet);
+        if let Some(fault) = fault(&text) {
+            panic!("seed {} case {i}: {:?}\n{fault}", seed(402), String::from_utf8_lossy(&text));
+        }
+    }
+}
+
+#[test]
+fn largest_sheets() {
+    for i in 0..effort(12) {
+        let sheet = largest_sheet(&mut Random::of_case(seed(403), i), i % 3, [48, 12, 4][i % 3]);
+        assert_eq!(fault(&sheet.text()), None, "seed {} case {i}", seed(403));
+    }
+}
+
+#[test]
+fn damaged_texts() {
+    for i in 0..effort(10_000) {
+        let text = any_text(&mut Random::of_case(seed(404), i));
+        if let Some(fault) = fault(&text) {
+            panic!("seed {} case {i}: {:?}\n{fault}", seed(404), String::from_utf8_lossy(&text));
+        }
+    }
+}
