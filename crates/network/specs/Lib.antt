@@ -6,3 +6,4 @@ pub mod Table
 pub mod TableLaws
 pub mod PassLaws
 pub mod PassFront
+pub mod Row

@@ -10,20 +10,14 @@ use lib.Seq.{drop-at}
 use lib.IntN.{ℤ, pos, _+ℤ_}
 use lib.Signed.{ltZ}
 use Rattle.lists.specs.Lists.{run, every, joined}
+use Rattle.lists.specs.Values.{listOf, values-same, listOf-same}
 use Rattle.integers.specs.Parts.{minℤ}
 use Rattle.network.specs.Network.{Weights}
 use Rattle.network.specs.Closure.{step}
-use Rattle.network.specs.Table.{listOf, tableOf, entry, middle, sumInRange, rowInRange, Passed, finished, stopped, outOfRange, afterRows, passFrom, passOf}
+use Rattle.network.specs.Table.{tableOf, entry, middle, sumInRange, rowInRange, Passed, finished, stopped, outOfRange, afterRows, passFrom, passOf}
 use Rattle.network.specs.TableLaws.{length-tableOf, length-middle, row-inside}
 
--- ---- lists of values and tables that agree place by place
-values-same : {A : Type 0} (f g : ℕ → A) (i k : ℕ) → ((j : ℕ) → i ≤ j → j < i + k → f j ≡ g j) → map f (run i k) ≡ map g (run i k)
-values-same f g i zero h = refl
-values-same f g i (suc k) h = ap₂ (λ x xs. x ∷ xs) (h i (omega arith) (omega arith)) (values-same f g (suc i) k (λ j a b. h j (omega arith) (omega arith)))
-
-listOf-same : (w : ℕ) (f g : ℕ → ℤ) → ((b : ℕ) → b < w → f b ≡ g b) → listOf w f ≡ listOf w g
-listOf-same w f g h = values-same f g 0 w (λ j a b. h j (omega arith))
-
+-- ---- tables that agree place by place
 pub tableOf-same : (w : ℕ) (f g : Weights) → ((a b : ℕ) → a < w → b < w → f a b ≡ g a b) → tableOf w f ≡ tableOf w g
 tableOf-same w f g h = ap joined (values-same (λ a. listOf w (f a)) (λ a. listOf w (g a)) 0 w (λ a l k. listOf-same w (f a) (g a) (λ b hb. h a b (omega arith) hb)))
 

@@ -1,11 +1,13 @@
 -- The table of a network as a list of numbers, row by row, and the pass over it. Definitions only.
+use mathlib.Core.Path.{_≡_}
 use mathlib.Core.Bool.{Bool, true, false, _&&_, cond}
 use mathlib.Core.List.{List, [], _∷_, _++_, map}
 use Prim.Native.Nat.{ℕ, zero, suc, _+_, _*_}
 use lib.ListN.{getD, drop, replicate}
 use lib.IntN.{ℤ, pos, negsuc, _+ℤ_}
 use lib.Signed.{leZ, ltZ}
-use Rattle.lists.specs.Lists.{run, every, joined}
+use Rattle.lists.specs.Lists.{every, joined}
+use Rattle.lists.specs.Values.{listOf}
 use Rattle.network.specs.Network.{Weights}
 use Rattle.network.specs.Closure.{step}
 use Rattle.network.specs.declared.Outcome.{Outcome}
@@ -14,10 +16,6 @@ use Rattle.network.specs.declared.Outcome.the-variants.{Finished, Stoppe
 -- the largest number of boundaries
 abbrev pub mostBoundaries : ℕ
 mostBoundaries = 49
-
--- the n values g 0, g 1, ..
-abbrev pub listOf {ℓ} : {A : Type ℓ} → ℕ → (ℕ → A) → List A
-listOf n g = map g (run 0 n)
 
 -- the table of w boundaries whose entry (a, b) is f a b
 abbrev pub tableOf : ℕ → Weights → List ℤ
@@ -73,3 +71,8 @@ abbrev pub tableAfter : ℕ → List ℤ → Passed → List ℤ
 tableAfter w t (finished u) = u
 tableAfter w t stopped = cleared (w * w) t
 tableAfter w t outOfRange = cleared (w * w) t
+
+-- the answer r and the list u that a pass p leaves where t was lent
+pub record After (w : ℕ) (t : List ℤ) (p : Passed) (r : Outcome) (u : List ℤ) : Type 0 where
+  pub outcome : r ≡ outcomeOf p
+  pub table : u ≡ tableAfter w t p

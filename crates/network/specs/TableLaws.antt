@@ -1,6 +1,5 @@
--- The laws of lists that are given by their values, and of tables.
--- Key idea: a list is known by its length and its values at each place, so a list in place is known as what is done, in front, and what is left of the
--- old list behind it. A loop over rows, and one over a row's columns, moves the seam between the two.
+-- The laws of tables: entries, lengths, rows.
+-- Key idea: rows of one width w stand one behind the other, so what stands at a * w + b is entry b of row a.
 use mathlib.Core.Path.{_≡_, refl, sym, ap, _∙_, subst}
 use mathlib.Core.Bool.{Bool, true, false}
 use mathlib.Core.List.{List, [], _∷_, _++_, map, append-assoc, append-nil}
@@ -9,56 +8,14 @@ use native.Mathlib.Omega.{arith}
 use native.Mathlib.Nat.{mul-le-mul-right}
 use native.Mathlib.Numerals.{add-one}
 use lib.ListN.{length, getD, take, drop, length-append, length-take, length-drop, List·getD-append}
-use lib.Seq.{ext-getD, take-at, drop-at, drop-drop, getD-append-add}
+use lib.Seq.{drop-at, getD-append-add}
 use lib.IntN.{ℤ, pos, _+ℤ_}
 use Rattle.lists.specs.Lists.{run, joined}
 use Rattle.network.specs.Network.{Weights}
 use Rattle.network.specs.Closure.{step}
-use Rattle.network.specs.Table.{listOf, tableOf, entry, middle}
-
--- ---- lists by their values
-module _ {A : Type 0} (g : ℕ → A) where
-  pub length-values : (i k : ℕ) → length (map g (run i k)) ≡ k
-  length-values i zero = refl
-  length-values i (suc k) = ap suc (length-values (suc i) k)
-
-  pub values-at : (i k j : ℕ) (d : A) → j < k → getD (map g (run i k)) j d ≡ g (i + j)
-  values-at i zero j d h = absurd (omega arith)
-  values-at i (suc k) zero d h = let e : i ≡ i + 0 = omega arith in ap g e
-  values-at i (suc k) (suc j) d h = let e : suc i + j ≡ i + suc j = omega arith in values-at (suc i) k j d (omega arith) ∙ ap g e
-
-  pub values-append : (i j k : ℕ) → map g (run i (j + k)) ≡ map g (run i j) ++ map g (run (i + j) k)
-  values-append i zero k =
-      let e : i ≡ i + 0 = omega arith in
-      let f : 0 + k ≡ k = omega arith in
-      ap (λ (n : ℕ). map g (run i n)) f ∙ ap (λ (n : ℕ). map g (run n k)) e
-  values-append i (suc j) k =
-      let e : suc i + j ≡ i + suc j = omega arith in
-      let f : suc j + k ≡ suc (j + k) = omega arith in
-      ap (λ (n : ℕ). map g (run i n)) f
-      ∙ ap (λ (l : List A). g i ∷ l) (values-append (suc i) j k ∙ ap (λ (n : ℕ). map g (run (suc i) j) ++ map g (run n k)) e)
-
-  -- a list with these values is this list
-  pub values-are : (d : A) (i k : ℕ) (xs : List A) → length xs ≡ k → ((j : ℕ) → j < k → getD xs j d ≡ g (i + j)) → xs ≡ map g (run i k)
-  values-are d i k xs e f = ext-getD d xs (map g (run i k)) (e ∙ sym (length-values i k))
-      (λ j h. f j (omega arith) ∙ sym (values-at i k j d (omega arith)))
-
--- ---- a list in place: n values are done, and k more come
-pub seam-moves : {A : Type 0} (n k : ℕ) (xs ys t t₀ : List A) → length xs ≡ n → t ≡ xs ++ drop n t₀
-    → take n t ++ (ys ++ drop k (drop n t)) ≡ (xs ++ ys) ++ drop (n + k) t₀
-seam-moves n k xs ys t t₀ l e =
-    let p : take n t ≡ xs = ap (take n) e ∙ take-at xs (drop n t₀) n l in
-    let q : drop n t ≡ drop n t₀ = ap (drop n) e ∙ drop-at xs (drop n t₀) n l in
-    rw (p, q, drop-drop k n t₀) (sym (append-assoc xs ys (drop (n + k) t₀)))
-
--- what is left, past the seam
-pub seam-past : {A : Type 0} (n k : ℕ) (xs t t₀ : List A) → length xs ≡ n → t ≡ xs ++ drop n t₀ → drop (n + k) t ≡ drop (n + k) t₀
-seam-past n k xs t t₀ l e =
-    let q : drop n t ≡ drop n t₀ = ap (drop n) e ∙ drop-at xs (drop n t₀) n l in
-    sym (drop-drop k n t) ∙ ap (drop k) q ∙ drop-drop k n t₀
-
-pub seam-length : {A : Type 0} (n : ℕ) (xs t t₀ : List A) → length xs ≡ n → n ≤ length t₀ → t ≡ xs ++ drop n t₀ → length t ≡ length t₀
-seam-length n xs t t₀ l h e = ap length e ∙ length-append xs (drop n t₀) ∙ (omega (arith, length-drop n t₀))
+pub use Rattle.lists.specs.Values.{length-values, values-at}
+use Rattle.lists.specs.Values.{listOf, length-listOf, listOf-at}
+use Rattle.network.specs.Table.{tableOf, entry, middle}
 
 -- ---- rows of one width
 module _ (w : ℕ) (F : ℕ → List ℤ) (wide : (a : ℕ) → length (F a) ≡ w) where
@@ -90,14 +47,8 @@ module _ (w : ℕ) (F : ℕ → List ℤ) (wide : (a : ℕ) → length (F a) ≡
       ∙ sym (append-assoc (F i) (joined (map F (run (suc i) k))) (F (i + suc k)))
 
 -- ---- tables
-pub length-listOf : (n : ℕ) (g : ℕ → ℤ) → length (listOf n g) ≡ n
-length-listOf n g = length-values g 0 n
-
-pub listOf-at : (n : ℕ) (g : ℕ → ℤ) (j : ℕ) (d : ℤ) → j < n → getD (listOf n g) j d ≡ g j
-listOf-at n g j d h = let e : 0 + j ≡ j = omega arith in values-at g 0 n j d h ∙ ap g e
-
 pub length-tableOf : (w : ℕ) (f : Weights) → length (tableOf w f) ≡ w * w
-length-tableOf w f = length-rows w (λ a. listOf w (f a)) (λ a. length-listOf w (f a)) 0 w
+length-tableOf w f = length-rows w (λ a. listOf w (f a)) (λ a. length-listOf (f a) w) 0 w
 
 -- row a ends inside the table
 pub row-inside : (a w : ℕ) → a < w → a * w + w ≤ w * w
@@ -106,8 +57,8 @@ row-inside a w h = let k : (a + 1) * w ≤ w * w = mul-le-mul-right w (omega ari
 pub entry-tableOf : (w : ℕ) (f : Weights) (a b : ℕ) → a < w → b < w → entry w (tableOf w f) a b ≡ f a b
 entry-tableOf w f a b ha hb =
     let e : 0 + a ≡ a = omega arith in
-    rows-at w (λ a. listOf w (f a)) (λ a. length-listOf w (f a)) 0 w a b (pos 0) ha hb
-    ∙ listOf-at w (f (0 + a)) b (pos 0) hb ∙ ap (λ (n : ℕ). f n b) e
+    rows-at w (λ a. listOf w (f a)) (λ a. length-listOf (f a) w) 0 w a b (pos 0) ha hb
+    ∙ listOf-at (f (0 + a)) w b (pos 0) hb ∙ ap (λ (n : ℕ). f n b) e
 
 -- the same where the table stands in front of other places
 pub entry-front : (w : ℕ) (f : Weights) (t : List ℤ) (a b : ℕ) → a < w → b < w → entry w (tableOf w f ++ t) a b ≡ f a b

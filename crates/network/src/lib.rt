@@ -1,7 +1,156 @@
-// Networks.
+ghost use mathlib.Core.Path.{_≡_};
+ghost use mathlib.Core.Bool.{_&&_};
+ghost use mathlib.Core.List.{_++_};
+ghost use Prim.Native.Nat.{ℕ, _+_, _-_, _*_, _≤_, _<_, min};
+ghost use lib.ListN.{length, getD, take, drop};
+ghost use lib.IntN.{ℤ, pos, negsuc, _+ℤ_};
+ghost use lib.Signed.{leZ};
+ghost use lib.Dec.{T};
+ghost use Rattle.integers.specs.Parts.{minℤ};
+ghost use Rattle.network.specs.Table.{mostBoundaries, sumInRange, passFrom, passOf, After, cleared};
+ghost use Rattle.network.specs.Row.{leastOf, greatestOf, relaxed, SumsInRange, Loaded, Ran};
 
+// How a pass over the middle boundaries ends.
 pub enum Outcome {
     Finished,
     Stopped,
     OutOfRange,
+}
+
+// The least and the greatest entry of a row.
+struct Extremes(i16, i16);
+
+// The row, at the front of out.
+pub fn copy_row(row: &[i16], out: &mut [i16])
+    requires { ⌜ length (now row) ≤ length (now out) ⌝ }
+    ensures { λ r. ⌜ now (out .exit) ≡ now (row .entry) ++ drop (length (now (row .entry))) (now (out .entry)) ⌝ }
+{
+    for i in 0..row.len() {
+        out[i] = row[i];
+    }
+}
+
+fn ends_of(row: &[i16]) -> Extremes
+    requires { ⌜ 0 < length (now row) ⌝ }
+    ensures { λ r. ⌜ (r .0 ≡ leastOf (now (row .entry))) × (r .1 ≡ greatestOf (now (row .entry))) ⌝ }
+{
+    let mut least = row[0];
+    let mut greatest = row[0];
+    for b in 0..row.len() {
+        let x = row[b];
+        least = integers::lesser(least, x);
+        greatest = integers::greater(greatest, x);
+    }
+    Extremes(least, greatest)
+}
+
+// The row as it is before the table changes, and its extremes.
+fn load_row(row: &[i16], out: &mut [i16]) -> Extremes
+    requires { ⌜ (0 < length (now row)) × (length (now row) ≤ length (now out)) ⌝ }
+    ensures { λ r. ⌜ Loaded (now (row .entry)) (now (out .entry)) (r .0) (r .1) (now (out .exit)) ⌝ }
+{
+    copy_row(row, out);
+    ends_of(row)
+}
+
+// All sums of a row fit exactly when the two extreme ones do, so asking these asks every sum (01, question 14).
+fn sums_fit(ends: Extremes, am: i16) -> bool
+    ensures { λ r. ⌜ r ≡ (leZ (negsuc 29999) (am +ℤ ends .0) && leZ (am +ℤ ends .1) (pos 30000)) ⌝ }
+{
+    let least = ends.0;
+    let greatest = ends.1;
+    let low = (am as i32) + (least as i32);
+    let high = (am as i32) + (greatest as i32);
+    if low < -30000 {
+        return false;
+    }
+    if 30000 < high {
+        return false;
+    }
+    true
+}
+
+// A row's columns are taken in stretches of 16, which fill whole vector registers.
+fn stretch_end(b: usize, w: usize) -> usize
+    requires { ⌜ b < w ⌝ }
+    ensures { λ r. ⌜ r ≡ min (b + 16) w ⌝ }
+{
+    if w - b < 16 { w } else { b + 16 }
+}
+
+// The row step: each entry becomes the smaller of itself and the sum over the middle boundary. Every entry is stored, so that no branch is left.
+pub fn relax_row(row: &mut [i16], mid: &[i16], am: i16)
+    requires { ⌜ (length (now row) ≤ length (now mid)) × SumsInRange am (now mid) ⌝ }
+    ensures { λ r. ⌜ now (row .exit) ≡ relaxed am (now (mid .entry)) (now (row .entry)) ⌝ }
+{
+    for b in 0..row.len() {
+        row[b] = integers::lesser(row[b], am + mid[b]);
+    }
+}
+
+// The first n places become 0.
+pub fn clear(n: usize, t: &mut [i16])
+    requires { ⌜ n ≤ length (now t) ⌝ }
+    ensures { λ r. ⌜ now (t .exit) ≡ cleared n (now (t .entry)) ⌝ }
+{
+    for i in 0..n {
+        t[i] = 0;
+    }
+}
+
+// The middle boundaries from..to, until a diagonal entry falls below 0 or a sum is out of range. The table is then left half done.
+fn run_middles(t: &mut [i16], w: usize, from: usize, to: usize) -> Outcome
+    requires { ⌜ (0 < w) × (w ≤ mostBoundaries) × (w * w ≤ length (now t)) × (from ≤ to) × (to ≤ w) ⌝ }
+    ensures { λ r. ⌜ Ran w (now (t .entry)) (passFrom (to - from) from w (now (t .entry))) r (now (t .exit)) ⌝ }
+{
+    let mut outcome = Outcome::Finished;
+    let mut mid = [0i16; 49];
+    'pass: for m in from..to {
+        let first = m * w;
+        let last = first + w;
+        let ends = load_row(&t[first..last], &mut mid);
+        for a in 0..w {
+            let start = a * w;
+            let end = start + w;
+            let row = &mut t[start..end];
+            let am = row[m];
+            if sums_fit(ends, am) {} else {
+                outcome = Outcome::OutOfRange;
+                break 'pass;
+            }
+            let mut b = 0;
+            while b < w {
+                let e = stretch_end(b, w);
+                relax_row(&mut row[b..e], &mid[b..e], am);
+                if integers::less(row[a], 0) {
+                    outcome = Outcome::Stopped;
+                    break 'pass;
+                }
+                b = e;
+            }
+        }
+    }
+    outcome
+}
+
+// The middle boundaries from..to. Where they do not all finish, the table's places become 0; places past the table never change.
+pub fn pass_middles(t: &mut [i16], w: usize, from: usize, to: usize) -> Outcome
+    requires { ⌜ (0 < w) × (w ≤ mostBoundaries) × (w * w ≤ length (now t)) × (from ≤ to) × (to ≤ w) ⌝ }
+    ensures { λ r. ⌜ After w (now (t .entry)) (passFrom (to - from) from w (now (t .entry))) r (now (t .exit)) ⌝ }
+{
+    let outcome = run_middles(t, w, from, to);
+    match outcome {
+        Outcome::Finished => {}
+        Outcome::Stopped => clear(w * w, t),
+        Outcome::OutOfRange => clear(w * w, t),
+    }
+    outcome
+}
+
+// The whole pass.
+pub fn pass(t: &mut [i16], w: usize) -> Outcome
+    requires { ⌜ (0 < w) × (w ≤ mostBoundaries) × (w * w ≤ length (now t)) ⌝ }
+    ensures { λ r. ⌜ After w (now (t .entry)) (passOf w (now (t .entry))) r (now (t .exit)) ⌝ }
+{
+    pass_middles(t, w, 0, w)
 }
