@@ -10,7 +10,7 @@ use native.Mathlib.Omega.{arith}
 use lib.Dec.{T, ltb, leb, leb→le, le→leb, ltb→lt, lt→ltb, nltb→le}
 use lib.IntN.{ℤ, pos, negsuc, negℤ, subℕ, _+ℤ_, _-ℤ_}
 use lib.Signed.{leZ, ltZ, mag, _≤ℤ_, _<ℤ_}
-use mir.Syntax.{Width}
+use mir.Syntax.{Width, w16, w32}
 use mir.Val.{SFits, hbits}
 use borrow.Author.Tests.{ltb-true, ltb-false, leb-true, leb-false, lt-ltb, le-ltb, le-leb, lt-leb}
 
@@ -106,6 +106,18 @@ false-ltZ (pos a) (negsuc b) h = refl
 false-ltZ (negsuc a) (pos b) h = absurd (omega arith)
 false-ltZ (negsuc a) (negsuc b) h = le-ltb b a (omega arith)
 
+pub true-leZ : (a b : ℤ) → up a + dn b ≤ up b + dn a → leZ a b ≡ true
+true-leZ (pos a) (pos b) h = le-leb a b (omega arith)
+true-leZ (pos a) (negsuc b) h = absurd (omega arith)
+true-leZ (negsuc a) (pos b) h = refl
+true-leZ (negsuc a) (negsuc b) h = le-leb b a (omega arith)
+
+pub false-leZ : (a b : ℤ) → up b + dn a < up a + dn b → leZ a b ≡ false
+false-leZ (pos a) (pos b) h = lt-leb a b (omega arith)
+false-leZ (pos a) (negsuc b) h = refl
+false-leZ (negsuc a) (pos b) h = absurd (omega arith)
+false-leZ (negsuc a) (negsuc b) h = lt-leb b a (omega arith)
+
 -- ---- the set
 pub ruleset ints = (arith, ≤-read, ≤-make, <-read, <-make, ≡-read, ≡-make, ltZ-true, ltZ-false, leZ-true, leZ-false, true-ltZ, false-ltZ)
 
@@ -191,3 +203,10 @@ fits-parts {w} {z} f = go z (f .sfits)
     go : (z : ℤ) → mag z < 2 ^ hbits w → (up z < 2 ^ hbits w) × (dn z ≤ 2 ^ hbits w)
     go (pos n) h = omega arith
     go (negsuc n) h = omega arith
+
+-- the sum of two numbers of 16 bits fits 32 bits
+pub sum-fits-wide : {x y : ℤ} → SFits w16 x → SFits w16 y → SFits w32 (x +ℤ y)
+sum-fits-wide {x} {y} f g =
+    let p = fits-parts f in
+    let q = fits-parts g in
+    fits-within w32 (x +ℤ y) 70000 tt (omega (arith, p, q, sum x y)) (omega (arith, p, q, sum x y))

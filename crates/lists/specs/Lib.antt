@@ -2,3 +2,4 @@ pub mod Lists
 pub mod Members
 pub mod Extremes
 pub mod Counts
+pub mod Values
