@@ -38,9 +38,9 @@ module _ (w : ℕ) (f g : Weights) (t₀ t : List ℤ) where
     above = λ x y k hx hy. elim (ℕ-discrete x a) [
       | no n ↦ s .above x y (omega arith) hx hy
       | yes e ↦ subst (λ (i : ℕ). entry w t i y ≡ g i y) (sym e) (elim (decLe b y) [
-          | yes l ↦ s .right y l hy (omega arith)
-          | no n ↦ s .left y (omega arith) hy (omega arith) ∙ left y (omega arith)
-        ])
+        | yes l ↦ s .right y l hy (omega arith)
+        | no n ↦ s .left y (omega arith) hy (omega arith) ∙ left y (omega arith)
+      ])
     ];
     right = λ y k hy ha. s .below (a + 1) y (omega arith) ha hy ∙ right y k hy;
     left = λ y k hy ha. s .below (a + 1) y (omega arith) ha hy;

@@ -8,9 +8,8 @@ use Prim.Native.Nat.{ℕ, zero, suc, _+_, _-_, _*_, _/_, _%_, _≤_, _<_}
 use native.Mathlib.Omega.{arith}
 use native.Mathlib.Nat.{mul-le-mul-right, div-add-mod', mod-lt, div-lt-iff-lt-mul}
 use native.Mathlib.Decide.{decLe, ℕ-discrete}
-use native.Mathlib.Numerals.{add-one}
-use lib.ListN.{length, getD, drop, take, set, length-append, length-drop, length-set, length-take, take-append-drop, replicate, length-replicate, getD-replicate, replicate-append-replicate, List·getD-append}
-use lib.Seq.{ext-getD, getD-set-same, getD-set-other, drop-set-lt, getD-take, drop-at, drop-cons, set-at, append-snoc}
+use lib.ListN.{length, getD, drop, take, set, length-append, length-drop, length-set, length-take, take-append-drop, replicate, length-replicate, getD-replicate, List·getD-append}
+use lib.Seq.{ext-getD, getD-set-same, getD-set-other, drop-set-lt, getD-take, drop-at}
 use lib.IntN.{ℤ, pos}
 use Rattle.network.specs.Network.{Weights}
 use Rattle.network.specs.Table.{tableOf, entry, cleared}
@@ -98,16 +97,8 @@ pub filled-same : (w : ℕ) (f g : Weights) (t₀ t : List ℤ) → ((x y : ℕ)
 filled-same w f g t₀ t same h = record { long = h .long; at = λ x y hx hy. h .at x y hx hy ∙ sym (same x y hx hy); past = h .past }
 
 -- ---- zeros in front
-pub cleared-length : (n : ℕ) (t : List ℤ) → n ≤ length t → length (cleared n t) ≡ length t
+cleared-length : (n : ℕ) (t : List ℤ) → n ≤ length t → length (cleared n t) ≡ length t
 cleared-length n t h = length-append (replicate n (pos 0)) (drop n t) ∙ omega (arith, length-replicate n (pos 0), length-drop n t)
-
-pub cleared-more : (n : ℕ) (t : List ℤ) → n < length t → set (cleared n t) n (pos 0) ≡ cleared (n + 1) t
-cleared-more n t h =
-    ap (λ (l : List ℤ). set (replicate n (pos 0) ++ l) n (pos 0)) (drop-cons t n (pos 0) h)
-    ∙ set-at (replicate n (pos 0)) (getD t n (pos 0)) (drop (suc n) t) (pos 0) n (length-replicate n (pos 0))
-    ∙ sym (append-snoc (replicate n (pos 0)) (pos 0) (drop (suc n) t))
-    ∙ ap (λ (l : List ℤ). l ++ drop (suc n) t) (replicate-append-replicate n 1 (pos 0))
-    ∙ ap (λ (k : ℕ). replicate (n + 1) (pos 0) ++ drop k t) (sym (add-one n))
 
 pub cleared-filled : (w : ℕ) (f : Weights) (t : List ℤ) → w * w ≤ length t → ((a b : ℕ) → f a b ≡ pos 0) → Filled w f t (cleared (w * w) t)
 cleared-filled w f t room none =

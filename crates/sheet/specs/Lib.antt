@@ -11,3 +11,4 @@ pub mod Tightened
 pub mod EntryLaws
 pub mod LimitTable
 pub mod InsideLaws
+pub mod LimitTableLaws

@@ -1,19 +1,26 @@
 -- The table of a sheet's limits, as code fills it. Definitions only.
 use mathlib.Core.Path.{_≡_}
 use mathlib.Core.Bool.{Bool, _&&_, cond}
-use mathlib.Core.List.{List}
-use Prim.Native.Nat.{ℕ, suc, _≤_, _<_}
-use lib.Dec.{ltb, eqb}
-use lib.ListN.{length, getD}
+use mathlib.Core.List.{List, _++_}
+use Prim.Native.Nat.{ℕ, suc, _*_, _≤_, _<_}
+use lib.Dec.{T, ltb, eqb}
+use lib.ListN.{length, getD, set, drop}
 use lib.IntN.{ℤ, pos, negℤ}
+use Rattle.integers.specs.Parts.{minℤ}
 use Rattle.lists.specs.Lists.{howMany}
 use Rattle.network.specs.Network.{Weights}
+use Rattle.network.specs.Table.{tableOf}
 use Rattle.sheet.specs.Limits.{maxUnits}
-use Rattle.sheet.specs.Sheet.{Slot, Window, Sheet, top, insideOf, slotAfter}
+use Rattle.sheet.specs.Sheet.{Slot, Window, Sheet, top, insideOf, slotAfter, limit}
+use Rattle.sheet.specs.Questions.{sheetOf, listsAgree, accepted}
 
 -- how many boundaries a sheet has
-unfoldable pub boundaries : Sheet → ℕ
+abbrev pub boundaries : Sheet → ℕ
 boundaries s = suc (top s)
+
+-- the limits of all steps, in front of what stands past them
+abbrev pub limitTable : Sheet → List ℤ → List ℤ
+limitTable s t = tableOf (boundaries s) (limit s) ++ drop (boundaries s * boundaries s) t
 
 -- the units' windows, as first and last slots: at most 300, each 1 ≤ first ≤ last, and last a boundary of w
 pub record WindowsFit (w : ℕ) (first last : List Slot) : Type 0 where
@@ -36,3 +43,13 @@ exactWeights ws a b = negℤ (pos (howMany (exactly (slotAfter b) a) ws))
 -- n on every forward step, and the other steps as they are
 unfoldable pub withForward : ℕ → Weights → Weights
 withForward n d a b = cond (ltb a b) (pos n) (d a b)
+
+-- the number at a place made the smaller of itself and v
+abbrev pub lowered : ℕ → ℤ → List ℤ → List ℤ
+lowered at v t = set t at (minℤ (getD t at (pos 0)) v)
+
+-- what filling the table asks: lists that agree, an accepted sheet, and room for the table
+pub record Fillable (span : ℕ) (first last from to low high : List ℕ) (room : ℕ) : Type 0 where
+  pub agree : T (listsAgree first last from to low high)
+  pub ok : T (accepted (sheetOf span first last from to low high))
+  pub fits : boundaries (sheetOf span first last from to low high) * boundaries (sheetOf span first last from to low high) ≤ room

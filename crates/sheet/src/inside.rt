@@ -1,41 +1,19 @@
 ghost use mathlib.Core.Path.{_≡_};
 ghost use mathlib.Core.List.{_++_};
-ghost use Prim.Native.Nat.{ℕ, _+_, _-_, _*_, _^_, _<_, _≤_};
+ghost use Prim.Native.Nat.{ℕ, _+_, _*_, _<_, _≤_};
 ghost use lib.ListN.{length, drop};
 ghost use lib.IntN.{ℤ, pos};
-ghost use Rattle.network.specs.Table.{tableOf, cleared};
+ghost use Rattle.network.specs.Table.{tableOf};
 ghost use Rattle.sheet.specs.Questions.{windowsOf};
 ghost use Rattle.sheet.specs.LimitTable.{WindowsFit, insideWeights, exactWeights};
-use crate::Boundary;
-use crate::Slot;
-use crate::place;
-
-// The first n places become 0.
-pub fn clear(n: usize, t: &mut [i16])
-    requires { ⌜ n ≤ length (now t) ⌝ }
-    ensures { λ _. ⌜ now (t .exit) ≡ cleared n (now (t .entry)) ⌝ }
-{
-    for i in 0..n {
-        t[i] = 0;
-    }
-}
-
-// The place of the step back over the slots first to last.
-pub fn back_place(first: u16, last: u16, w: usize) -> usize
-    requires { ⌜ (1 ≤ first) × (first ≤ last) × (last < w) × (w * w < 2 ^ 64) ⌝ }
-    ensures { λ r. ⌜ r ≡ last * w + (first - 1) ⌝ }
-{
-    let end = Slot(last as usize).end();
-    let start = Slot(first as usize).end().before();
-    place(end, start, w)
-}
+use crate::back_place;
 
 // Entry (a, b): minus the number of windows that are exactly the slots b+1 to a.
 pub fn exact_windows(first: &[u16], last: &[u16], w: usize, t: &mut [i16])
     requires { ⌜ (w * w ≤ length (now t)) × WindowsFit w (now first) (now last) ⌝ }
     ensures { λ _. ⌜ now (t .exit) ≡ tableOf w (exactWeights (windowsOf (now (first .entry)) (now (last .entry)))) ++ drop (w * w) (now (t .entry)) ⌝ }
 {
-    clear(w * w, t);
+    network::clear(w * w, t);
     let mut j = first.len();
     while 0 < j {
         j -= 1;
