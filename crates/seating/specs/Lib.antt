@@ -7,3 +7,6 @@ pub mod FeasibleLaws
 pub mod RangeLaws
 pub mod PrintedLaws
 pub mod DistinctLaws
+pub mod Sorting
+pub mod Row
+pub mod RowLaws

@@ -95,7 +95,7 @@ module _ (s : Sheet) (D : Weights) (S : Solved s D) where
   row-greatest b h hb = greatest-entry s D S 0 b h hb
 
   -- row 0 counts from 0
-  row-nonneg : (b : ℕ) → b ≤ top s → D 0 b ≡ pos (up (D 0 b))
+  pub row-nonneg : (b : ℕ) → b ≤ top s → D 0 b ≡ pos (up (D 0 b))
   row-nonneg b hb = ⊎-elim
       (λ (e : 0 ≡ b). subst (λ (v : ℕ). D 0 v ≡ pos (up (D 0 v))) e (own (S .finished .diagonal 0 (omega arith))))
       (λ (h : 0 < b). own (sym (row-greatest b h hb))) (eq-or-lt-of-le (omega arith))
