@@ -4,3 +4,5 @@ mod MirrorLaws
 mod ExtremeLaws
 mod CarryLaws
 mod SettleLaws
+mod SearchLaws
+mod FillLaws

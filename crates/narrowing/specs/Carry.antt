@@ -10,7 +10,7 @@ use lib.Signed.{_≤ℤ_}
 use Rattle.integers.specs.Parts.{minℤ}
 use Rattle.network.specs.Network.{Weights, Potential}
 use Rattle.network.specs.Table.{mostBoundaries, entry}
-use Rattle.narrowing.specs.Cut.{Admits}
+use Rattle.narrowing.specs.Cut.{Admits, LeastCut}
 use Rattle.narrowing.specs.Sink.{Within, Closed, Sunk, height}
 use Rattle.narrowing.specs.declared.Settled.{Settled}
 use Rattle.narrowing.specs.declared.Settled.the-variants.{Still, Lower, Lost}
@@ -65,6 +65,13 @@ abbrev pub Settling : ℕ → List ℤ → List ℤ → ℕ → ℕ → ℕ → 
 Settling w d m f v l h k z z′ Still = (z′ ≡ z) × ((a b : ℕ) → h ≤ b → b < k → v ≤ a → a < l → at z b ≤ℤ (at z a +ℤ into w m a b))
 Settling w d m f v l h k z z′ Lower = SunkAt w d m f v l z′ × (heightAt w d f z′ < heightAt w d f z)
 Settling w d m f v l h k z z′ Lost = AdmitsAt w d m f v l → ⊥
+
+-- no cut of the window f..l below g is admitted
+abbrev pub Barred : ℕ → List ℤ → List ℤ → ℕ → ℕ → ℕ → Type 0
+Barred w d m f l g = (u : ℕ) → f ≤ u → u < g → AdmitsAt w d m f u l → ⊥
+
+abbrev pub LeastCutAt : ℕ → List ℤ → List ℤ → ℕ → ℕ → ℕ → Type 0
+LeastCutAt w d m f l v = LeastCut (w - 1) (entry w d) (into w m) f l v
 
 -- a sweep over boundaries says whether z fell
 abbrev pub fell : Bool → Settled

@@ -5,7 +5,7 @@ use mathlib.Core.List.{List}
 use Prim.Native.Nat.{ℕ, suc, _+_, _-_, _*_, _≤_, _<_}
 use lib.Dec.{T}
 use lib.ListN.{length, take, set}
-use lib.IntN.{ℤ, pos, negℤ, _+ℤ_}
+use lib.IntN.{ℤ, pos, negsuc, negℤ, _+ℤ_}
 use lib.Signed.{_≤ℤ_}
 use Rattle.integers.specs.Parts.{up, dn}
 use Rattle.lists.specs.Lists.{howMany}
@@ -37,6 +37,10 @@ pub record LeastCut (top : ℕ) (D E : Weights) (f l v : ℕ) : Type 0 where
 -- the network seen from its end: boundary b is top - b, and every step goes the other way
 abbrev pub mirrored : ℕ → Weights → Weights
 mirrored top d a b = d (top - b) (top - a)
+
+-- arcs of weights one less than those of d, listed by the boundary they lead into
+abbrev pub oneLess : Weights → Weights
+oneLess d b a = d a b +ℤ negsuc 0
 
 -- ---- over sheets
 

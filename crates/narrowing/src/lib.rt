@@ -2,12 +2,13 @@ use integers::{less, lesser};
 
 ghost use mathlib.Core.Path.{_≡_};
 ghost use Prim.Native.Nat.{ℕ, _+_, _-_, _*_, _<_, _≤_};
-ghost use lib.ListN.{length, getD};
+ghost use mathlib.Core.List.{List, _++_};
+ghost use lib.ListN.{length, getD, drop};
 ghost use lib.IntN.{ℤ, pos, _+ℤ_};
-ghost use Rattle.network.specs.Table.{entry};
-ghost use Rattle.narrowing.specs.Cut.{LeastCut};
+ghost use Rattle.network.specs.Table.{listOf, tableOf, entry};
+ghost use Rattle.narrowing.specs.Cut.{mirrored, oneLess};
 ghost use Rattle.narrowing.specs.Sink.{Within};
-ghost use Rattle.narrowing.specs.Carry.{at, Modest, Carried, LeastSum, Network, Cuts, SunkAt, AdmitsAt, Settling, Decides, into};
+ghost use Rattle.narrowing.specs.Carry.{at, Modest, Carried, LeastSum, Network, Cuts, SunkAt, AdmitsAt, Settling, Decides, Barred, LeastCutAt};
 
 // What lowering a potential to the arcs of a cut comes to: it keeps them, it fell, or no potential keeps them.
 enum Settled {
@@ -101,20 +102,66 @@ fn admits(d: &[i16], m: &[i16], w: usize, f: usize, v: usize, l: usize) -> bool
     }
 }
 
-// The least admitted cut of the window f..l, by halving; `known` is an admitted one.
-fn least_cut(d: &[i16], m: &[i16], w: usize, f: usize, l: usize, known: usize) -> usize
-    requires { ⌜ Network w (now d) (now m) × (1 ≤ f) × (f ≤ known) × (known ≤ l) × (l < w) × AdmitsAt w (now d) (now m) f known l ⌝ }
-    ensures { λ r. ⌜ LeastCut (w - 1) (entry w (now (d .entry))) (into w (now (m .entry))) f l r ⌝ }
+// The least admitted cut of the window f..l: `known` is an admitted one, and none below `low` is. Mostly `low` is the one, so it is tried
+// first; the rest is found by halving.
+fn least_cut(d: &[i16], m: &[i16], w: usize, f: usize, l: usize, low: usize, known: usize) -> usize
+    requires { ⌜ Network w (now d) (now m) × (1 ≤ f) × (f ≤ low) × (f ≤ known) × (known ≤ l) × (l < w) ⌝ }
+    requires { ⌜ AdmitsAt w (now d) (now m) f known l × Barred w (now d) (now m) f l low ⌝ }
+    ensures { λ r. ⌜ LeastCutAt w (now (d .entry)) (now (m .entry)) f l r ⌝ }
 {
-    let mut low = f;
-    let mut high = known;
-    while low < high {
-        let middle = low + (high - low) / 2;
+    let mut from = low;
+    let mut to = known;
+    let mut middle = low;
+    while from < to {
         if admits(d, m, w, f, middle, l) {
-            high = middle;
+            to = middle;
         } else {
-            low = middle + 1;
+            from = middle + 1;
         }
+        middle = from + (to - from) / 2;
     }
-    high
+    to
+}
+
+// Row a of the table seen from its end.
+fn mirror_row(t: &[i16], w: usize, a: usize, row: &mut [i16])
+    requires { ⌜ (a < w) × (w * w ≤ length (now t)) × (length (now row) ≡ w) ⌝ }
+    ensures { λ _. ⌜ now (row .exit) ≡ listOf w (mirrored (w - 1) (entry w (now (t .entry))) a) ⌝ }
+{
+    let column = w - 1 - a;
+    for b in 0..w {
+        row[b] = t[(w - 1 - b) * w + column];
+    }
+}
+
+fn mirror(t: &[i16], w: usize, out: &mut [i16])
+    requires { ⌜ (w * w ≤ length (now t)) × (w * w ≤ length (now out)) ⌝ }
+    ensures { λ _. ⌜ now (out .exit) ≡ tableOf w (mirrored (w - 1) (entry w (now (t .entry)))) ++ drop (w * w) (now (out .entry)) ⌝ }
+{
+    for a in 0..w {
+        let from = a * w;
+        let to = from + w;
+        mirror_row(t, w, a, &mut out[from..to]);
+    }
+}
+
+// The arcs into boundary b that a cut may add.
+fn arcs_row(inside: &[i16], w: usize, b: usize, row: &mut [i16])
+    requires { ⌜ (b < w) × (w * w ≤ length (now inside)) × (length (now row) ≡ w) × Modest (now inside) ⌝ }
+    ensures { λ _. ⌜ now (row .exit) ≡ listOf w (oneLess (entry w (now (inside .entry))) b) ⌝ }
+{
+    for a in 0..w {
+        row[a] = inside[a * w + b] - 1;
+    }
+}
+
+fn arcs(inside: &[i16], w: usize, out: &mut [i16])
+    requires { ⌜ (w * w ≤ length (now inside)) × (w * w ≤ length (now out)) × Modest (now inside) ⌝ }
+    ensures { λ _. ⌜ now (out .exit) ≡ tableOf w (oneLess (entry w (now (inside .entry)))) ++ drop (w * w) (now (out .entry)) ⌝ }
+{
+    for b in 0..w {
+        let from = b * w;
+        let to = from + w;
+        arcs_row(inside, w, b, &mut out[from..to]);
+    }
 }

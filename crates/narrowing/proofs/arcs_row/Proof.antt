@@ -1,0 +1,110 @@
+use Rattle.narrowing.proofs.FillLaws.{Filled, filled-more, filled-list}
+use Rattle.narrowing.proofs.CarryLaws.{sum-fits}
+use Rattle.narrowing.specs.Cut.{oneLess}
+use Rattle.network.specs.TableLaws.{row-inside}
+use Rattle.network.specs.Table.{entry}
+use mir.Facts.{toZ-ofZ}
+use mir.Val.{SFits, toZ, ofZ}
+use mir.Syntax.{w16}
+use lib.IntN.{ℤ, pos, negsuc, _+ℤ_}
+use lib.ListN.{length, getD, set, length-set}
+use mathlib.Core.Path.{_≡_, refl, sym, ap, subst, _∙_}
+use Prim.Native.Nat.{ℕ, suc, _≤_, _<_, _-_, _+_, _*_}
+use native.Mathlib.Omega.{arith}
+use borrow.Author.Needs.{needs}
+use Rattle.narrowing.proofs.arcs_row.Statement.{statement}
+use Rattle.narrowing.proofs.arcs_row.Tie as tie
+use Rattle.narrowing.proofs.arcs_row.Reads as reads
+use Rattle.narrowing.proofs.arcs_row.Lts as lts
+
+abbrev Inv-loop : tie.InvT-loop
+Inv-loop inside w b row₀ a₀ row a = (a ≤ w) × (length row ≡ w) × Filled (pos 0) (oneLess (entry w inside) b) a row
+
+abbrev μ-loop : tie.MeasureT-loop
+μ-loop inside w b row₀ a₀ row a = w - a
+
+loop-holds : tie.Need-loop-holds Inv-loop μ-loop
+loop-holds c = (omega arith, c .pre .2, λ j h. absurd (omega arith))
+
+mul-row : tie.Need-mul-row Inv-loop μ-loop
+mul-row c =
+    let st = c .before .before in
+    omega (arith, row-inside (c .before .loop .a) (st .args .w) (omega arith))
+
+add-row : tie.Need-add-row Inv-loop μ-loop
+add-row c =
+    let st = c .before .before in
+    omega (arith, row-inside (c .before .loop .a) (st .args .w) (omega arith))
+
+mul-row-2 : tie.Need-mul-row-2 Inv-loop μ-loop
+mul-row-2 c =
+    let st = c .before .before in
+    omega (arith, row-inside (c .before .loop .a) (st .args .w) (omega arith))
+
+shared-slice-copy-out-row : tie.Need-shared-slice-copy-out-row Inv-loop μ-loop
+shared-slice-copy-out-row c =
+    let st = c .before .before in
+    omega (arith, row-inside (c .before .loop .a) (st .args .w) (omega arith))
+
+sub-row : tie.Need-sub-row Inv-loop μ-loop
+sub-row c =
+    let st = c .before .before .before in
+    let a = st .args in
+    let i = c .before .before .loop .a * a .w + a .b in
+    let f : SFits w16 (getD (a .inside .now) i (pos 0)) = search needs in
+    let n = row-inside (c .before .before .loop .a) (a .w) (omega arith) in
+    rw (toZ-ofZ f) (sum-fits (getD (a .inside .now) i (pos 0)) (negsuc 0) (st .pre .3 i (omega arith)) (omega arith))
+
+mul-t13 : tie.Need-mul-t13 Inv-loop μ-loop
+mul-t13 c = omega arith
+
+slice-set-from-row : tie.Need-slice-set-from-row Inv-loop μ-loop
+slice-set-from-row c = omega arith
+
+add-a : tie.Need-add-a Inv-loop μ-loop
+add-a c = omega arith
+
+loop-less : tie.Need-loop-less Inv-loop μ-loop
+loop-less c = omega arith
+
+loop-again : tie.Need-loop-again Inv-loop μ-loop
+loop-again c =
+    let st = c .before .before .before in
+    let a = st .args in
+    let l = c .before .before .loop in
+    let i = l .a * a .w + a .b in
+    let x = getD (a .inside .now) i (pos 0) in
+    let f : SFits w16 x = search needs in
+    let n = row-inside (l .a) (a .w) (omega arith) in
+    let g = sum-fits x (negsuc 0) (st .pre .3 i (omega arith)) (omega arith) in
+    (omega arith, simp length-set (l .inv .1), simp (toZ-ofZ f, toZ-ofZ g) (filled-more (pos 0) (oneLess (entry (a .w) (a .inside .now)) (a .b)) (l .a) (x +ℤ negsuc 0) (l .row) (omega arith) refl (l .inv .2)))
+
+same-length : tie.Need-same-length Inv-loop μ-loop
+same-length c = c .before .loop .inv .1 ∙ sym (c .before .before .pre .2)
+
+returns : tie.Need-returns Inv-loop μ-loop
+returns c =
+    let a = c .before .before .args in
+    let l = c .before .loop in
+    let e : l .a ≡ a .w = omega arith in
+    filled-list (oneLess (entry (a .w) (a .inside .now)) (a .b)) (a .w) (l .row) (l .inv .1) (λ j h. l .inv .2 j (omega arith))
+
+pub arcs-row-spec : {M : Type 1} → statement M
+arcs-row-spec =
+    tie.close
+    (tie.spec
+    Inv-loop
+    μ-loop
+    loop-holds
+    mul-row
+    add-row
+    mul-row-2
+    shared-slice-copy-out-row
+    sub-row
+    mul-t13
+    slice-set-from-row
+    add-a
+    loop-less
+    loop-again
+    same-length
+    returns)

@@ -1,0 +1,109 @@
+use Rattle.narrowing.proofs.FillLaws.{RowsDone, rows-none, rows-more, rows-length, rows-all}
+use Rattle.narrowing.proofs.SettleLaws.{part-length}
+use Rattle.narrowing.specs.Cut.{mirrored, oneLess}
+use Rattle.network.specs.TableLaws.{row-inside}
+use Rattle.network.specs.Table.{entry}
+use lib.ListN.{length}
+use mathlib.Core.Path.{_≡_, refl, sym, ap, subst, _∙_}
+use Prim.Native.Nat.{ℕ, suc, _≤_, _<_, _-_, _+_, _*_}
+use native.Mathlib.Omega.{arith}
+use borrow.Author.Needs.{needs}
+use Rattle.narrowing.proofs.mirror.Statement.{statement}
+use Rattle.narrowing.proofs.mirror.Tie as tie
+use Rattle.narrowing.proofs.mirror.Reads as reads
+use Rattle.narrowing.proofs.mirror.Lts as lts
+use Rattle.narrowing.proofs.mirror_row.Reads as mirror-row-reads
+
+abbrev Inv-loop : tie.InvT-loop
+Inv-loop t w out₀ a₀ out a = (a ≤ w) × (length out ≡ length out₀) × RowsDone w (mirrored (w - 1) (entry w t)) a out₀ out
+
+abbrev μ-loop : tie.MeasureT-loop
+μ-loop t w out₀ a₀ out a = w - a
+
+loop-holds : tie.Need-loop-holds Inv-loop μ-loop
+loop-holds c = let g = c .args in (omega arith, refl, rows-none (g .w) (mirrored (g .w - 1) (entry (g .w) (g .t .now))) (g .out .now))
+
+mul-from : tie.Need-mul-from Inv-loop μ-loop
+mul-from c =
+    let st = c .before .before in
+    omega (arith, row-inside (c .before .loop .a) (st .args .w) (omega arith), st .good)
+
+add-to : tie.Need-add-to Inv-loop μ-loop
+add-to c =
+    let st = c .before .before in
+    omega (arith, row-inside (c .before .loop .a) (st .args .w) (omega arith), st .good)
+
+mul-mirror-row : tie.Need-mul-mirror-row Inv-loop μ-loop
+mul-mirror-row c =
+    let st = c .before .before in
+    omega (arith, row-inside (c .before .loop .a) (st .args .w) (omega arith), st .good)
+
+sub-mirror-row : tie.Need-sub-mirror-row Inv-loop μ-loop
+sub-mirror-row c =
+    let st = c .before .before in
+    omega (arith, row-inside (c .before .loop .a) (st .args .w) (omega arith), st .good)
+
+part-mirror-row-start : tie.Need-part-mirror-row-start Inv-loop μ-loop
+part-mirror-row-start c =
+    let st = c .before .before in
+    omega (arith, row-inside (c .before .loop .a) (st .args .w) (omega arith), st .good)
+
+part-mirror-row-end : tie.Need-part-mirror-row-end Inv-loop μ-loop
+part-mirror-row-end c =
+    let st = c .before .before in
+    omega (arith, row-inside (c .before .loop .a) (st .args .w) (omega arith), st .good)
+
+mirror-row-requires : tie.Need-mirror-row-requires Inv-loop μ-loop
+mirror-row-requires c κs =
+    let st = c .before .before .before in
+    let l = c .before .before .loop in
+    let w = st .args .w in
+    let n = row-inside (l .a) w (omega arith) in
+    let p = part-length (l .a * w) (l .a * w + w) (l .out) (omega arith) (omega arith) in
+    (omega arith, st .pre .0, omega arith)
+
+add-a : tie.Need-add-a Inv-loop μ-loop
+add-a c = omega arith
+
+loop-less : tie.Need-loop-less Inv-loop μ-loop
+loop-less c = omega arith
+
+loop-again : tie.Need-loop-again Inv-loop μ-loop
+loop-again c =
+    let st = c .before .before .before .before .before in
+    let l = c .before .before .before .before .loop in
+    let g = st .args in
+    let k : l .a * g .w + g .w - l .a * g .w ≡ g .w = omega arith in
+    let done = rows-more (g .w) (mirrored (g .w - 1) (entry (g .w) (g .t .now))) (l .a) (l .a * g .w + g .w - l .a * g .w) (g .out .now) (l .out)
+        (c .before .mirror-row .last .1 .1 .1 .0) k (c .before .mirror-row .ensures) (l .inv .2) in
+    let n = row-inside (l .a) (g .w) (omega arith) in
+    (omega arith, rows-length (g .w) (mirrored (g .w - 1) (entry (g .w) (g .t .now))) (l .a + 1) (g .out .now) _ (omega (arith, st .pre .1)) done, done)
+
+same-length : tie.Need-same-length Inv-loop μ-loop
+same-length c = c .before .loop .inv .1
+
+returns : tie.Need-returns Inv-loop μ-loop
+returns c =
+    let g = c .before .before .args in
+    let l = c .before .loop in
+    rows-all (g .w) (mirrored (g .w - 1) (entry (g .w) (g .t .now))) (l .a) (g .out .now) (l .out) (omega arith) (l .inv .2)
+
+pub mirror-spec : {M : Type 1} → statement M
+mirror-spec =
+    tie.close
+    (tie.spec
+    Inv-loop
+    μ-loop
+    loop-holds
+    mul-from
+    add-to
+    mul-mirror-row
+    sub-mirror-row
+    part-mirror-row-start
+    part-mirror-row-end
+    mirror-row-requires
+    add-a
+    loop-less
+    loop-again
+    same-length
+    returns)

@@ -1,0 +1,113 @@
+use Rattle.narrowing.proofs.FillLaws.{Filled, filled-more, filled-list}
+use Rattle.narrowing.specs.Cut.{mirrored}
+use Rattle.network.specs.TableLaws.{row-inside}
+use Rattle.network.specs.Table.{entry}
+use mir.Facts.{toZ-ofZ}
+use mir.Val.{SFits, toZ, ofZ}
+use mir.Syntax.{w16}
+use lib.IntN.{ℤ, pos}
+use lib.ListN.{length, getD, set, length-set}
+use mathlib.Core.Path.{_≡_, refl, sym, ap, subst, _∙_}
+use Prim.Native.Nat.{ℕ, suc, _≤_, _<_, _-_, _+_, _*_}
+use native.Mathlib.Omega.{arith}
+use borrow.Author.Needs.{needs}
+use Rattle.narrowing.proofs.mirror_row.Statement.{statement}
+use Rattle.narrowing.proofs.mirror_row.Tie as tie
+use Rattle.narrowing.proofs.mirror_row.Reads as reads
+use Rattle.narrowing.proofs.mirror_row.Lts as lts
+
+abbrev Inv-loop : tie.InvT-loop
+Inv-loop t w a row₀ column b₀ row b = (b ≤ w) × (column ≡ w - 1 - a) × (length row ≡ w) × Filled (pos 0) (mirrored (w - 1) (entry w t) a) b row
+
+abbrev μ-loop : tie.MeasureT-loop
+μ-loop t w a row₀ column b₀ row b = w - b
+
+sub-column : tie.Need-sub-column Inv-loop μ-loop
+sub-column c = omega arith
+
+sub-column-2 : tie.Need-sub-column-2 Inv-loop μ-loop
+sub-column-2 c = omega arith
+
+loop-holds : tie.Need-loop-holds Inv-loop μ-loop
+loop-holds c = (omega arith, refl, c .pre .2, λ j h. absurd (omega arith))
+
+sub-row : tie.Need-sub-row Inv-loop μ-loop
+sub-row c = omega arith
+
+sub-row-2 : tie.Need-sub-row-2 Inv-loop μ-loop
+sub-row-2 c = omega arith
+
+mul-row : tie.Need-mul-row Inv-loop μ-loop
+mul-row c =
+    let st = c .before .before in
+    omega (arith, row-inside (st .args .w - 1 - c .before .loop .b) (st .args .w) (omega arith))
+
+add-row : tie.Need-add-row Inv-loop μ-loop
+add-row c =
+    let st = c .before .before in
+    omega (arith, row-inside (st .args .w - 1 - c .before .loop .b) (st .args .w) (omega arith))
+
+mul-row-2 : tie.Need-mul-row-2 Inv-loop μ-loop
+mul-row-2 c =
+    let st = c .before .before in
+    omega (arith, row-inside (st .args .w - 1 - c .before .loop .b) (st .args .w) (omega arith))
+
+shared-slice-copy-out-row : tie.Need-shared-slice-copy-out-row Inv-loop μ-loop
+shared-slice-copy-out-row c =
+    let st = c .before .before in
+    omega (arith, row-inside (st .args .w - 1 - c .before .loop .b) (st .args .w) (omega arith))
+
+mul-t16 : tie.Need-mul-t16 Inv-loop μ-loop
+mul-t16 c = omega arith
+
+slice-set-from-row : tie.Need-slice-set-from-row Inv-loop μ-loop
+slice-set-from-row c = omega arith
+
+add-b : tie.Need-add-b Inv-loop μ-loop
+add-b c = omega arith
+
+loop-less : tie.Need-loop-less Inv-loop μ-loop
+loop-less c = omega arith
+
+loop-again : tie.Need-loop-again Inv-loop μ-loop
+loop-again c =
+    let st = c .before .before .before in
+    let a = st .args in
+    let l = c .before .before .loop in
+    let t = a .t .now in
+    let i = (a .w - 1 - l .b) * a .w + (a .w - 1 - a .a) in
+    let f : SFits w16 (getD t i (pos 0)) = search needs in
+    (omega arith, refl, simp length-set (l .inv .2), simp (toZ-ofZ f) (filled-more (pos 0) (mirrored (a .w - 1) (entry (a .w) t) (a .a)) (l .b) (getD t i (pos 0)) (l .row) (omega arith) refl (l .inv .3)))
+
+same-length : tie.Need-same-length Inv-loop μ-loop
+same-length c = c .before .loop .inv .2 ∙ sym (c .before .before .pre .2)
+
+returns : tie.Need-returns Inv-loop μ-loop
+returns c =
+    let a = c .before .before .args in
+    let l = c .before .loop in
+    let e : l .b ≡ a .w = omega arith in
+    filled-list (mirrored (a .w - 1) (entry (a .w) (a .t .now)) (a .a)) (a .w) (l .row) (l .inv .2) (λ j h. l .inv .3 j (omega arith))
+
+pub mirror-row-spec : {M : Type 1} → statement M
+mirror-row-spec =
+    tie.close
+    (tie.spec
+    Inv-loop
+    μ-loop
+    sub-column
+    sub-column-2
+    loop-holds
+    sub-row
+    sub-row-2
+    mul-row
+    add-row
+    mul-row-2
+    shared-slice-copy-out-row
+    mul-t16
+    slice-set-from-row
+    add-b
+    loop-less
+    loop-again
+    same-length
+    returns)
