@@ -3,7 +3,7 @@
 use mathlib.Core.Path.{_≡_}
 use mathlib.Core.Bool.{cond}
 use mathlib.Core.List.{List, [], _∷_, _++_, map}
-use Prim.Native.Nat.{ℕ, zero, suc, _+_, _-_, _/_, _%_, _≤_}
+use Prim.Native.Nat.{ℕ, zero, suc, _+_, _-_, _*_, _/_, _%_, _≤_}
 use Prim.Native.Char.{code}
 use Prim.Native.String.{String, [] as end-of-text, _∷_ as _then_}
 use lib.Dec.{ltb, eqb}
@@ -11,6 +11,7 @@ use lib.ListN.{length, take, drop, getD}
 use lib.IntN.{ℤ, negℤ}
 use Rattle.integers.specs.Parts.{up, dn}
 use Rattle.lists.specs.Lists.{run, fromTo, howMany, joined}
+use Rattle.sheet.specs.Limits.{maxSlots, maxUnits}
 use Rattle.network.specs.Network.{Weights, around}
 use Rattle.network.specs.Table.{entry, mostBoundaries, listOf}
 
@@ -52,6 +53,10 @@ digits n = digitsWithin (suc n) n
 unfoldable pub planHead : ℕ → List ℕ
 planHead units = joined (text "(answer plan " ∷ digits units ∷ text ")\n" ∷ [])
 
+-- a line of one number
+unfoldable pub oneNumber : List ℕ → ℕ → List ℕ
+oneNumber word a = joined (word ∷ digits a ∷ text ")\n" ∷ [])
+
 -- a line of four numbers
 unfoldable pub fourNumbers : List ℕ → ℕ → List ℕ → ℕ → List ℕ → ℕ → ℕ → List ℕ
 fourNumbers first a second b third c d = joined (
@@ -67,6 +72,10 @@ unfoldable pub slotLine : ℕ → ℕ → ℕ → ℕ → List ℕ
 slotLine slot count least greatest = joined (
   text "(slot " ∷ digits slot ∷ text " (count " ∷ digits count ∷ text ") (range " ∷ digits least ∷ text " " ∷ digits greatest ∷ text "))\n" ∷ []
 )
+
+-- no line of a plan is longer: at most 28 bytes of words, and four numbers of at most five digits
+abbrev pub maxLine : ℕ
+maxLine = 48
 
 -- the line of the unit at a place of the lists; units are numbered from 1
 unfoldable pub unitLineAt : List ℕ → List ℕ → List ℕ → ℕ → List ℕ
@@ -100,6 +109,18 @@ leastFrom w table t = dn (entry w table t (t - 1))
 
 abbrev pub greatestFrom : ℕ → List ℤ → ℕ → ℕ
 greatestFrom w table t = up (entry w table (t - 1) t)
+
+-- a plan, its narrowed windows and a finished table that belong to one sheet
+pub record Printable (span : ℕ) (plan first last : List ℕ) (table : List ℤ) : Type 0 where
+  pub slots : span ≤ maxSlots
+  pub units : length plan ≤ maxUnits
+  pub earliest : length first ≡ length plan
+  pub latest : length last ≡ length plan
+  pub entries : (span + 1) * (span + 1) ≤ length table
+
+-- the page of a plan, with the least and greatest counts of the finished table
+abbrev pub tablePage : ℕ → List ℕ → List ℕ → List ℕ → List ℤ → List ℕ
+tablePage span slots earliest latest table = planPage span slots earliest latest (leastFrom (span + 1) table) (greatestFrom (span + 1) table)
 
 -- ---- the page of a ring
 

@@ -14,7 +14,7 @@ use lib.ListN.{length, take, drop, getD, set, length-append, length-set}
 use lib.Seq.{sets, length-sets, sets-eq}
 use borrow.Author.Tests.{lt-ltb, le-ltb}
 use Rattle.lists.specs.Lists.{run, fromTo, joined}
-use Rattle.page.specs.Page.{onto, Room, Written, text, digit, digitsWithin, digits}
+use Rattle.page.specs.Page.{onto, Room, Written, text, digit, digitsWithin, digits, oneNumber, fourNumbers, planHead, unitLines, slotLine, slotLineAt, slotLines, unitsIn, planPage}
 
 -- ---- writing one thing after another
 sets-append : (page : List ℕ) (at : ℕ) (xs ys : List ℕ) → sets (sets page at xs) (at + length xs) ys ≡ sets page at (xs ++ ys)
@@ -129,3 +129,75 @@ pub lines-end : {page₀ : List ℕ} {at₀ : ℕ} {whole page : List ℕ} {at :
 lines-end {page₀} {at₀} {whole} {page} {at} f i n h l =
     let e : n - i ≡ 0 = omega arith in
     pending-nothing (subst (λ k. Pending page₀ at₀ whole page at (map f (run i k))) e l)
+
+-- ---- lines that agree slot by slot
+map-run-same : (f g : ℕ → List ℕ) (i n : ℕ) → ((t : ℕ) → i ≤ t → t < i + n → f t ≡ g t) → map f (run i n) ≡ map g (run i n)
+map-run-same f g i zero e = refl
+map-run-same f g i (suc n) e = ap₂ (λ l ls. l ∷ ls) (e i (omega arith) (omega arith)) (map-run-same f g (suc i) n (λ t h k. e t (omega arith) (omega arith)))
+
+pub record SameSlots (span : ℕ) (f g : ℕ → ℕ) : Type 0 where
+  pub at : (t : ℕ) → 1 ≤ t → t ≤ span → f t ≡ g t
+
+pub slotLines-same : (span : ℕ) {count count′ least least′ greatest greatest′ : ℕ → ℕ} → SameSlots span count count′ → SameSlots span least least′
+    → SameSlots span greatest greatest′ → slotLines span count least greatest ≡ slotLines span count′ least′ greatest′
+unfolding slotLines slotLineAt
+slotLines-same span {count} {count′} {least} {least′} {greatest} {greatest′} c l g =
+    ap joined
+    (map-run-same (slotLineAt count least greatest) (slotLineAt count′ least′ greatest′) 1 (suc span - 1)
+    (λ t h k. let m : t ≤ span = omega arith in rw (c .at t h m, l .at t h m, g .at t h m)))
+
+-- a plan's page depends on the least and greatest counts of its slots alone
+pub planPage-same : (span : ℕ) (slots earliest latest : List ℕ) {least least′ greatest greatest′ : ℕ → ℕ} → SameSlots span least least′
+    → SameSlots span greatest greatest′ → planPage span slots earliest latest least greatest ≡ planPage span slots earliest latest least′ greatest′
+unfolding planPage
+planPage-same span slots earliest latest l g =
+    ap (λ ls. joined (planHead (length slots) ∷ unitLines slots earliest latest ∷ ls ∷ []))
+    (slotLines-same span (record { at = λ t h k. refl }) l g)
+
+-- ---- lengths
+pub length-one : (n : ℕ) → n < 10 → length (digits n) ≡ 1
+length-one n h = ap length (digits-one n h)
+
+pub length-more : (n : ℕ) → 10 ≤ n → length (digits n) ≡ suc (length (digits (n / 10)))
+length-more n h =
+    ap length (digits-last n h) ∙ length-append (digits (n / 10)) (digits (n % 10)) ∙ omega (arith, length-one (n % 10) (omega arith))
+
+pub length-two : (n : ℕ) → 10 ≤ n → n < 100 → length (digits n) ≡ 2
+length-two n h k = length-more n h ∙ ap suc (length-one (n / 10) (omega arith))
+
+pub length-three : (n : ℕ) → 100 ≤ n → n < 1000 → length (digits n) ≡ 3
+length-three n h k = length-more n (omega arith) ∙ ap suc (length-two (n / 10) (omega arith) (omega arith))
+
+pub length-four : (n : ℕ) → 1000 ≤ n → n < 10000 → length (digits n) ≡ 4
+length-four n h k = length-more n (omega arith) ∙ ap suc (length-three (n / 10) (omega arith) (omega arith))
+
+pub length-five : (n : ℕ) → 10000 ≤ n → n < 100000 → length (digits n) ≡ 5
+length-five n h k = length-more n (omega arith) ∙ ap suc (length-four (n / 10) (omega arith) (omega arith))
+
+pub fourNumbers-length : (first : List ℕ) (a : ℕ) (second : List ℕ) (b : ℕ) (third : List ℕ) (c d : ℕ)
+    → length (fourNumbers first a second b third c d)
+      ≡ length first + length second + length third + 4
+        + (length (digits a) + (length (digits b) + (length (digits c) + length (digits d))))
+unfolding fourNumbers text
+fourNumbers-length first a second b third c d = simp length-append (omega arith)
+
+pub oneNumber-length : (word : List ℕ) (a : ℕ) → length (oneNumber word a) ≡ length word + 2 + length (digits a)
+unfolding oneNumber text
+oneNumber-length word a = simp length-append (omega arith)
+
+-- what is counted and the length of the lines from i to n make up the whole
+pub record Measured (f : ℕ → List ℕ) (whole : List ℕ) (n i total : ℕ) : Type 0 where
+  pub rest : total + length (joined (map f (run i (n - i)))) ≡ length whole
+
+pub measured-next : {f : ℕ → List ℕ} {whole : List ℕ} {n i total line : ℕ} → i < n → line ≡ length (f i) → Measured f whole n i total
+    → Measured f whole n (i + 1) (total + line)
+measured-next {f} {whole} {n} {i} {total} {line} h e m =
+    let k : n - i ≡ suc (n - (i + 1)) = omega arith in
+    let l = ap (λ k. length (joined (map f (run i k)))) k ∙ length-append (f i) (joined (map f (run (suc i) (n - (i + 1))))) in
+    let next = ap (λ k. length (joined (map f (run k (n - (i + 1)))))) (add-one i) in
+    record { rest = omega (arith, m .rest) }
+
+pub measured-end : {f : ℕ → List ℕ} {whole : List ℕ} {n i total : ℕ} → n ≤ i → Measured f whole n i total → total ≡ length whole
+measured-end {f} {whole} {n} {i} {total} h m =
+    let e : n - i ≡ 0 = omega arith in
+    omega (arith, m .rest, ap (λ k. length (joined (map f (run i k)))) e)

@@ -5,8 +5,8 @@ ghost use lib.ListN.{length, getD, replicate};
 ghost use lib.IntN.{ℤ, pos};
 ghost use Rattle.integers.specs.Parts.{up, dn};
 ghost use Rattle.network.specs.Table.{entry, mostBoundaries};
-ghost use Rattle.sheet.specs.Limits.{maxUnits};
-ghost use Rattle.page.specs.Page.{Room, Written, text, digits, fourNumbers, planHead, unitLine, slotLine, unitLines, slotLines, tally, leastFrom, greatestFrom};
+ghost use Rattle.sheet.specs.Limits.{maxSlots, maxUnits};
+ghost use Rattle.page.specs.Page.{Room, Written, text, digits, oneNumber, fourNumbers, maxLine, unitLine, slotLine, unitLines, slotLines, tally, leastFrom, greatestFrom, Printable, tablePage};
 
 // The answer page. Every function that writes takes the page and a place, writes from there on, and gives the place just past what it
 // wrote; a caller has asked for the length before.
@@ -96,6 +96,14 @@ fn put_pair(page: &mut [u8], at: usize, word: &[u8], n: u16) -> usize
     put_number(page, next, n)
 }
 
+fn put_one_number(page: &mut [u8], at: usize, word: &[u8], a: u16) -> usize
+    requires { ⌜ Room (now page) at (oneNumber (now word) a) ⌝ }
+    ensures { λ r. ⌜ Written (now (page .entry)) at (oneNumber (now (word .entry)) a) (now (page .exit)) r ⌝ }
+{
+    let next = put_pair(page, at, word, a);
+    put_word(page, next, b")\n")
+}
+
 fn put_four_numbers(
     page: &mut [u8],
     at: usize,
@@ -180,4 +188,137 @@ fn below(x: i16) -> u16
     ensures { λ r. ⌜ r ≡ dn x ⌝ }
 {
     if x < 0 { (-(x as i32)) as u16 } else { 0 }
+}
+
+// The least count of a slot over lawful plans, from the finished table.
+fn least_of(table: &[i16], span: usize, t: usize) -> u16
+    requires { ⌜ (1 ≤ t) × (t ≤ span) × (span ≤ maxSlots) × ((span + 1) * (span + 1) ≤ length (now table)) ⌝ }
+    ensures { λ r. ⌜ r ≡ leastFrom (span + 1) (now (table .entry)) t ⌝ }
+{
+    below(entry_at(table, span + 1, t, t - 1))
+}
+
+fn greatest_of(table: &[i16], span: usize, t: usize) -> u16
+    requires { ⌜ (1 ≤ t) × (t ≤ span) × (span ≤ maxSlots) × ((span + 1) * (span + 1) ≤ length (now table)) ⌝ }
+    ensures { λ r. ⌜ r ≡ greatestFrom (span + 1) (now (table .entry)) t ⌝ }
+{
+    above(entry_at(table, span + 1, t - 1, t))
+}
+
+fn put_slots(page: &mut [u8], at: usize, span: usize, counts: &[u16], table: &[i16]) -> usize
+    requires { ⌜ (span ≤ maxSlots) × ((span + 1) * (span + 1) ≤ length (now table)) × (length (now counts) ≡ mostBoundaries) ⌝ }
+    requires { ⌜ Room (now page) at (slotLines span (λ t. getD (now counts) t 0) (leastFrom (span + 1) (now table)) (greatestFrom (span + 1) (now table))) ⌝ }
+    ensures { λ r. ⌜ Written (now (page .entry)) at
+        (slotLines span (λ t. getD (now (counts .entry)) t 0) (leastFrom (span + 1) (now (table .entry))) (greatestFrom (span + 1) (now (table .entry))))
+        (now (page .exit)) r ⌝ }
+{
+    let mut next = at;
+    let mut t = 1;
+    while t <= span {
+        next = put_slot(page, next, t as u16, counts[t], least_of(table, span, t), greatest_of(table, span, t));
+        t += 1;
+    }
+    next
+}
+
+pub fn put_plan(
+    page: &mut [u8],
+    at: usize,
+    span: usize,
+    plan: &[u16],
+    earliest: &[u16],
+    latest: &[u16],
+    counts: &[u16],
+    table: &[i16],
+) -> usize
+    requires { ⌜ Printable span (now plan) (now earliest) (now latest) (now table) ⌝ }
+    requires { ⌜ now counts ≡ tally (now plan) ⌝ }
+    requires { ⌜ Room (now page) at (tablePage span (now plan) (now earliest) (now latest) (now table)) ⌝ }
+    ensures { λ r. ⌜ Written (now (page .entry)) at
+        (tablePage span (now (plan .entry)) (now (earliest .entry)) (now (latest .entry)) (now (table .entry))) (now (page .exit)) r ⌝ }
+{
+    let units = put_one_number(page, at, b"(answer plan ", plan.len() as u16);
+    let slots = put_units(page, units, plan, earliest, latest);
+    put_slots(page, slots, span, counts, table)
+}
+
+fn digit_count(n: u16) -> usize
+    ensures { λ r. ⌜ (r ≡ length (digits n)) × (r ≤ 5) ⌝ }
+{
+    if n < 10 {
+        return 1;
+    }
+    if n < 100 {
+        return 2;
+    }
+    if n < 1000 {
+        return 3;
+    }
+    if n < 10000 {
+        return 4;
+    }
+    5
+}
+
+fn four_digit_counts(a: u16, b: u16, c: u16, d: u16) -> usize
+    ensures { λ r. ⌜ (r ≡ length (digits a) + (length (digits b) + (length (digits c) + length (digits d)))) × (r ≤ 20) ⌝ }
+{
+    digit_count(a) + (digit_count(b) + (digit_count(c) + digit_count(d)))
+}
+
+fn unit_length(unit: u16, slot: u16, earliest: u16, latest: u16) -> usize
+    ensures { λ r. ⌜ (r ≡ length (unitLine unit slot earliest latest)) × (r ≤ maxLine) ⌝ }
+{
+    28 + four_digit_counts(unit, slot, earliest, latest)
+}
+
+fn slot_length(slot: u16, count: u16, least: u16, greatest: u16) -> usize
+    ensures { λ r. ⌜ (r ≡ length (slotLine slot count least greatest)) × (r ≤ maxLine) ⌝ }
+{
+    27 + four_digit_counts(slot, count, least, greatest)
+}
+
+fn units_length(plan: &[u16], earliest: &[u16], latest: &[u16]) -> usize
+    requires { ⌜ (length (now earliest) ≡ length (now plan)) × (length (now latest) ≡ length (now plan)) × (length (now plan) ≤ maxUnits) ⌝ }
+    ensures { λ r. ⌜ (r ≡ length (unitLines (now (plan .entry)) (now (earliest .entry)) (now (latest .entry)))) × (r ≤ maxUnits * maxLine) ⌝ }
+{
+    let mut total = 0;
+    let mut j = 0;
+    while j < plan.len() {
+        total += unit_length((j + 1) as u16, plan[j], earliest[j], latest[j]);
+        j += 1;
+    }
+    total
+}
+
+fn slots_length(span: usize, counts: &[u16], table: &[i16]) -> usize
+    requires { ⌜ (span ≤ maxSlots) × ((span + 1) * (span + 1) ≤ length (now table)) × (length (now counts) ≡ mostBoundaries) ⌝ }
+    ensures { λ r. ⌜ (r ≡ length
+        (slotLines span (λ t. getD (now (counts .entry)) t 0) (leastFrom (span + 1) (now (table .entry))) (greatestFrom (span + 1) (now (table .entry)))))
+        × (r ≤ maxSlots * maxLine) ⌝ }
+{
+    let mut total = 0;
+    let mut t = 1;
+    while t <= span {
+        total += slot_length(t as u16, counts[t], least_of(table, span, t), greatest_of(table, span, t));
+        t += 1;
+    }
+    total
+}
+
+// The length of the page of a plan, known before the first byte is written.
+pub fn plan_length(
+    span: usize,
+    plan: &[u16],
+    earliest: &[u16],
+    latest: &[u16],
+    counts: &[u16],
+    table: &[i16],
+) -> usize
+    requires { ⌜ Printable span (now plan) (now earliest) (now latest) (now table) ⌝ }
+    requires { ⌜ now counts ≡ tally (now plan) ⌝ }
+    ensures { λ r. ⌜ r ≡ length (tablePage span (now (plan .entry)) (now (earliest .entry)) (now (latest .entry)) (now (table .entry))) ⌝ }
+{
+    let head = 15 + digit_count(plan.len() as u16);
+    head + (units_length(plan, earliest, latest) + slots_length(span, counts, table))
 }
