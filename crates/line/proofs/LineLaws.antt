@@ -26,7 +26,7 @@ use Rattle.notes.specs.ReaderLaws.{list-matched}
 use Rattle.notes.specs.declared.End.the-variants as End
 use Rattle.line.specs.Lines.{firstLine}
 use Rattle.line.specs.LinesLaws.{lineEnd}
-use Rattle.line.specs.Content.{Content, isNote, noteMatched, contentOf, sheetWith, unitWith, ruleWith}
+use Rattle.line.specs.Content.{Content, isNote, noteMatched, bracketsMatch, contentOf, sheetWith, unitWith, ruleWith}
 use Rattle.line.specs.Line.{said, lineOf, pairOf, formContent, printableKind}
 use Rattle.line.specs.declared.Line.{Line}
 use Rattle.line.specs.declared.Line.the-variants.{Refused, Note, Sheet, Unit, Rule}
@@ -288,6 +288,14 @@ form-content l false true t = refl
 form-content l false false true = refl
 form-content l false false false = refl
 
+-- only notes are asked about brackets
+form-brackets : (l : List ℕ) (q r t : Bool)
+    → bracketsMatch (cond q (sheetWith (numbers sheetForm l)) (cond r (unitWith (numbers unitForm l)) (cond t (ruleWith (numbers ruleForm l)) Content.other))) l ≡ true
+form-brackets l true r t = refl
+form-brackets l false true t = refl
+form-brackets l false false true = refl
+form-brackets l false false false = refl
+
 module _ (l : List ℕ) (k : Kind) (ended : Bool) (e : k ≡ kindOf l) where
   is-printable : printableKind k ≡ printable l
   unfolding kindOf formOf
@@ -299,7 +307,7 @@ module _ (l : List ℕ) (k : Kind) (ended : Bool) (e : k ≡ kindOf l) where
 
   module _ (p : printableKind k ≡ true) where
     pub asks-brackets : isNote l ≡ true → noteMatched l ≡ false → Refused 11 ≡ lineOf l ended
-    unfolding lineOf
+    unfolding lineOf contentOf
     asks-brackets n c = simp (sym is-printable ∙ p, n, c)
 
     pub is-note-line : isNote l ≡ true → noteMatched l ≡ true → ended ≡ true → Note ≡ lineOf l ended
@@ -307,17 +315,17 @@ module _ (l : List ℕ) (k : Kind) (ended : Bool) (e : k ≡ kindOf l) where
     is-note-line n c f = simp (sym is-printable ∙ p, n, c, f)
 
     pub asks-note-feed : isNote l ≡ true → noteMatched l ≡ true → ended ≡ false → Refused 3 ≡ lineOf l ended
-    unfolding lineOf
+    unfolding lineOf contentOf
     asks-note-feed n c f = simp (sym is-printable ∙ p, n, c, f)
 
     pub asks-feed : isNote l ≡ false → ended ≡ false → Refused 3 ≡ lineOf l ended
-    unfolding lineOf
-    asks-feed n f = simp (sym is-printable ∙ p, n, f)
+    unfolding lineOf contentOf
+    asks-feed n f = simp (sym is-printable ∙ p, n, f, form-brackets l (matches sheetForm l) (matches unitForm l) (matches ruleForm l))
 
     pub is-form-line : isNote l ≡ false → ended ≡ true → said (formContent k l) ≡ lineOf l ended
     unfolding lineOf contentOf kindOf formOf
     is-form-line n f =
         let q : printable l ≡ true = sym is-printable ∙ p in
         let m : k ≡ formOf l = e ∙ ap (λ (b : Bool). cond b (formOf l) Kind.Unprintable) q in
-        simp (q, n, f)
+        simp (q, n, f, form-brackets l (matches sheetForm l) (matches unitForm l) (matches ruleForm l))
         (ap (λ (j : Kind). said (formContent j l)) m ∙ ap said (form-content l (matches sheetForm l) (matches unitForm l) (matches ruleForm l)))

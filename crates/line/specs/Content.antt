@@ -1,10 +1,10 @@
 -- What a line is, by its bytes, and question 11. Definitions only.
 use Prim.Native.Nat.{ℕ}
-use mathlib.Core.Bool.{Bool, _&&_, _||_, cond}
+use mathlib.Core.Bool.{Bool, true, _||_, cond}
 use mathlib.Core.List.{List, [], _∷_, _++_}
 use lib.ListN.{drop, getD}
 use Rattle.form.specs.Words.{space, closing, openNote}
-use Rattle.form.specs.Form.{Piece, sheetForm, unitForm, ruleForm, startsWith, matches, numbers}
+use Rattle.form.specs.Form.{sheetForm, unitForm, ruleForm, startsWith, matches, numbers}
 use Rattle.notes.specs.Note.{matched}
 
 -- a note, a form with the digits of its numbers, or neither
@@ -19,9 +19,17 @@ pub data Content : Type 0 where
 unfoldable pub isNote : List ℕ → Bool
 isNote line = startsWith (openNote ++ (space ∷ [])) line || startsWith (openNote ++ (closing ∷ [])) line
 
--- question 11: past the note's own bracket, that one is open
+-- past the note's own bracket, that one is open
 unfoldable pub noteMatched : List ℕ → Bool
 noteMatched line = matched (drop 1 line) 1
+
+-- question 11
+abbrev pub bracketsMatch : Content → List ℕ → Bool
+bracketsMatch note line = noteMatched line
+bracketsMatch (sheet p) line = true
+bracketsMatch (unit f l) line = true
+bracketsMatch (rule a b lo hi) line = true
+bracketsMatch other line = true
 
 abbrev pub sheetWith : List (List ℕ) → Content
 sheetWith ns = sheet (getD ns 0 [])

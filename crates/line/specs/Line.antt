@@ -1,13 +1,13 @@
 -- What the line reader answers: questions 2, 11, 3 and 4 of one line, in this order, and else its values.
 use Prim.Native.Nat.{ℕ, _+_}
-use mathlib.Core.Bool.{Bool, true, false, _&&_, not, cond}
+use mathlib.Core.Bool.{Bool, true, false, _&&_, cond}
 use mathlib.Core.List.{List, []}
 use lib.ListN.{length, drop}
 use Rattle.lists.specs.Lists.{every}
 use Rattle.form.specs.Form.{printable, leading, past, plain, value, numbers, sheetForm, unitForm, ruleForm}
 use Rattle.form.specs.declared.Kind.{Kind}
 use Rattle.form.specs.declared.Kind.the-variants as Kind
-use Rattle.line.specs.Content.{Content, note, sheet, unit, rule, other, isNote, noteMatched, contentOf, numbersIn, sheetWith, unitWith, ruleWith}
+use Rattle.line.specs.Content.{Content, note, sheet, unit, rule, other, bracketsMatch, contentOf, numbersIn, sheetWith, unitWith, ruleWith}
 use Rattle.line.specs.declared.Line.{Line}
 use Rattle.line.specs.declared.Line.the-variants.{Refused, Note, Sheet, Unit, Rule}
 use Rattle.line.specs.declared.Pair.{Pair}
@@ -26,9 +26,8 @@ said x = cond (every plain (numbersIn x)) (valuesOf x) (Refused 4)
 
 unfoldable pub lineOf : List ℕ → Bool → Line
 lineOf line ended =
-    cond (printable line)
-    (cond (isNote line && not (noteMatched line)) (Refused 11) (cond ended (said (contentOf line)) (Refused 3)))
-    (Refused 2)
+    let x = contentOf line in
+    cond (printable line) (cond (bracketsMatch x line) (cond ended (said x) (Refused 3)) (Refused 11)) (Refused 2)
 
 -- what a line is that is no note, by its kind
 abbrev pub formContent : Kind → List ℕ → Content
