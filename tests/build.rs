@@ -12,8 +12,10 @@ fn main() {
     println!("cargo:rerun-if-changed=build.rs");
     println!("cargo:rerun-if-env-changed=TUGROKT_WAVE");
     for name in ["reader", "planner", "page"] {
-        let linked = env::var_os(format!("DEP_TUGROKT_{}", name.to_uppercase())).is_some();
-        tell(name, linked);
+        let upper = name.to_uppercase();
+        let archive = env::var(format!("DEP_TUGROKT_{upper}"));
+        println!("cargo:rustc-env=LIBRARY_{upper}={}", archive.as_deref().unwrap_or_default());
+        tell(name, archive.is_ok());
     }
     let root = Path::new(&env::var("CARGO_MANIFEST_DIR").unwrap()).join("..").canonicalize().unwrap();
     let program = match env::var("TUGROKT_WAVE") {

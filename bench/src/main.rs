@@ -1,1 +1,213 @@
-fn main() {}
+//! Measures the planner and a plain Rust implementation of the same job side by side, in one run.
+//!
+//!     cargo run --release                        all cases: times and ratios
+//!     cargo run --release -- CASE..              some cases, by the start of their names
+//!     cargo run --release -- --list              the names of the cases
+//!     cargo run --release -- --count CASE SIDE JOB N     does one job N times and prints nothing, for an instruction counter
+//!
+//! Both sides get the same texts and lists. The planner's rooms and page are made once and lent again and again without being
+//! cleared; the plain implementation returns vectors of its own. A time is the least of many rounds, in which the two sides take
+//! turns. Before anything is measured the two sides' pages are compared.
+
+mod cases;
+
+use std::hint::black_box;
+use std::time::{Duration, Instant};
+
+use cases::Case;
+
+/// What is measured: reading alone, planning alone (table, seats, narrowed windows or ring), and the whole way from a text to
+/// a page.
+#[derive(Clone, Copy, PartialEq)]
+enum Job {
+    Read,
+    Plan,
+    Whole,
+}
+
+const JOBS: [(Job, &str); 3] = [(Job::Read, "read"), (Job::Plan, "plan"), (Job::Whole, "whole")];
+
+/// A side does a job on each sheet of a case.
+trait Side {
+    fn run(&mut self, case: &Case, job: Job);
+    fn page(&mut self, text: &[u8]) -> Vec<u8>;
+}
+
+struct Plain;
+
+impl Side for Plain {
+    fn run(&mut self, case: &Case, job: Job) {
+        for (text, sheet) in case.texts.iter().zip(&case.sheets) {
+            match job {
+                Job::Read => drop(black_box(plain::read(black_box(text)))),
+                Job::Plan => drop(black_box(plain::plan(black_box(sheet)))),
+                Job::Whole => drop(black_box(self.page(black_box(text)))),
+            }
+        }
+    }
+
+    fn page(&mut self, text: &[u8]) -> Vec<u8> {
+        let sheet = plain::read(text).expect("the cases are sheets");
+        plain::print(&sheet, &plain::plan(&sheet))
+    }
+}
+
+#[cfg(has_planner)]
+mod planner {
+    use super::{black_box, Case, Job, Side};
+    use tugrokt::entry::{self, Counts, ListRooms, Lists, Rooms};
+    use tugrokt::{LONGEST_PAGE, MOST_RULES, MOST_SLOTS, MOST_UNITS};
+
+    /// The planner, with rooms that are lent again and again.
+    pub struct Planner {
+        lists: [Vec<u16>; 6],
+        table: Vec<i16>,
+        rooms: [Vec<u16>; 3],
+        ring: Vec<u16>,
+        page: Vec<u8>,
+    }
+
+    impl Planner {
+        pub fn new() -> Planner {
+            let [u, r] = [MOST_UNITS, MOST_RULES];
+            Planner {
+                lists: [u, u, r, r, r, r].map(|length| vec![0; length]),
+                table: vec![0; (MOST_SLOTS + 1) * (MOST_SLOTS + 1)],
+                rooms: [u, u, u].map(|length| vec![0; length]),
+                ring: vec![0; MOST_SLOTS + 1],
+                page: vec![0; LONGEST_PAGE],
+            }
+        }
+
+        fn read(&mut self, text: &[u8]) -> Counts {
+            let [first, last, from, to, low, high] = &mut self.lists;
+            let mut counts = Counts::default();
+            let reply = entry::read(text, ListRooms { first, last, from, to, low, high }, &mut counts);
+            assert_eq!(reply, 0, "the cases are sheets");
+            counts
+        }
+
+        fn plan(&mut self, sheet: &plain::Sheet) -> usize {
+            let plain::Sheet { span, first, last, from, to, low, high } = sheet;
+            let [plan, earliest, latest] = &mut self.rooms;
+            let mut length = 0;
+            let reply = entry::plan(
+                Lists { span: *span, first, last, from, to, low, high },
+                Rooms { table: &mut self.table, plan, earliest, latest, ring: &mut self.ring },
+                &mut length,
+            );
+            assert_eq!(reply, 0, "the cases are sheets");
+            length
+        }
+
+        fn whole(&mut self, text: &[u8]) -> usize {
+            let Counts { span, units, rules, .. } = self.read(text);
+            let [first, last, from, to, low, high] = &self.lists;
+            let [plan, earliest, latest] = &mut self.rooms;
+            let mut place = 0;
+            let reply = entry::print(
+                Lists {
+                    span,
+                    first: &first[..units],
+                    last: &last[..units],
+                    from: &from[..rules],
+                    to: &to[..rules],
+                    low: &low[..rules],
+                    high: &high[..rules],
+                },
+                Rooms { table: &mut self.table, plan, earliest, latest, ring: &mut self.ring },
+                &mut self.page,
+                &mut place,
+            );
+            assert_eq!(reply, 0, "the page is long enough");
+            place
+        }
+    }
+
+    impl Side for Planner {
+        fn run(&mut self, case: &Case, job: Job) {
+            for (text, sheet) in case.texts.iter().zip(&case.sheets) {
+                match job {
+                    Job::Read => drop(black_box(self.read(black_box(text)))),
+                    Job::Plan => drop(black_box(self.plan(black_box(sheet)))),
+                    Job::Whole => drop(black_box(self.whole(black_box(text)))),
+                }
+            }
+        }
+
+        fn page(&mut self, text: &[u8]) -> Vec<u8> {
+            let place = self.whole(text);
+            self.page[..place].to_vec()
+        }
+    }
+}
+
+/// The sides' names, the planner first.
+fn sides() -> Vec<(&'static str, Box<dyn Side>)> {
+    vec![
+        #[cfg(has_planner)]
+        ("planner", Box::new(planner::Planner::new()) as Box<dyn Side>),
+        ("plain", Box::new(Plain) as Box<dyn Side>),
+    ]
+}
+
+/// The least time of a job, a sheet, for each side, in nanoseconds.
+fn measure(case: &Case, job: Job, sides: &mut [(&'static str, Box<dyn Side>)]) -> Vec<f64> {
+    // Enough repetitions for a round of a millisecond: short rounds, so that some of them are undisturbed.
+    let start = Instant::now();
+    sides.last_mut().unwrap().1.run(case, job);
+    let once = start.elapsed().max(Duration::from_nanos(100));
+    let times = (Duration::from_millis(1).as_nanos() / once.as_nanos()).clamp(1, 100_000) as u32;
+    let mut least = vec![f64::INFINITY; sides.len()];
+    for _ in 0..60 {
+        for (side, least) in sides.iter_mut().zip(&mut least) {
+            let start = Instant::now();
+            for _ in 0..times {
+                side.1.run(case, job);
+            }
+            let time = start.elapsed().as_nanos() as f64 / times as f64 / case.texts.len() as f64;
+            *least = least.min(time);
+        }
+    }
+    least
+}
+
+/// Both sides print the same page, or different rings of one sheet.
+fn compare(case: &Case, sides: &mut [(&'static str, Box<dyn Side>)]) {
+    for text in &case.texts {
+        let pages: Vec<Vec<u8>> = sides.iter_mut().map(|side| side.1.page(text)).collect();
+        let head = b"(answer none)\n";
+        let agree = pages.iter().all(|p| *p == pages[0] || (p.starts_with(head) && pages[0].starts_with(head)));
+        assert!(agree, "{}: the two sides' pages differ on\n{}", case.name, String::from_utf8_lossy(text));
+    }
+}
+
+fn main() {
+    let words: Vec<String> = std::env::args().skip(1).collect();
+    let mut sides = sides();
+    match words.first().map(String::as_str) {
+        Some("--list") => cases::NAMES.iter().for_each(|name| println!("{name}")),
+        Some("--count") => {
+            let [_, name, side, job, times] = &words[..] else { panic!("--count CASE SIDE JOB N") };
+            let case = cases::make(name);
+            let job = JOBS.iter().find(|j| j.1 == job).expect("a job: read, plan or whole").0;
+            let side = sides.iter_mut().find(|s| s.0 == side).expect("a side: planner or plain");
+            for _ in 0..times.parse().expect("a number of times") {
+                side.1.run(&case, job);
+            }
+        }
+        _ => {
+            println!("{:14} {:6} {:>12} {:>12} {:>7}", "nanoseconds", "job", sides[0].0, "plain", "ratio");
+            let chosen = |name: &&&str| words.is_empty() || words.iter().any(|w| name.starts_with(w.as_str()));
+            for name in cases::NAMES.iter().filter(chosen) {
+                let case = cases::make(name);
+                compare(&case, &mut sides);
+                for (job, job_name) in JOBS {
+                    let least = measure(&case, job, &mut sides);
+                    let (ours, theirs) = (least[0], least[least.len() - 1]);
+                    println!("{name:14} {job_name:6} {ours:12.0} {theirs:12.0} {:7.2}", ours / theirs);
+                }
+            }
+        }
+    }
+}

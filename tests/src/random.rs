@@ -159,25 +159,25 @@ pub fn any_sheet(r: &mut Random) -> Sheet {
         }
         3 => {
             let (n, k, widest) = (r.between(0, 300), r.between(0, 60), r.between(1, 48));
-            sheet_around(r, 48, n, k, widest, 2, 0)
+            sheet_around(r, 48, n, k, widest, 2, 4)
         }
         4 => {
             let (k, widest) = (r.between(0, 60), r.between(1, 48));
-            sheet_around(r, 48, 300, k, widest, 0, 1)
+            sheet_around(r, 48, 300, k, widest, 0, 3)
         }
         5 => {
             let (span, n, k) = (r.between(2, 48), r.between(0, 40), r.between(0, 20));
             let widest = r.between(1, span);
-            sheet_around(r, span, n, k, widest, 1, 5)
+            sheet_around(r, span, n, k, widest, 1, 10)
         }
         6 => {
             let (span, n, k) = (r.between(2, 12), r.between(0, 20), r.between(1, 30));
             let widest = r.between(1, span);
-            sheet_around(r, span, n, k, widest, 0, 2)
+            sheet_around(r, span, n, k, widest, 0, 5)
         }
         _ => {
             let (span, n, k) = (r.between(1, 48), r.between(0, 300), r.between(0, 10));
-            sheet_around(r, span, n, k, span, 3, 3)
+            sheet_around(r, span, n, k, span, 3, 10)
         }
     }
 }

@@ -101,24 +101,23 @@ fn narrowed_windows_run_over_impossible_slots() {
     }
 }
 
-/// Seats go by the windows as given. Narrowed windows would give another plan here.
+/// Seats go by the windows as given: here both units are narrowed to 1-2, and line order would decide.
 #[test]
 fn seats_ignore_narrowed_windows() {
-    let mut told_apart = 0;
-    for i in 0..effort(2_000) {
-        let mut r = Random::of_case(seed(11), i);
-        let sheet = small_sheet(&mut r);
-        let Some(solved) = enumerated::solve(&sheet) else { continue };
-        let narrow: Vec<(u16, u16)> = windows(&solved);
-        let mut narrowed = sheet.clone();
-        for (u, (first, last)) in narrowed.units.iter_mut().zip(narrow) {
-            (u.first, u.last) = (first, last);
-        }
-        let w = sheet.boundaries();
-        let by_end: Vec<i64> = (0..w).map(|b| solved.table[b] as i64).collect();
-        told_apart += (computed::seats(&narrowed, &by_end) != solved.plan) as usize;
+    let sheet = Sheet::new(3, &[(1, 3), (1, 2)], &[(1, 2, 2, 3), (2, 3, 1, 2)]);
+    for solved in [enumerated::solve(&sheet).unwrap(), computed::solve(&sheet).unwrap()] {
+        assert_eq!(windows(&solved), [(1, 2), (1, 2)]);
+        assert_eq!(solved.plan, [2, 1]);
     }
-    assert!(told_apart > 0, "no sheet tells given from narrowed windows");
+}
+
+/// Cycles can use a cut window twice: no single limit shuts slot 2 out for the first unit, all together do.
+#[test]
+fn a_cut_window_counts_more_than_once() {
+    let sheet = Sheet::new(4, &[(2, 4), (1, 3)], &[(1, 2, 0, 1), (2, 3, 0, 1)]);
+    for solved in [enumerated::solve(&sheet).unwrap(), computed::solve(&sheet).unwrap()] {
+        assert_eq!(solved.earliest[0], 3);
+    }
 }
 
 #[test]
@@ -201,7 +200,7 @@ fn large_sheets_are_answered_lawfully() {
             }
         }
     }
-    assert!(plans > 20 && nones > 20, "{plans} plans, {nones} none");
+    assert!(plans * 5 > nones && nones * 5 > plans, "{plans} plans, {nones} none");
 }
 
 #[test]

@@ -1,0 +1,103 @@
+//! The sheets that are measured.
+
+use reference::random::{largest_sheet, paper_sheet, Random};
+use reference::sheet::{Sheet, Unit};
+
+pub struct Case {
+    pub name: String,
+    pub texts: Vec<Vec<u8>>,
+    pub sheets: Vec<plain::Sheet>,
+}
+
+/// Sheets as in 001, section 4, by their number of units, rules and slots; the largest sheets, loose, tight, and with no plan by
+/// one unit; sheets whose narrowing has much to do; and the smallest.
+pub const NAMES: [&str; 13] = [
+    "paper-10", "paper-16", "paper-24", "paper-32", "largest-loose", "largest-tight", "largest-none", "narrowing", "distinct",
+    "chain-2", "chain-4", "staircase", "smallest",
+];
+
+/// The dearest sheet that a search for costly narrowing found.
+const NARROWING: &[u8] = include_bytes!("../sheets/narrowing.txt");
+
+pub fn make(name: &str) -> Case {
+    let of_paper = |n| (0..50).map(|i| paper_sheet(&mut Random::of_case(1, i), n)).collect();
+    let largest = |slack| (0..5).map(|i| largest_sheet(&mut Random::of_case(2, i), slack, 48)).collect::<Vec<_>>();
+    let sheets: Vec<Sheet> = match name {
+        "paper-10" => of_paper(10),
+        "paper-16" => of_paper(16),
+        "paper-24" => of_paper(24),
+        "paper-32" => of_paper(32),
+        "largest-loose" => largest(3),
+        "largest-tight" => largest(0),
+        "largest-none" => largest(0).into_iter().map(none_by_one).collect(),
+        "narrowing" => vec![reference::reading::read(NARROWING).expect("a sheet")],
+        "distinct" => (0..5).map(distinct).collect(),
+        "chain-2" => vec![chain(2)],
+        "chain-4" => vec![chain(4)],
+        "staircase" => vec![staircase()],
+        "smallest" => vec![Sheet::new(1, &[], &[])],
+        _ => panic!("no case {name}; --list has them"),
+    };
+    let texts: Vec<Vec<u8>> = sheets.iter().map(Sheet::text).collect();
+    let sheets = texts.iter().map(|text| plain::read(text).expect("a sheet")).collect();
+    Case { name: name.into(), texts, sheets }
+}
+
+/// A tight sheet, one of whose rules wants one unit more: of all rules that leave no plan so, the one with the longest ring.
+fn none_by_one(sheet: Sheet) -> Sheet {
+    let changed = (0..sheet.rules.len()).filter(|&i| sheet.rules[i].high < 300).map(|i| {
+        let mut changed = sheet.clone();
+        changed.rules[i].low += 1;
+        changed.rules[i].high += 1;
+        changed
+    });
+    changed.max_by_key(ring_length).expect("a rule below 300")
+}
+
+fn ring_length(sheet: &Sheet) -> usize {
+    match answer(sheet) {
+        plain::Answer::Plan { .. } => 0,
+        plain::Answer::None { ring } => ring.len(),
+    }
+}
+
+fn answer(sheet: &Sheet) -> plain::Answer {
+    plain::plan(&plain::read(&sheet.text()).expect("a sheet"))
+}
+
+/// 300 different windows, and tight rules.
+fn distinct(i: usize) -> Sheet {
+    let r = &mut Random::of_case(3, i);
+    let mut sheet = largest_sheet(r, 0, 48);
+    let plain::Answer::Plan { plan, .. } = answer(&sheet) else { panic!("a sheet with a plan") };
+    let mut taken = vec![];
+    for (unit, &slot) in sheet.units.iter_mut().zip(&plan) {
+        loop {
+            let first = r.between(1, slot as usize) as u16;
+            let last = r.between(slot as usize, 48) as u16;
+            if !taken.contains(&(first, last)) {
+                taken.push((first, last));
+                *unit = Unit { first, last };
+                break;
+            }
+        }
+    }
+    sheet
+}
+
+/// Windows of one width, each a slot later than the one before, at most one unit a slot, and one unit that may go anywhere: a
+/// unit that is held to its first slots pushes all others.
+fn chain(width: u16) -> Sheet {
+    let mut windows: Vec<(u16, u16)> = (1..=49 - width).map(|s| (s, s + width - 1)).collect();
+    windows.push((1, 48));
+    let rules: Vec<(u16, u16, u16, u16)> = (1..=48).map(|s| (s, s, 0, 1)).collect();
+    Sheet::new(48, &windows, &rules)
+}
+
+/// Windows that all start at the first slot and close one after the other, six to a slot, and rules on neighbouring stretches.
+fn staircase() -> Sheet {
+    let windows: Vec<(u16, u16)> = (0..300).map(|i| (1 + (i % 7) as u16, 8 + (i * 41 / 300) as u16)).collect();
+    let mut rules: Vec<(u16, u16, u16, u16)> = (1..=44).map(|s| (s, s + 4, 0, 35)).collect();
+    rules.extend((1..=16).map(|s| (3 * s - 2, 3 * s, 0, 22)));
+    Sheet::new(48, &windows, &rules)
+}

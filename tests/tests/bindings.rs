@@ -1,0 +1,79 @@
+//! The border crate's own functions, and the examples.
+#![cfg(all(has_reader, has_planner, has_page))]
+
+use std::io::Write;
+use std::path::{Path, PathBuf};
+use std::process::{Command, Stdio};
+
+use reference::cases::{self, Says};
+use reference::{enumerated, page};
+use tugrokt::{Answer, Refusal, Sheet};
+
+#[test]
+fn document_cases() {
+    for case in cases::all() {
+        let sheet = Sheet::read(&case.sheet.text()).unwrap();
+        let page = sheet.page().unwrap();
+        assert_eq!(page::fault(&case.sheet, enumerated::solve(&case.sheet).as_ref(), &page), None, "{}", case.name);
+        match (sheet.plan().unwrap(), case.says) {
+            (Answer::Plan(plan), Says::Plan(slots, windows)) => {
+                assert_eq!(plan.slot, slots);
+                let between: Vec<(u16, u16)> = plan.earliest.into_iter().zip(plan.latest).collect();
+                assert_eq!(between, windows);
+            }
+            (Answer::None { ring }, Says::None(..)) => assert_eq!(case.sheet.ring_fault(&ring), None),
+            (answer, says) => panic!("{}: {answer:?}, but {says:?}", case.name),
+        }
+    }
+}
+
+#[test]
+fn sheets_are_built_and_ranges_are_read() {
+    let mut sheet = Sheet::new(4);
+    sheet.add_unit(1, 2);
+    sheet.add_unit(1, 4);
+    for from in 1..=3 {
+        sheet.add_rule(from, from + 1, 1, 1);
+    }
+    let Answer::Plan(plan) = sheet.plan().unwrap() else { panic!("P2 has a plan") };
+    assert_eq!(plan.range(1, 1), (0, 1));
+    assert_eq!(plan.range(1, 2), (1, 1));
+    assert_eq!(plan.range(1, 4), (2, 2));
+}
+
+#[test]
+fn refusals() {
+    assert_eq!(Sheet::read(b""), Err(Refusal { question: 5, line: 0 }));
+    assert_eq!(Sheet::read(b"(sheet 4)\n(unit (window 4 3))\n"), Err(Refusal { question: 7, line: 2 }));
+    assert_eq!(Sheet::new(0).plan(), Err(Refusal { question: 6, line: 0 }));
+    assert_eq!(Sheet::new(usize::MAX).page(), Err(Refusal { question: 6, line: 0 }));
+    let mut lopsided = Sheet::new(4);
+    lopsided.first.push(1);
+    assert_eq!(lopsided.plan(), Err(Refusal { question: 13, line: 0 }));
+    assert_eq!(Refusal { question: 7, line: 3 }.to_string(), "(refused 7 (line 3))");
+}
+
+/// The C example, compiled with all warnings against the header and the libraries.
+#[test]
+fn c_example() {
+    let bindings = Path::new(env!("ROOT")).join("bindings");
+    let program = PathBuf::from(env!("CARGO_TARGET_TMPDIR")).join("plan");
+    let compiled = Command::new("cc")
+        .args(["-std=c99", "-pedantic", "-Wall", "-Wextra", "-Werror", "-O1", "-I"])
+        .arg(&bindings)
+        .arg(bindings.join("examples/plan.c"))
+        .args([env!("LIBRARY_READER"), env!("LIBRARY_PLANNER"), "-o"])
+        .arg(&program)
+        .output()
+        .expect("cc runs");
+    assert!(compiled.status.success(), "{}", String::from_utf8_lossy(&compiled.stderr));
+    let run = |text: &[u8]| {
+        let mut child = Command::new(&program).stdin(Stdio::piped()).stdout(Stdio::piped()).spawn().unwrap();
+        child.stdin.take().unwrap().write_all(text).unwrap();
+        String::from_utf8(child.wait_with_output().unwrap().stdout).unwrap()
+    };
+    let all = cases::all();
+    assert_eq!(run(&all[1].sheet.text()), "unit 1: slot 1, from 1 to 2\nunit 2: slot 3, from 3 to 4\n");
+    assert_eq!(run(&all[3].sheet.text()), "boundary 0\nboundary 3\n");
+    assert_eq!(run(b"(sheet 49)\n"), "(refused 6 (line 1))\n");
+}
