@@ -169,8 +169,8 @@ module _ (s : Sheet) (j : ℕ) (hj : j < length (s .units)) (u : Window) where
           let m = atLeast-windows s (suc b) a in
           let stays : oneIf here ≤ oneIf there → howMany (insideOf (suc b) a) (set (s .units) j u) ≤ fall = (λ e. omega (arith, least-fall)) in
           let gains : Gains old u a b → howMany (insideOf (suc b) a) (set (s .units) j u) ≤ fall = (λ q.
-              let k = suc (howMany (insideOf (suc b) a) (s .units)) in
-              omega (ints, gained a b q, g a b ha (omega arith) q, fall-is, sum (z a) (negℤ (pos k)), neg (pos k))) in
+          let k = suc (howMany (insideOf (suc b) a) (s .units)) in
+          omega (ints, gained a b q, g a b ha (omega arith) q, fall-is, sum (z a) (negℤ (pos k)), neg (pos k))) in
           elim (decLe (suc b) (u .first)) [
             | no p ↦ stays (omega (arith, one-no here (λ t. p (inside-iff (suc b) a u .0 t .0))))
             | yes p ↦ elim (decLe (u .last) a) [

@@ -54,7 +54,7 @@ module _ (seat : Seatable) (s : Sheet) (D E : Weights) (solved : Solved s D)
           sum (z a) (limit s a b),
         )) in
         let g′ : (a b : ℕ) → a ≤ top s → b ≤ a → Gains own u a b → z b ≤ℤ (z a +ℤ addedArc s a b) =
-            (λ a b ha hb q. subst (λ (e : ℤ). z b ≤ℤ (z a +ℤ e)) (arcs a b (omega (arith, q .0, q .1)) ha) (g a b ha (omega (arith, q .0, q .1)) q)) in
+        (λ a b ha hb q. subst (λ (e : ℤ). z b ≤ℤ (z a +ℤ e)) (arcs a b (omega (arith, q .0, q .1)) ha) (g a b ha (omega (arith, q .0, q .1)) q)) in
         let x = seat (cutTo s j u) (cut-valid s j hj u hf hl (solved .valid) h) z (gains-feasible s j hj u z f′ g′) in
         let t = cut-lawful s j hj u hf hl (x .0) .0 (x .1) in
         (x .0, t .0, t .1 .0, t .1 .1)
@@ -78,7 +78,7 @@ module _ (seat : Seatable) (s : Sheet) (D E : Weights) (solved : Solved s D)
   earliest-is x t v c =
       let k = c .inside in
       let y = potential-plan (early v) (omega arith) (k .0) (k .1) (c .admitted .potential) (c .admitted .feasible)
-          (λ a b ha hb g. c .admitted .keeps a b (g .0) (g .1) (elim (decLe (own .last) a) [ yes h ↦ absurd (g .2 (g .0) h) | no h ↦ omega arith ])) in
+      (λ a b ha hb g. c .admitted .keeps a b (g .0) (g .1) (elim (decLe (own .last) a) [ yes h ↦ absurd (g .2 (g .0) h) | no h ↦ omega arith ])) in
       let e = earliest-attained s x t j in
       let i = lawful-iff s (e .0) .0 (e .1) .seated .inside j hj in
       elim (decLe v (earliest s j)) [
@@ -123,20 +123,20 @@ module _ (seat : Seatable) (s : Sheet) (D E : Weights) (solved : Solved s D)
         let v′ = suc (top s) - v in
         let z′ = c .admitted .potential in
         let y = potential-plan (late v′) (omega arith) (omega arith) (omega arith) (turned (top s) z′)
-            (turned-feasible (top s) D′ D (mirrored-back (top s) D D′ mD) z′ (c .admitted .feasible))
-            (λ a b ha hb g.
-                let a′ = top s - b in
-                let b′ = top s - a in
-                let hb′ : own .first ≤ b = elim (decLe (own .first) b) [ yes h ↦ h | no h ↦ absurd (g .2 (omega arith) (g .1)) ] in
-                omega (
-                  ints,
-                  mirrored-back (top s) E E′ mE a b ha (omega arith),
-                  c .admitted .keeps a′ b′ (omega (arith, g .1)) (omega (arith, g .0)) (omega arith),
-                  sum (z′ a′) (E′ a′ b′),
-                  sum (turned (top s) z′ a) (E a b),
-                  neg (z′ a′),
-                  neg (z′ b′),
-                )) in
+        (turned-feasible (top s) D′ D (mirrored-back (top s) D D′ mD) z′ (c .admitted .feasible))
+        (λ a b ha hb g.
+        let a′ = top s - b in
+        let b′ = top s - a in
+        let hb′ : own .first ≤ b = elim (decLe (own .first) b) [ yes h ↦ h | no h ↦ absurd (g .2 (omega arith) (g .1)) ] in
+        omega (
+          ints,
+          mirrored-back (top s) E E′ mE a b ha (omega arith),
+          c .admitted .keeps a′ b′ (omega (arith, g .1)) (omega (arith, g .0)) (omega arith),
+          sum (z′ a′) (E′ a′ b′),
+          sum (turned (top s) z′ a) (E a b),
+          neg (z′ a′),
+          neg (z′ b′),
+        )) in
         let e = latest-attained s x t j in
         let i = lawful-iff s (e .0) .0 (e .1) .seated .inside j hj in
         elim (decLe (latest s j) v′) [

@@ -47,8 +47,8 @@ module _ (w : ℕ) (f : Weights) where
       let n : a * w + k ≡ (a + 1) * w = omega arith in
       let snoc = rows-snoc w (λ b. listOf w (f b)) (λ b. length-listOf w (f b)) 0 a in
       let front : xs ++ row ≡ joined (map (λ b. listOf w (f b)) (run 0 (a + 1))) =
-          ap (λ (l : List ℤ). xs ++ l) (r ∙ ap (λ (i : ℕ). listOf w (f i)) (sym here)) ∙ sym snoc
-          ∙ ap (λ (i : ℕ). joined (map (λ b. listOf w (f b)) (run 0 i))) (sym (add-one a)) in
+      ap (λ (l : List ℤ). xs ++ l) (r ∙ ap (λ (i : ℕ). listOf w (f i)) (sym here)) ∙ sym snoc
+      ∙ ap (λ (i : ℕ). joined (map (λ b. listOf w (f b)) (run 0 i))) (sym (add-one a)) in
       record { is = moved ∙ ap (λ (l : List ℤ). l ++ drop (a * w + k) t₀) front ∙ ap (λ (i : ℕ). joined (map (λ b. listOf w (f b)) (run 0 (a + 1))) ++ drop i t₀) n }
 
   pub rows-length : (a : ℕ) (t₀ t : List ℤ) → a * w ≤ length t₀ → RowsDone a t₀ t → length t ≡ length t₀

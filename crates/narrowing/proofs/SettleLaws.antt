@@ -53,12 +53,12 @@ module _ (w f v l : ℕ) (d m : List ℤ) (net : Network w d m) (cuts : Cuts w f
       let n = row-inside g w (omega (arith, cuts)) in
       let p = part-length (g * w) (g * w + w) d (omega arith) (omega (arith, net .size)) in
       let is : (c : ℕ) → c ≤ w - 1 → at z c ≡ entry w d g c = (λ c hc.
-          let q = net .closed .small g c (omega (arith, cuts)) hc in
-          let x = entry w d g c in
-          r .low c (omega (arith, net .some))
-          ∙ ap (λ (y : ℤ). minℤ y (pos 0 +ℤ at (part (g * w) (g * w + w) d) c)) (getD-replicate 49 c (pos 1000) (pos 0) (omega (arith, net .some, net .most)))
-          ∙ ap (λ (y : ℤ). minℤ (pos 1000) (pos 0 +ℤ y)) (part-at (g * w) (g * w + w) d c (omega (arith, net .some)))
-          ∙ ⊎-elim (λ y. let t : ⊥ = omega (ints, y .1, sum (pos 0) x) in absurd t) (λ y. omega (ints, y .0, sum (pos 0) x)) (min-is (pos 1000) (pos 0 +ℤ x))) in
+      let q = net .closed .small g c (omega (arith, cuts)) hc in
+      let x = entry w d g c in
+      r .low c (omega (arith, net .some))
+      ∙ ap (λ (y : ℤ). minℤ y (pos 0 +ℤ at (part (g * w) (g * w + w) d) c)) (getD-replicate 49 c (pos 1000) (pos 0) (omega (arith, net .some, net .most)))
+      ∙ ap (λ (y : ℤ). minℤ (pos 1000) (pos 0 +ℤ y)) (part-at (g * w) (g * w + w) d c (omega (arith, net .some)))
+      ∙ ⊎-elim (λ y. let t : ⊥ = omega (ints, y .1, sum (pos 0) x) in absurd t) (λ y. omega (ints, y .0, sum (pos 0) x)) (min-is (pos 1000) (pos 0 +ℤ x))) in
       let s = sunk-row (w - 1) (entry w d) (into w m) (net .closed) f v l (omega (arith, cuts)) (omega (arith, cuts)) in
       record {
         feasible = λ a b ha hb. omega (ints, s .feasible a b ha hb, is a ha, is b hb, sum (at z a) (entry w d a b), sum (entry w d g a) (entry w d a b));
@@ -85,8 +85,7 @@ module _ (w f v l : ℕ) (d m : List ℤ) (net : Network w d m) (cuts : Cuts w f
     pub least-asks : (0 < length zs) × (length zs ≤ length arcs) × Modest zs × Modest arcs
     least-asks =
         let p = part-length v l z (omega (arith, cuts)) (omega (arith, cuts)) in
-        let q = part-length (b * w + v) (b * w + l) m (omega (arith, cuts)) (omega (arith, cuts, inside, net .sizeArcs)) in
-        (
+        let q = part-length (b * w + v) (b * w + l) m (omega (arith, cuts)) (omega (arith, cuts, inside, net .sizeArcs)) in (
           omega (arith, cuts),
           omega arith,
           part-modest v l z (omega (arith, cuts)) (omega (arith, cuts)) (λ i h.

@@ -93,7 +93,6 @@ module _ (top : ℕ) (D E : Weights) (net : Closed top D) (f v l : ℕ) (hf : 1 
       at-end : k <ℤ z b → y b <ℤ z b
       at-end h = omega (ints, carried b (omega arith), min≤r (z b) (k +ℤ D b b), sum k (D b b), net .diagonal b (omega arith))
 
-
       pub carried-falls : pos 0 ≤ℤ y (f - 1) → k <ℤ z b → height D (f - 1) y (suc top) < height D (f - 1) z (suc top)
       carried-falls h h′ = total (suc top) (omega arith) (omega arith)
         where

@@ -1,5 +1,5 @@
-use integers::{less, lesser};
-
+use integers::less;
+use integers::lesser;
 ghost use mathlib.Core.Path.{_≡_};
 ghost use Prim.Native.Nat.{ℕ, _+_, _-_, _*_, _<_, _≤_};
 ghost use mathlib.Core.List.{List, _++_};
@@ -39,7 +39,16 @@ fn least_sum(xs: &[i16], ys: &[i16]) -> i16
 }
 
 // Lowers z to what the arcs of the cut ask at boundary b, and carries that through row b of the table.
-fn settle(d: &[i16], m: &[i16], w: usize, f: usize, v: usize, l: usize, b: usize, z: &mut [i16]) -> Settled
+fn settle(
+    d: &[i16],
+    m: &[i16],
+    w: usize,
+    f: usize,
+    v: usize,
+    l: usize,
+    b: usize,
+    z: &mut [i16],
+) -> Settled
     requires { ⌜ Network w (now d) (now m) × Cuts w f v l × (b < f) × (w ≤ length (now z)) × SunkAt w (now d) (now m) f v l (now z) ⌝ }
     ensures { λ r. ⌜ Settling w (now (d .entry)) (now (m .entry)) f v l b (b + 1) (now (z .entry)) (now (z .exit)) r ⌝ }
 {
@@ -76,7 +85,11 @@ fn sweep(d: &[i16], m: &[i16], w: usize, f: usize, v: usize, l: usize, z: &mut [
             }
         }
     }
-    if lower { Settled::Lower } else { Settled::Still }
+    if lower {
+        Settled::Lower
+    } else {
+        Settled::Still
+    }
 }
 
 // Whether the network admits the cut of the window f..l at v. The potential starts as the highest that is 0 before the window.

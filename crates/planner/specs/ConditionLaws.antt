@@ -17,9 +17,10 @@ use Rattle.network.specs.TableLaws.{length-tableOf, row-inside}
 use Rattle.network.specs.PassLaws.{finished-kept}
 use Rattle.sheet.specs.Sheet.{Sheet, top, limit, lawful, printedPlan, earliestSlots, latestSlots, isRing}
 use Rattle.sheet.specs.PlanLaws.{lawful-iff}
+use Rattle.sheet.specs.LimitTable.{boundaries}
 use Rattle.sheet.specs.Solved.{Solved}
 use Rattle.sheet.specs.QuestionLaws.{accepted-valid}
-use Rattle.planner.specs.Planning.{Lists, Rooms, given, boundaries, places, passed, inRange, refusal, refused, planned, ringed, Verdict, refuse, plan, none, byPass, verdict, Left, numberOf, hasPlan}
+use Rattle.planner.specs.Planning.{Lists, Rooms, given, places, passed, inRange, refusal, refused, planned, ringed, Verdict, refuse, plan, none, byPass, verdict, Left, numberOf, hasPlan}
 use Rattle.planner.specs.PlanningLaws.{Yes, no-refusal, passed-solved, stopped-unlawful}
 use Rattle.planner.specs.declared.Answer.{Answer}
 use Rattle.planner.specs.declared.Answer.the-variants.{Refused, Plan, None}

@@ -16,9 +16,10 @@ use Rattle.network.specs.Table.{entry, cleared}
 use Rattle.network.specs.TableLaws.{row-inside, values-at, length-values}
 use Rattle.sheet.specs.Sheet.{Sheet, top, lines, lawful, fair, countIn, leastIn, greatestIn, earliest, latest, earliestSlots, latestSlots, printedPlan, isRing}
 use Rattle.sheet.specs.PlanLaws.{lawful-iff, earliest-bound, earliest-attained, latest-bound, latest-attained, greatestIn-bound}
+use Rattle.sheet.specs.LimitTable.{boundaries}
 use Rattle.seating.specs.PrintedLaws.{Printed, some-printed}
 use Rattle.seating.specs.RangeLaws.{solved-plan, range, greatest-entry, least-entry}
-use Rattle.planner.specs.Planning.{Lists, Rooms, given, boundaries, places, refusal, planned, ringed, verdict, Left, numberOf, hasPlan}
+use Rattle.planner.specs.Planning.{Lists, Rooms, given, places, refusal, planned, ringed, verdict, Left, numberOf, hasPlan}
 use Rattle.planner.specs.ConditionLaws.{Planned, Ringed, call-refused, call-answered, call-planned}
 use Rattle.planner.specs.declared.Answer.{Answer}
 use Rattle.planner.specs.declared.Answer.the-variants.{Refused, Plan, None}

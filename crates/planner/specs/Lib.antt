@@ -4,3 +4,5 @@ pub mod ConditionLaws
 pub mod Conditions
 pub mod Asking
 pub mod AskingLaws
+pub mod Deciding
+pub mod DecidingLaws

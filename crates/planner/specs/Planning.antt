@@ -2,12 +2,13 @@
 use mathlib.Core.Path.{_≡_}
 use mathlib.Core.Bool.{Bool, true, false, _&&_, cond}
 use mathlib.Core.List.{List, [], _∷_, _++_}
-use Prim.Native.Nat.{ℕ, suc, _+_, _*_, _≤_}
+use Prim.Native.Nat.{ℕ, _*_}
 use lib.Dec.{T, leb, eqb}
-use lib.ListN.{length, take, drop}
+use lib.ListN.{length, drop}
 use lib.IntN.{ℤ}
 use Rattle.network.specs.Table.{Passed, finished, stopped, outOfRange, tableOf, passOf, cleared}
-use Rattle.sheet.specs.Sheet.{Sheet, Slot, top, limit, printedPlan, earliestSlots, latestSlots, isRing}
+use Rattle.sheet.specs.Sheet.{Sheet, Slot, limit, printedPlan, earliestSlots, latestSlots, isRing}
+use Rattle.sheet.specs.LimitTable.{boundaries}
 use Rattle.sheet.specs.Questions.{sheetOf, listsAgree, spanFits, windowsFit, stretchesFit, countsFit, unitsFit, rulesFit}
 use Rattle.planner.specs.declared.Answer.{Answer}
 use Rattle.planner.specs.declared.Answer.the-variants.{Refused, Plan, None}
@@ -40,10 +41,6 @@ pub record Rooms : Type 0 where
   pub earliest : List Slot
   pub latest : List Slot
   pub ring : List ℕ
-
--- the number of boundaries
-abbrev pub boundaries : Sheet → ℕ
-boundaries s = suc (top s)
 
 abbrev pub places : Sheet → ℕ
 places s = boundaries s * boundaries s

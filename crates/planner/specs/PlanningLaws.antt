@@ -21,9 +21,10 @@ use Rattle.network.specs.PassLaws.{pass-finished, pass-sound, stopped-infeasibl
 use Rattle.sheet.specs.Sheet.{Sheet, top, limit, lawful, countIn}
 use Rattle.sheet.specs.LimitLaws.{limit-same}
 use Rattle.sheet.specs.PotentialLaws.{Valid, lawful-feasible}
+use Rattle.sheet.specs.LimitTable.{boundaries}
 use Rattle.sheet.specs.Solved.{Solved}
 use Rattle.sheet.specs.Questions.{spanFits, windowsFit, stretchesFit, countsFit, unitsFit, rulesFit, accepted}
-use Rattle.planner.specs.Planning.{Lists, Rooms, Question, given, agree, fitsRooms, boundaries, passed, inRange, firstNo, asked, questions, refusal}
+use Rattle.planner.specs.Planning.{Lists, Rooms, Question, given, agree, fitsRooms, passed, inRange, firstNo, asked, questions, refusal}
 
 -- ---- no question was answered no
 

@@ -4,8 +4,10 @@ ghost use Prim.Native.Nat.{ℕ, _+_, _≤_};
 ghost use lib.ListN.{length};
 ghost use Rattle.lists.specs.Lists.{within};
 ghost use Rattle.sheet.specs.Limits.{maxSlots};
-ghost use Rattle.sheet.specs.Questions.{listsAgree};
+ghost use Rattle.sheet.specs.Questions.{listsAgree, sheetOf};
+ghost use Rattle.sheet.specs.LimitTable.{Fillable};
 ghost use Rattle.planner.specs.Planning.{listed};
+ghost use Rattle.planner.specs.Deciding.{Decided};
 ghost use Rattle.planner.specs.Asking.{rising, allRising, lengthsFit, askedNo};
 
 // What a call answers: the number of the refusal, a plan in the rooms, or none with the length of the ring.
@@ -150,4 +152,24 @@ pub fn ask(
     } else {
         12
     }
+}
+
+// The limits of all steps, and the pass over them.
+pub fn decide(
+    span: usize,
+    first: &[u16],
+    last: &[u16],
+    from: &[u16],
+    to: &[u16],
+    low: &[u16],
+    high: &[u16],
+    table: &mut [i16],
+) -> network::Outcome
+    requires { ⌜ Fillable span (now first) (now last) (now from) (now to) (now low) (now high) (length (now table)) ⌝ }
+    ensures { λ r.
+        let s = sheetOf span (now (first .entry)) (now (last .entry)) (now (from .entry)) (now (to .entry)) (now (low .entry)) (now (high .entry)) in
+        ⌜ Decided s (now (table .entry)) r (now (table .exit)) ⌝ }
+{
+    sheet::fill::fill_limits(span, first, last, from, to, low, high, table);
+    network::pass(table, span + 1)
 }

@@ -75,7 +75,7 @@ loop-again c =
     let g = st .args in
     let k : l .b * g .w + g .w - l .b * g .w ≡ g .w = omega arith in
     let done = rows-more (g .w) (oneLess (entry (g .w) (g .inside .now))) (l .b) (l .b * g .w + g .w - l .b * g .w) (g .out .now) (l .out)
-        (c .before .arcs-row .last .1 .1 .1 .0) k (c .before .arcs-row .ensures) (l .inv .2) in
+    (c .before .arcs-row .last .1 .1 .1 .0) k (c .before .arcs-row .ensures) (l .inv .2) in
     let n = row-inside (l .b) (g .w) (omega arith) in
     (omega arith, rows-length (g .w) (oneLess (entry (g .w) (g .inside .now))) (l .b + 1) (g .out .now) _ (omega (arith, st .pre .1)) done, done)
 

@@ -68,7 +68,7 @@ loop-again c =
     let fs = sum-fits (st .args .k) (at row (l .c)) (st .pre .2) (st .pre .1 (l .c) (omega arith)) in
     let fr : SFits w16 (c .lesser .result) = search needs in
     let e : c .lesser .result ≡ minℤ (at (l .z) (l .c)) (st .args .k +ℤ at row (l .c)) =
-        simp (toZ-ofZ fk, toZ-ofZ fz, toZ-ofZ fx, toZ-ofZ fs) at (c .lesser .ensures) in
+    simp (toZ-ofZ fk, toZ-ofZ fz, toZ-ofZ fx, toZ-ofZ fs) at (c .lesser .ensures) in
     let more = carried-more (l .c) (st .args .k) row (st .args .z .now) (l .z) (omega arith) (simp (toZ-ofZ fk) at (l .inv .2)) in
     (omega arith, refl, simp (toZ-ofZ fk, toZ-ofZ fr) (rw e more))
 

@@ -46,12 +46,16 @@ next c =
     let decided : Bool → Type 0 = λ t. Decides t (AdmitsAt (a .w) (a .d .now) (a .m .now) (a .f) (l .middle) (a .l)) in
     ⊎-elim (λ w.
     let y = subst decided (w .0 .taken) (c .before .admits .ensures) in
-    rw (w .1, w .2) (search-yes (a .w) (a .d .now) (a .m .now) (a .f) (a .l) (a .known) (l .from) (l .to) (l .middle) _ h (omega arith) (omega (arith, s .after)) s y,
-    omega (arith, s .after, s .before)))
+    rw (w .1, w .2) (
+      search-yes (a .w) (a .d .now) (a .m .now) (a .f) (a .l) (a .known) (l .from) (l .to) (l .middle) _ h (omega arith) (omega (arith, s .after)) s y,
+      omega (arith, s .after, s .before),
+    ))
     (λ w.
     let n = subst decided (w .0 .left) (c .before .admits .ensures) in
-    rw (w .1, w .2) (search-no (a .w) (a .d .now) (a .m .now) (a .f) (a .l) (a .known) (l .from) (l .to) (l .middle) _ h (omega arith) (omega (arith, s .before)) s n,
-    omega (arith, s .after, s .before)))
+    rw (w .1, w .2) (
+      search-no (a .w) (a .d .now) (a .m .now) (a .f) (a .l) (a .known) (l .from) (l .to) (l .middle) _ h (omega arith) (omega (arith, s .before)) s n,
+      omega (arith, s .after, s .before),
+    ))
     (c .if1 .came)
 
 sub-middle : tie.Need-sub-middle Inv-loop μ-loop

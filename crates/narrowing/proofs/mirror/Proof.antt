@@ -75,7 +75,7 @@ loop-again c =
     let g = st .args in
     let k : l .a * g .w + g .w - l .a * g .w ≡ g .w = omega arith in
     let done = rows-more (g .w) (mirrored (g .w - 1) (entry (g .w) (g .t .now))) (l .a) (l .a * g .w + g .w - l .a * g .w) (g .out .now) (l .out)
-        (c .before .mirror-row .last .1 .1 .1 .0) k (c .before .mirror-row .ensures) (l .inv .2) in
+    (c .before .mirror-row .last .1 .1 .1 .0) k (c .before .mirror-row .ensures) (l .inv .2) in
     let n = row-inside (l .a) (g .w) (omega arith) in
     (omega arith, rows-length (g .w) (mirrored (g .w - 1) (entry (g .w) (g .t .now))) (l .a + 1) (g .out .now) _ (omega (arith, st .pre .1)) done, done)
 

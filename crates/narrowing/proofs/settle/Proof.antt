@@ -144,7 +144,7 @@ returns-2 c =
     let fz : SFits w16 (getD z′ (a .f - 1) (pos 0)) = search needs in
     let r = simp (toZ-ofZ fk) at (cc .carry .ensures) in
     let h : ltZ (c′ .least-sum .result) (at (a .z .now) (a .b)) ≡ true =
-        simp (toZ-ofZ fk, toZ-ofZ fb) at (sym (cc .before .before .before .before .less .ensures) ∙ cc .before .before .before .if1 .taken) in
+    simp (toZ-ofZ fk, toZ-ofZ fb) at (sym (cc .before .before .before .before .less .ensures) ∙ cc .before .before .before .if1 .taken) in
     let g : ltZ (at z′ (a .f - 1)) (pos 0) ≡ false = simp (toZ-ofZ fz) at (sym (c .before .less2 .ensures) ∙ c .if2 .left) in
     settled-lower (a .w) (a .f) (a .v) (a .l) (a .d .now) (a .m .now) (p .0) (p .1) (a .b) (a .z .now) (p .2) (p .3) (p .4)
     (c′ .least-sum .result) (c′ .least-sum .ensures) z′ r h g
