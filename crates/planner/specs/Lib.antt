@@ -6,3 +6,5 @@ pub mod Asking
 pub mod AskingLaws
 pub mod Deciding
 pub mod DecidingLaws
+pub mod Filling
+pub mod FillingLaws

@@ -1,13 +1,16 @@
 ghost use mathlib.Core.Path.{_≡_};
+ghost use mathlib.Core.List.{_++_};
 ghost use mathlib.Core.Bool.{true, false};
 ghost use Prim.Native.Nat.{ℕ, _+_, _≤_};
-ghost use lib.ListN.{length};
+ghost use lib.ListN.{length, drop};
 ghost use Rattle.lists.specs.Lists.{within};
 ghost use Rattle.sheet.specs.Limits.{maxSlots};
+ghost use Rattle.sheet.specs.Sheet.{Sheet, printedPlan};
 ghost use Rattle.sheet.specs.Questions.{listsAgree, sheetOf};
 ghost use Rattle.sheet.specs.LimitTable.{Fillable};
 ghost use Rattle.planner.specs.Planning.{listed};
 ghost use Rattle.planner.specs.Deciding.{Decided};
+ghost use Rattle.planner.specs.Filling.{Ready};
 ghost use Rattle.planner.specs.Asking.{rising, allRising, lengthsFit, askedNo};
 
 // What a call answers: the number of the refusal, a plan in the rooms, or none with the length of the ring.
@@ -172,4 +175,13 @@ pub fn decide(
 {
     sheet::fill::fill_limits(span, first, last, from, to, low, high, table);
     network::pass(table, span + 1)
+}
+
+// The printed plan, from row 0 of the finished table.
+pub fn seat_units(w: usize, first: &[u16], last: &[u16], table: &[i16], plan: &mut [u16])
+    requires { ⌜ ((s : Sheet) × Ready s w (now first) (now last) (now table)) × (length (now first) ≤ length (now plan)) ⌝ }
+    ensures { λ _. ⌜ ((s : Sheet) → Ready s w (now (first .entry)) (now (last .entry)) (now (table .entry))
+        → now (plan .exit) ≡ printedPlan s ++ drop (length (now (first .entry))) (now (plan .entry))) ⌝ }
+{
+    seating::seat(first, last, &table[0..w], plan);
 }

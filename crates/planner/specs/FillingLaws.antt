@@ -1,0 +1,49 @@
+-- Row 0 of the finished table, as seating takes it; and a finished table at the front of a longer room.
+use mathlib.Core.Path.{_≡_, refl, sym, ap, ap₂, _∙_, subst}
+use mathlib.Core.List.{List, _++_}
+use Prim.Native.Nat.{ℕ, suc, _+_, _*_, _-_, _≤_, _<_}
+use native.Mathlib.Omega.{arith}
+use lib.Dec.{T}
+use lib.ListN.{length, getD, take, drop, List·getD-append}
+use lib.Seq.{getD-take, length-take-le}
+use lib.IntN.{ℤ, pos, _+ℤ_}
+use lib.Signed.{_≤ℤ_}
+use Rattle.integers.specs.Parts.{ints, sum}
+use Rattle.network.specs.Network.{Weights, Potential, Feasible}
+use Rattle.network.specs.Closure.{Finished}
+use Rattle.network.specs.Table.{entry}
+use Rattle.network.specs.TableLaws.{row-inside}
+use Rattle.sheet.specs.Limits.{maxSlots, maxUnits}
+use Rattle.sheet.specs.Sheet.{Sheet, top, limit}
+use Rattle.sheet.specs.LimitTable.{boundaries}
+use Rattle.sheet.specs.Questions.{windowsOf, accepted}
+use Rattle.sheet.specs.QuestionLaws.{windowsOf-length, accepted-sized}
+use Rattle.sheet.specs.Solved.{Solved}
+use Rattle.seating.specs.Row.{Seatable, RowOf}
+use Rattle.seating.specs.RowLaws.{row-seatable}
+use Rattle.planner.specs.Filling.{Ready}
+
+-- ---- the numbers of units and slots that an accepted sheet has
+module _ (s : Sheet) (w : ℕ) (first last : List ℕ) (table : List ℤ) (R : Ready s w first last table) where
+  pub units-few : length first ≤ maxUnits
+  units-few = omega (arith, ap length (R .units), windowsOf-length first last (R .lists), accepted-sized s (R .sheet) .units)
+
+  pub slots-few : top s ≤ maxSlots
+  unfolding top
+  slots-few = accepted-sized s (R .sheet) .slots .1
+
+  pub row-fits : w ≤ length table
+  row-fits = omega (arith, R .room, R .size, row-inside 0 w (omega (arith, R .size)))
+
+  -- row 0, as the first w places of the table
+  pub row-of : (k : ℕ) → k ≡ w → RowOf s (entry w table) first last (take k table)
+  row-of k e =
+      record {
+        solved = R .solved;
+        units = R .units;
+        slots = length-take-le k table (omega (arith, row-fits)) ∙ (omega (arith, R .size));
+        row = λ b hb. getD-take k table b (pos 0) (omega (arith, R .size)) ∙ ap (λ (i : ℕ). getD table i (pos 0)) (omega arith);
+      }
+
+  pub seatable : (k : ℕ) → k ≡ w → (plan : List ℕ) → length first ≤ length plan → Seatable first last (take k table) plan
+  seatable k e plan room = row-seatable s (entry w table) first last (take k table) (row-of k e) (R .lists) plan units-few slots-few room
