@@ -1,12 +1,11 @@
 //! Says which parts of the planner there are to test: those whose library `tugrokt` links, and the program.
 //!
-//! The program is `../target/bin/wave`; `rt check wave` is run where it is missing or older than its sources. Where
-//! `TUGROKT_WAVE` names a program, that one is run.
+//! The program is `../target/bin/wave`, brought up to date by `rt check wave`. Where `TUGROKT_WAVE` names a program, that one is
+//! run.
 
+use std::env;
 use std::path::{Path, PathBuf};
 use std::process::Command;
-use std::time::SystemTime;
-use std::{env, fs};
 
 fn main() {
     println!("cargo:rerun-if-changed=build.rs");
@@ -37,7 +36,7 @@ fn tell(name: &str, present: bool) {
     }
 }
 
-/// The program of the repository, built if need be.
+/// The program of the repository. `rt check` proves and links it again only where something has changed.
 fn built(root: &Path) -> Option<PathBuf> {
     println!("cargo:rerun-if-changed={}", root.join("crates").display());
     println!("cargo:rerun-if-changed={}", root.join("crates.txt").display());
@@ -46,25 +45,9 @@ fn built(root: &Path) -> Option<PathBuf> {
     }
     let program = root.join("target/bin/wave");
     println!("cargo:rerun-if-changed={}", program.display());
-    let sources = newest(&root.join("crates")).max(modified(&root.join("crates.txt")));
-    if modified(&program).is_none() || modified(&program) < sources {
-        let run = Command::new("rt").args(["check", "wave"]).current_dir(root).output();
-        let run = run.unwrap_or_else(|e| panic!("rt check wave: {e}. Is the Rattle kit on this machine?"));
-        let said = String::from_utf8_lossy(&run.stdout).into_owned() + &String::from_utf8_lossy(&run.stderr);
-        assert!(run.status.success(), "rt check wave failed:\n{said}");
-    }
+    let run = Command::new("rt").args(["check", "wave"]).current_dir(root).output();
+    let run = run.unwrap_or_else(|e| panic!("rt check wave: {e}. Is the Rattle kit on this machine?"));
+    let said = String::from_utf8_lossy(&run.stdout).into_owned() + &String::from_utf8_lossy(&run.stderr);
+    assert!(run.status.success(), "rt check wave failed:\n{said}");
     Some(program)
-}
-
-fn modified(path: &Path) -> Option<SystemTime> {
-    fs::metadata(path).and_then(|m| m.modified()).ok()
-}
-
-/// When the newest file below a folder was changed.
-fn newest(folder: &Path) -> Option<SystemTime> {
-    let entries = fs::read_dir(folder).ok()?;
-    entries
-        .flatten()
-        .filter_map(|e| if e.path().is_dir() { newest(&e.path()) } else { modified(&e.path()) })
-        .max()
 }

@@ -3,13 +3,14 @@
 //! [`Sheet`] reads, plans and prints with rooms of its own; [`entry`] has the planner's open entries as they are, with every
 //! room lent by the caller. Only numbers and slices cross the border.
 //!
-//! ```no_run
-//! # #[cfg(all())] {
-//! let mut sheet = tugrokt::Sheet::new(3);
-//! sheet.add_unit(1, 3);
-//! sheet.add_rule(2, 3, 1, 1);
-//! # }
+//! ```ignore
+//! let sheet = tugrokt::Sheet::read(b"(sheet 3)\n(unit (window 1 3))\n(rule (slots 2 3) (count 1 1))\n")?;
+//! match sheet.plan()? {
+//!     tugrokt::Answer::Plan(plan) => println!("{:?}", plan.slot),
+//!     tugrokt::Answer::None { ring } => println!("no plan: {ring:?}"),
+//! }
 //! ```
+//! `examples/` has a whole program, and the same in C.
 
 #[cfg(any(has_reader, has_planner, has_page))]
 mod border;

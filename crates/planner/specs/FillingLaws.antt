@@ -47,3 +47,26 @@ module _ (s : Sheet) (w : ℕ) (first last : List ℕ) (table : List ℤ) (R : R
 
   pub seatable : (k : ℕ) → k ≡ w → (plan : List ℕ) → length first ≤ length plan → Seatable first last (take k table) plan
   seatable k e plan room = row-seatable s (entry w table) first last (take k table) (row-of k e) (R .lists) plan units-few slots-few room
+
+-- ---- a finished table at the front of a longer room
+module _ (s : Sheet) (D E : Weights) (same : (a b : ℕ) → a ≤ top s → b ≤ top s → E a b ≡ D a b) where
+  pub solved-same : Solved s D → Solved s E
+  solved-same S =
+      let F = S .finished in
+      record {
+        valid = S .valid;
+        finished = record {
+          closed = λ k a b hk ha hb.
+              let kt : k ≤ top s = omega arith in
+              omega (ints, same a b ha hb, same a k ha kt, same k b kt hb, F .closed k a b hk ha hb, sum (D a k) (D k b), sum (E a k) (E k b));
+          diagonal = λ a ha. same a a ha ha ∙ F .diagonal a ha;
+          below = λ a b ha hb. subst (λ (d : ℤ). d ≤ℤ limit s a b) (sym (same a b ha hb)) (F .below a b ha hb);
+        };
+        sound = λ z f a b ha hb. subst (λ (d : ℤ). z b ≤ℤ (z a +ℤ d)) (sym (same a b ha hb)) (S .sound z f a b ha hb);
+      }
+
+pub solved-front : (s : Sheet) (t r : List ℤ) → length t ≡ boundaries s * boundaries s → Solved s (entry (boundaries s) t) → Solved s (entry (boundaries s) (t ++ r))
+solved-front s t r size =
+    let w = boundaries s in
+    solved-same s (entry w t) (entry w (t ++ r))
+    (λ a b ha hb. List·getD-append t r (pos 0) (a * w + b) (omega (arith, row-inside a w (omega arith))))
