@@ -23,7 +23,7 @@ use Rattle.sheet.specs.LimitTable.{WindowsFit, exactly, exactWeights}
 use Rattle.sheet.specs.InsideLaws.{howMany-most}
 use Rattle.sheet.specs.EntryLaws.{Filled, filled-set, filled-same, place-inside}
 
-pub exact-here : (x : Window) (ws : List Window) (a b : ℕ) → x .last ≡ a → x .first ≡ suc b
+exact-here : (x : Window) (ws : List Window) (a b : ℕ) → x .last ≡ a → x .first ≡ suc b
     → exactWeights (x ∷ ws) a b ≡ exactWeights ws a b -ℤ pos 1
 unfolding exactWeights
 exact-here x ws a b p q =
@@ -32,7 +32,7 @@ exact-here x ws a b p q =
     let one : m ≡ suc n = rw (eq-eqb (x .first) (suc b) q, eq-eqb (x .last) a p) (omega arith) in
     omega (ints, neg (pos m), neg (pos n), difference (negℤ (pos n)) (pos 1))
 
-pub exact-there : (x : Window) (ws : List Window) (a b : ℕ) → (a ≡ x .last → suc b ≡ x .first → ⊥) → exactWeights (x ∷ ws) a b ≡ exactWeights ws a b
+exact-there : (x : Window) (ws : List Window) (a b : ℕ) → (a ≡ x .last → suc b ≡ x .first → ⊥) → exactWeights (x ∷ ws) a b ≡ exactWeights ws a b
 unfolding exactWeights
 exact-there x ws a b ne = ap (λ (k : ℕ). negℤ (pos k)) same
   where

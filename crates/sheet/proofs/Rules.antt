@@ -30,8 +30,11 @@ min-high : (n h : ℕ) → minℤ (pos n) (pos h) ≡ pos (min h n)
 min-high n h = ⊎-elim (λ p. omega (ints, p .0, p .1)) (λ p. omega (ints, p .0, p .1)) (min-is (pos n) (pos h))
 
 max-low : (n l : ℕ) → minℤ (negℤ (pos n)) (negℤ (pos l)) ≡ negℤ (pos (max l n))
-max-low n l = ⊎-elim (λ p. omega (ints, p .0, p .1, neg (pos n), neg (pos l), neg (pos (max l n)))) (λ p. omega (ints, p .0, p .1, neg (pos n), neg (pos l), neg (pos (max l n))))
-    (min-is (negℤ (pos n)) (negℤ (pos l)))
+max-low n l =
+    let x = neg (pos n) in
+    let y = neg (pos l) in
+    let z = neg (pos (max l n)) in
+    ⊎-elim (λ p. omega (ints, p .0, p .1)) (λ p. omega (ints, p .0, p .1)) (min-is (negℤ (pos n)) (negℤ (pos l)))
 
 module _ (p : ℕ) (ws : List Window) where
   -- the sheet with these rules
@@ -87,7 +90,7 @@ module _ (p : ℕ) (ws : List Window) where
     ]
 
   -- with no rule there is n forward and the windows inside back
-  pub no-rules : InOrder ws → (a b : ℕ) → limit (ruled []) a b ≡ withForward (length ws) (insideWeights ws) a b
+  no-rules : InOrder ws → (a b : ℕ) → limit (ruled []) a b ≡ withForward (length ws) (insideWeights ws) a b
   unfolding insideWeights atMost atLeast
   no-rules ok a b = elim (decLe b a) [
     | no g ↦ let h : a < b = omega arith in
@@ -115,7 +118,7 @@ module _ (p : ℕ) (ws : List Window) where
   half-back r rs a b h = rw (le-ltb a b h) refl
 
   -- a rule on exactly its stretch
-  pub rule-applied : (w : ℕ) (r : Rule) (rs : List Rule) (t₀ t : List ℤ) → w * w ≤ length t₀ → 1 ≤ r .from → r .from ≤ r .to → r .to < w
+  rule-applied : (w : ℕ) (r : Rule) (rs : List Rule) (t₀ t : List ℤ) → w * w ≤ length t₀ → 1 ≤ r .from → r .from ≤ r .to → r .to < w
       → Filled w (limit (ruled rs)) t₀ t
       → Filled w (limit (ruled (r ∷ rs))) t₀
       (lowered (r .to * w + (r .from - 1)) (negℤ (pos (r .low))) (lowered ((r .from - 1) * w + r .to) (pos (r .high)) t))
@@ -126,14 +129,16 @@ module _ (p : ℕ) (ws : List Window) where
       let v = minℤ (entry w t a b) (pos (r .high)) in
       let u = set t (a * w + b) v in
       let h : Filled w (half r rs) t₀ u = filled-set w (limit (ruled rs)) (half r rs) t₀ t a b v room (omega arith) hi
-      (half-forward r rs a b (omega arith) ∙ forward-here r rs a b (omega arith) e refl ∙ ap (λ (z : ℤ). minℤ z (pos (r .high))) (sym (f .at a b (omega arith) hi)))
+      (half-forward r rs a b (omega arith) ∙ forward-here r rs a b (omega arith) e refl
+      ∙ ap (λ (z : ℤ). minℤ z (pos (r .high))) (sym (f .at a b (omega arith) hi)))
       (λ x y hx hy ne. elim (decLe y x) [
         | yes l ↦ half-back r rs x y l
         | no g ↦ half-forward r rs x y (omega arith) ∙ elsewhere r rs x y (λ p q. ne (omega arith) (sym q)) (λ p q. omega arith)
       ]) f in
       let z = entry w u b a in
       filled-set w (half r rs) (limit (ruled (r ∷ rs))) t₀ u b a (minℤ z (negℤ (pos (r .low)))) room hi (omega arith)
-      (back-here r rs b a (omega arith) e refl ∙ ap (λ (y : ℤ). minℤ y (negℤ (pos (r .low)))) (sym (h .at b a hi (omega arith) ∙ half-back r rs b a (omega arith))))
+      (back-here r rs b a (omega arith) e refl
+      ∙ ap (λ (y : ℤ). minℤ y (negℤ (pos (r .low)))) (sym (h .at b a hi (omega arith) ∙ half-back r rs b a (omega arith))))
       (λ x y hx hy ne. elim (decLe y x) [
         | yes l ↦ elsewhere r rs x y (λ p q. omega arith) (λ p q. ne (sym q) (omega arith)) ∙ sym (half-back r rs x y l)
         | no g ↦ sym (half-forward r rs x y (omega arith))
@@ -153,7 +158,9 @@ module _ (span : ℕ) (first last from to low high : List ℕ) where
   ruledFrom k = ruled span (windowsOf first last) (rulesOf (drop k from) (drop k to) (drop k low) (drop k high))
 
   pub ruled-none : ruledFrom (length from) ≡ ruled span (windowsOf first last) []
-  ruled-none = ap (λ (l : List ℕ). ruled span (windowsOf first last) (rulesOf l (drop (length from) to) (drop (length from) low) (drop (length from) high))) (drop-length from)
+  ruled-none =
+      let n = length from in
+      ap (λ (l : List ℕ). ruled span (windowsOf first last) (rulesOf l (drop n to) (drop n low) (drop n high))) (drop-length from)
 
   pub ruled-all : ruledFrom 0 ≡ sheetOf span first last from to low high
   unfolding sheetOf

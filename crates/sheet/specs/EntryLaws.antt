@@ -8,7 +8,8 @@ use Prim.Native.Nat.{ℕ, zero, suc, _+_, _-_, _*_, _/_, _%_, _≤_, _<_}
 use native.Mathlib.Omega.{arith}
 use native.Mathlib.Nat.{mul-le-mul-right, div-add-mod', mod-lt, div-lt-iff-lt-mul}
 use native.Mathlib.Decide.{decLe, ℕ-discrete}
-use lib.ListN.{length, getD, drop, take, set, length-append, length-drop, length-set, length-take, take-append-drop, replicate, length-replicate, getD-replicate, List·getD-append}
+use lib.ListN.{length, getD, drop, take, set, replicate}
+use lib.ListN.{length-append, length-drop, length-set, length-take, take-append-drop, length-replicate, getD-replicate, List·getD-append}
 use lib.Seq.{ext-getD, getD-set-same, getD-set-other, drop-set-lt, getD-take, drop-at}
 use lib.IntN.{ℤ, pos}
 use Rattle.network.specs.Network.{Weights}
@@ -20,13 +21,13 @@ pub rows-apart : (w a x : ℕ) → a < x → a * w + w ≤ x * w
 rows-apart w a x h = let k : (a + 1) * w ≤ x * w = mul-le-mul-right w (omega arith) in omega arith
 
 -- a place belongs to one row and one column
-pub place-row : (w a b x y : ℕ) → b < w → y < w → x * w + y ≡ a * w + b → x ≡ a
+place-row : (w a b x y : ℕ) → b < w → y < w → x * w + y ≡ a * w + b → x ≡ a
 place-row w a b x y hb hy e = elim (decLe x a) [
   | no g ↦ absurd (omega (arith, rows-apart w a x (omega arith)))
   | yes l ↦ elim (decLe a x) [ yes m ↦ omega arith | no g ↦ absurd (omega (arith, rows-apart w x a (omega arith))) ]
 ]
 
-pub place-column : (w a b x y : ℕ) → b < w → y < w → x * w + y ≡ a * w + b → y ≡ b
+place-column : (w a b x y : ℕ) → b < w → y < w → x * w + y ≡ a * w + b → y ≡ b
 place-column w a b x y hb hy e = let r = ap (λ (k : ℕ). k * w) (place-row w a b x y hb hy e) in omega arith
 
 pub place-inside : (w a b : ℕ) → a < w → b < w → a * w + b < w * w
@@ -35,7 +36,9 @@ place-inside w a b ha hb = omega (arith, row-inside a w ha)
 -- the place of a pair, from a place
 place-of : (w i : ℕ) → i < w * w → (a : ℕ) × (b : ℕ) × (a < w) × (b < w) × (a * w + b ≡ i)
 place-of zero i h = absurd (omega arith)
-place-of (suc v) i h = (i / suc v, i % suc v, div-lt-iff-lt-mul {k = suc v} {x = i} {y = suc v} (omega arith) .1 h, mod-lt i {m = suc v} (omega arith), div-add-mod' i (suc v))
+place-of (suc v) i h =
+    let row : i / suc v < suc v = div-lt-iff-lt-mul {k = suc v} {x = i} {y = suc v} (omega arith) .1 h in
+    (i / suc v, i % suc v, row, mod-lt i {m = suc v} (omega arith), div-add-mod' i (suc v))
 
 module _ (w : ℕ) (t : List ℤ) (a b : ℕ) (v : ℤ) (ha : a < w) (hb : b < w) where
   pub entry-set-same : w * w ≤ length t → entry w (set t (a * w + b) v) a b ≡ v
@@ -56,7 +59,8 @@ pub record Filled (w : ℕ) (f : Weights) (t₀ t : List ℤ) : Type 0 where
 
 pub filled-is : (w : ℕ) (f : Weights) (t₀ t : List ℤ) → w * w ≤ length t₀ → Filled w f t₀ t → t ≡ tableOf w f ++ drop (w * w) t₀
 filled-is w f t₀ t room h =
-    let front : take (w * w) t ≡ tableOf w f = ext-getD (pos 0) (take (w * w) t) (tableOf w f) (omega (arith, length-take (w * w) t, h .long, length-tableOf w f)) agree in
+    let size : length (take (w * w) t) ≡ length (tableOf w f) = omega (arith, length-take (w * w) t, h .long, length-tableOf w f) in
+    let front : take (w * w) t ≡ tableOf w f = ext-getD (pos 0) (take (w * w) t) (tableOf w f) size agree in
     sym (take-append-drop (w * w) t) ∙ ap (λ (l : List ℤ). l ++ drop (w * w) t) front ∙ ap (λ (l : List ℤ). tableOf w f ++ l) (h .past)
   where
     agree : (i : ℕ) → i < length (take (w * w) t) → getD (take (w * w) t) i (pos 0) ≡ getD (tableOf w f) i (pos 0)

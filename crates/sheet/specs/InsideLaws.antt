@@ -68,13 +68,17 @@ module _ (ws : List Window) (ok : InOrder ws) (a b : ℕ) (h : a ≤ b) where
   unfolding InOrder
   inside-none = none-pass (insideOf (suc b) a) ws (λ j l t.
       let w = getD ws j noWindow in
-      omega (arith, ok j l, leb→le (suc b) (w .first) (left (leb (suc b) (w .first)) (leb (w .last) a) t), leb→le (w .last) a (right (leb (suc b) (w .first)) (leb (w .last) a) t)))
+      let starts = leb→le (suc b) (w .first) (left (leb (suc b) (w .first)) (leb (w .last) a) t) in
+      let ends = leb→le (w .last) a (right (leb (suc b) (w .first)) (leb (w .last) a) t) in
+      omega (arith, ok j l))
 
   pub ends-none : howMany (endsIn b a) ws ≡ 0
   unfolding InOrder
   ends-none = none-pass (endsIn b a) ws (λ j l t.
       let w = getD ws j noWindow in
-      omega (arith, ok j l, leb→le (suc b) (w .first) (left (leb (suc b) (w .first)) (eqb (w .last) a) t), eqb→eq (w .last) a (right (leb (suc b) (w .first)) (eqb (w .last) a) t)))
+      let starts = leb→le (suc b) (w .first) (left (leb (suc b) (w .first)) (eqb (w .last) a) t) in
+      let ends = eqb→eq (w .last) a (right (leb (suc b) (w .first)) (eqb (w .last) a) t) in
+      omega (arith, ok j l))
 
   pub exact-none : howMany (exactly (suc b) a) ws ≡ 0
   exact-none = omega (arith, row-step a b ws, ends-none)

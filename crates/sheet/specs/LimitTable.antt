@@ -22,7 +22,7 @@ boundaries s = suc (top s)
 abbrev pub limitTable : Sheet → List ℤ → List ℤ
 limitTable s t = tableOf (boundaries s) (limit s) ++ drop (boundaries s * boundaries s) t
 
--- the units' windows, as first and last slots: at most 300, each 1 ≤ first ≤ last, and last a boundary of w
+-- the units' windows, as first and last slots: at most 300, each 1 ≤ first ≤ last, and last below w
 pub record WindowsFit (w : ℕ) (first last : List Slot) : Type 0 where
   pub paired : length last ≡ length first
   pub few : length first ≤ maxUnits

@@ -79,6 +79,7 @@ pub fn fill_limits(
     let w = span + 1;
     windows_inside(first, last, w, t);
     fill_forward(first.len(), w, t);
+    // From the last rule to the first, as the list of rules is built.
     let mut k = from.len();
     while 0 < k {
         k -= 1;

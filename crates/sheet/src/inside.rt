@@ -14,6 +14,7 @@ pub fn exact_windows(first: &[u16], last: &[u16], w: usize, t: &mut [i16])
     ensures { λ _. ⌜ now (t .exit) ≡ tableOf w (exactWeights (windowsOf (now (first .entry)) (now (last .entry)))) ++ drop (w * w) (now (t .entry)) ⌝ }
 {
     network::clear(w * w, t);
+    // From the last unit to the first, as the list of windows is built.
     let mut j = first.len();
     while 0 < j {
         j -= 1;
@@ -31,6 +32,7 @@ pub fn windows_inside(first: &[u16], last: &[u16], w: usize, t: &mut [i16])
     for a in 1..w {
         let row = a * w;
         let mut sum: i16 = 0;
+        // Right of the diagonal no window lies inside.
         let mut b = a;
         while 0 < b {
             b -= 1;

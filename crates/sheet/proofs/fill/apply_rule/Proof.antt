@@ -25,7 +25,8 @@ tighten-low-requires : tie.Need-tighten-low-requires
 tighten-low-requires c κs =
     let s = c .before .before .before .before .before .before in
     let a = s .args in
-    (omega (arith, c .before .back-place .ensures, place-inside (a .w) (a .to) (a .from - 1) (s .pre .2) (omega arith), s .pre .5, c .before .before .before .tighten-high .kept .1 .1 .0), s .pre .3)
+    let inside = place-inside (a .w) (a .to) (a .from - 1) (s .pre .2) (omega arith) in
+    (omega (arith, c .before .back-place .ensures, s .pre .5, c .before .before .before .tighten-high .kept .1 .1 .0), s .pre .3)
 
 same-length : tie.Need-same-length
 same-length c = search needs
@@ -38,7 +39,8 @@ returns c =
     let back = c .before .before .before .back-place in
     c .before .tighten-low .ensures
     ∙ ap (λ (i : ℕ). lowered i (negℤ (pos (a .low))) (high .last .1 .1 .0)) (back .ensures)
-    ∙ ap (lowered (a .to * a .w + (a .from - 1)) (negℤ (pos (a .low)))) (high .ensures ∙ ap (λ (i : ℕ). lowered i (pos (a .high)) (a .t .now)) (forward .ensures))
+    ∙ ap (lowered (a .to * a .w + (a .from - 1)) (negℤ (pos (a .low))))
+    (high .ensures ∙ ap (λ (i : ℕ). lowered i (pos (a .high)) (a .t .now)) (forward .ensures))
 
 pub apply-rule-spec : {M : Type 1} → statement M
 apply-rule-spec =

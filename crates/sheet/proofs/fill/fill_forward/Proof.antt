@@ -58,7 +58,8 @@ inside : (c : tie.In-loop2 Inv-loop2 μ-loop2 Inv-loop μ-loop)
     → c .before .before .before .loop .a * c .before .before .before .before .before .args .w + (c .before .loop2 .b - 1) < length (c .before .loop2 .t)
 inside c =
     let w = c .before .before .before .before .before .args .w in
-    omega (arith, place-inside w (c .before .before .before .loop .a) (c .before .loop2 .b - 1) (omega arith) (omega arith), c .before .before .before .loop .inv .long)
+    let r = c .before .before .before .loop in
+    omega (arith, place-inside w (r .a) (c .before .loop2 .b - 1) (omega arith) (omega arith), r .inv .long)
 
 add-most : tie.Need-add-most Inv-loop2 μ-loop2 Inv-loop μ-loop
 add-most c = omega (arith, inside c, c .before .before .before .loop .inv .long)
@@ -77,9 +78,10 @@ loop2-again c =
     let s = c .before .before .before .before .before in
     let l = c .before .loop2 in
     let a = c .before .before .before .loop .a in
-    let f : SFits w16 (c .before .before .before .before .signed .result) = search needs in
-    let e : toZ w16 (ofZ w16 (c .before .before .before .before .signed .result)) ≡ pos (s .args .n) = toZ-ofZ f ∙ c .before .before .before .before .signed .ensures in
-    let long = length-set (l .t) (a * s .args .w + (l .b - 1)) (toZ w16 (ofZ w16 (c .before .before .before .before .signed .result))) in (
+    let most = c .before .before .before .before .signed in
+    let f : SFits w16 (most .result) = search needs in
+    let e : toZ w16 (ofZ w16 (most .result)) ≡ pos (s .args .n) = toZ-ofZ f ∙ most .ensures in
+    let long = length-set (l .t) (a * s .args .w + (l .b - 1)) (toZ w16 (ofZ w16 (most .result))) in (
       omega arith,
       omega arith,
       omega arith,
@@ -104,7 +106,9 @@ whole : (c : tie.After-loop Inv-loop2 μ-loop2 Inv-loop μ-loop)
     → let a = c .before .before .before .args in Filled (a .w) (withForward (a .n) (entry (a .w) (a .t .now))) (a .t .now) (c .before .loop .t)
 whole c =
     let a = c .before .before .before .args in
-    swept-last (a .w) (entry (a .w) (a .t .now)) (withForward (a .n) (entry (a .w) (a .t .now))) (a .t .now) (c .before .loop .t) (c .before .loop .a) (a .w) (omega arith) (c .before .loop .inv)
+    let f = entry (a .w) (a .t .now) in
+    let l = c .before .loop in
+    swept-last (a .w) f (withForward (a .n) f) (a .t .now) (l .t) (l .a) (a .w) (omega arith) (l .inv)
 
 same-length : tie.Need-same-length Inv-loop2 μ-loop2 Inv-loop μ-loop
 same-length c = whole c .long

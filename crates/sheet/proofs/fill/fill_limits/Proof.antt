@@ -24,6 +24,10 @@ Inv-loop span first last from to low high t₀ w k₀ t k =
 abbrev μ-loop : tie.MeasureT-loop
 μ-loop span first last from to low high t₀ w k₀ t k = k
 
+-- the function's entry, from the loop
+abbrev entry-of : tie.At-loop Inv-loop μ-loop → tie.Start Inv-loop μ-loop
+entry-of c = c .before .before .before .before .before .before .before .before .before .before .before .before .before
+
 -- what is known at entry: the sheet, its rules from line k on, the windows, a rule, and the room of the table
 abbrev sheet : tie.Start Inv-loop μ-loop → Sheet
 sheet c = let a = c .args in sheetOf (a .span) (a .first .now) (a .last .now) (a .from .now) (a .to .now) (a .low .now) (a .high .now)
@@ -35,7 +39,9 @@ abbrev units : tie.Start Inv-loop μ-loop → List Window
 units c = windowsOf (c .args .first .now) (c .args .last .now)
 
 windows : (c : tie.Start Inv-loop μ-loop) → WindowsFit (c .args .span + 1) (c .args .first .now) (c .args .last .now)
-windows c = let a = c .args in accepted-windows (a .span) (a .first .now) (a .last .now) (a .from .now) (a .to .now) (a .low .now) (a .high .now) (c .pre .ok) (c .pre .agree)
+windows c =
+    let a = c .args in
+    accepted-windows (a .span) (a .first .now) (a .last .now) (a .from .now) (a .to .now) (a .low .now) (a .high .now) (c .pre .ok) (c .pre .agree)
 
 agree : (c : tie.Start Inv-loop μ-loop)
     → Agree (c .args .first .now) (c .args .last .now) (c .args .from .now) (c .args .to .now) (c .args .low .now) (c .args .high .now)
@@ -97,7 +103,8 @@ loop-holds c =
     let u = c .before .fill-forward .last .1 .1 .0 in (
       omega arith,
       omega (arith, room s, p .long),
-      subst (λ (q : Sheet). Filled (a .span + 1) (limit q) u u) (sym (ruled-none (a .span) (a .first .now) (a .last .now) (a .from .now) (a .to .now) (a .low .now) (a .high .now)))
+      subst (λ (q : Sheet). Filled (a .span + 1) (limit q) u u)
+          (sym (ruled-none (a .span) (a .first .now) (a .last .now) (a .from .now) (a .to .now) (a .low .now) (a .high .now)))
           (record { long = refl; at = p .at; past = refl }),
     )
 
@@ -114,23 +121,23 @@ mul-apply-rule-2 : tie.Need-mul-apply-rule-2 Inv-loop μ-loop
 mul-apply-rule-2 c = omega arith
 
 shared-slice-read-apply-rule-2 : tie.Need-shared-slice-read-apply-rule-2 Inv-loop μ-loop
-shared-slice-read-apply-rule-2 c = omega (arith, agree (c .before .before .before .before .before .before .before .before .before .before .before .before .before .before .before .before) .stretches, c .before .before .before .loop .inv .0)
+shared-slice-read-apply-rule-2 c = omega (arith, agree (entry-of (c .before .before .before)) .stretches, c .before .before .before .loop .inv .0)
 
 mul-apply-rule-3 : tie.Need-mul-apply-rule-3 Inv-loop μ-loop
 mul-apply-rule-3 c = omega arith
 
 shared-slice-read-apply-rule-3 : tie.Need-shared-slice-read-apply-rule-3 Inv-loop μ-loop
-shared-slice-read-apply-rule-3 c = omega (arith, agree (c .before .before .before .before .before .before .before .before .before .before .before .before .before .before .before .before .before) .lows, c .before .before .before .before .loop .inv .0)
+shared-slice-read-apply-rule-3 c = omega (arith, agree (entry-of (c .before .before .before .before)) .lows, c .before .before .before .before .loop .inv .0)
 
 mul-apply-rule-4 : tie.Need-mul-apply-rule-4 Inv-loop μ-loop
 mul-apply-rule-4 c = omega arith
 
 shared-slice-read-apply-rule-4 : tie.Need-shared-slice-read-apply-rule-4 Inv-loop μ-loop
-shared-slice-read-apply-rule-4 c = omega (arith, agree (c .before .before .before .before .before .before .before .before .before .before .before .before .before .before .before .before .before .before) .highs, c .before .before .before .before .before .loop .inv .0)
+shared-slice-read-apply-rule-4 c = omega (arith, agree (entry-of (c .before .before .before .before .before)) .highs, c .before .before .before .before .before .loop .inv .0)
 
 apply-rule-requires : tie.Need-apply-rule-requires Inv-loop μ-loop
 apply-rule-requires c κs =
-    let s = c .before .before .before .before .before .before .before .before .before .before .before .before .before .before .before .before .before .before .before in
+    let s = entry-of (c .before .before .before .before .before .before) in
     let a = s .args in
     let l = c .before .before .before .before .before .before .loop in
     let fit = accepted-rule (a .span) (a .first .now) (a .last .now) (a .from .now) (a .to .now) (a .low .now) (a .high .now)
@@ -142,7 +149,7 @@ loop-less c = omega arith
 
 loop-again : tie.Need-loop-again Inv-loop μ-loop
 loop-again c =
-    let s = c .before .before .before .before .before .before .before .before .before .before .before .before .before .before .before .before .before .before .before .before .before in
+    let s = entry-of (c .before .before .before .before .before .before .before .before) in
     let a = s .args in
     let l = c .before .before .before .before .before .before .before .before .loop in
     let u = c .before .before .before .before .before .before .before .before .before .before .fill-forward .last .1 .1 .0 in (
@@ -153,16 +160,17 @@ loop-again c =
     )
 
 whole : (c : tie.After-loop Inv-loop μ-loop)
-    → let s = c .before .before .before .before .before .before .before .before .before .before .before .before .before .before in
+    → let s = entry-of (c .before) in
     Filled (s .args .span + 1) (limit (sheet s)) (s .args .t .now) (c .before .loop .t)
 whole c =
-    let s = c .before .before .before .before .before .before .before .before .before .before .before .before .before .before in
+    let s = entry-of (c .before) in
     let a = s .args in
     let l = c .before .loop in
     let u = c .before .before .before .fill-forward .last .1 .1 .0 in
     let e : l .k ≡ 0 = omega arith in
     filled-over (a .span + 1) (limit (ruled (a .span) (units s) [])) (limit (sheet s)) (a .t .now) u (l .t) (plain (c .before .before .before))
-    (subst (λ (r : Sheet). Filled (a .span + 1) (limit r) u (l .t)) (ruled-all (a .span) (a .first .now) (a .last .now) (a .from .now) (a .to .now) (a .low .now) (a .high .now))
+    (subst (λ (r : Sheet). Filled (a .span + 1) (limit r) u (l .t))
+    (ruled-all (a .span) (a .first .now) (a .last .now) (a .from .now) (a .to .now) (a .low .now) (a .high .now))
     (subst (λ (k : ℕ). Filled (a .span + 1) (limit (fromLine s k)) u (l .t)) e (l .inv .2)))
 
 same-length : tie.Need-same-length Inv-loop μ-loop
@@ -170,7 +178,7 @@ same-length c = whole c .long
 
 returns : tie.Need-returns Inv-loop μ-loop
 returns c =
-    let s = c .before .before .before .before .before .before .before .before .before .before .before .before .before .before in
+    let s = entry-of (c .before) in
     let t = s .args .t .now in
     filled-is (s .args .span + 1) (limit (sheet s)) t (c .before .loop .t) (room s) (whole c)
     ∙ ap (λ (w : ℕ). tableOf w (limit (sheet s)) ++ drop (w * w) t) (sym (wide s))

@@ -38,7 +38,8 @@ unfolding exactWeights
 zeros c =
     let s = c .before .before .before .before in
     let a = s .args in
-    subst (Filled (a .w) (exactWeights []) (a .t .now)) (sym (c .clear .ensures)) (cleared-filled (a .w) (exactWeights []) (a .t .now) (s .pre .0) (λ x y. refl))
+    subst (Filled (a .w) (exactWeights []) (a .t .now)) (sym (c .clear .ensures))
+    (cleared-filled (a .w) (exactWeights []) (a .t .now) (s .pre .0) (λ x y. refl))
 
 loop-holds : tie.Need-loop-holds Inv-loop μ-loop
 loop-holds c =
@@ -71,12 +72,13 @@ back-place-requires : tie.Need-back-place-requires Inv-loop μ-loop
 back-place-requires c κs =
     let s = c .before .before .before .before .before .before .before .before .before in
     let e = s .pre .1 .each (c .before .before .before .loop .j - 1) (omega arith) in
-    (e .0, e .1, e .2, omega arith)
+    (omega arith, omega arith, omega arith, omega arith)
 
 one : (c : tie.After-back-place Inv-loop μ-loop)
     → let s = c .before .before .before .before .before .before .before .before .before .before in
     let l = c .before .before .before .before .loop in
-    Taken (s .args .w) (s .args .first .now) (s .args .last .now) (s .pre .1) (c .before .before .before .before .before .before .clear .last .1 .0) (l .j) (c .back-place .result) (l .t)
+    Taken (s .args .w) (s .args .first .now) (s .args .last .now) (s .pre .1) (c .before .before .before .before .before .before .clear .last .1 .0)
+    (l .j) (c .back-place .result) (l .t)
 one c =
     let s = c .before .before .before .before .before .before .before .before .before .before in
     let l = c .before .before .before .before .loop in
@@ -117,9 +119,10 @@ whole c =
     let a = c .before .before .before .before .before .before .before .args in
     let l = c .before .loop in
     let e : l .j ≡ 0 = omega arith in
-    filled-over (a .w) (exactWeights []) (exactWeights (windowsOf (a .first .now) (a .last .now))) (a .t .now) (c .before .before .before .clear .last .1 .0) (l .t)
+    let t = c .before .before .before .clear .last .1 .0 in
+    filled-over (a .w) (exactWeights []) (exactWeights (windowsOf (a .first .now) (a .last .now))) (a .t .now) t (l .t)
     (zeros (c .before .before .before))
-    (subst (λ (j : ℕ). Filled (a .w) (exactWeights (windowsOf (drop j (a .first .now)) (drop j (a .last .now)))) (c .before .before .before .clear .last .1 .0) (l .t)) e (l .inv .2))
+    (subst (λ (j : ℕ). Filled (a .w) (exactWeights (windowsOf (drop j (a .first .now)) (drop j (a .last .now)))) t (l .t)) e (l .inv .2))
 
 same-length : tie.Need-same-length Inv-loop μ-loop
 same-length c = whole c .long

@@ -17,21 +17,21 @@ use Rattle.sheet.specs.QuestionLaws.{windowsOf-length}
 use Rattle.sheet.specs.LimitTable.{exactWeights, insideWeights}
 use Rattle.sheet.specs.InsideLaws.{endsIn, ends-none, fit-in-order}
 use Rattle.sheet.specs.EntryLaws.{Filled, filled-is, is-filled, filled-over}
-use Rattle.sheet.proofs.Sweep.{Swept, swept-last, rebase, own-base}
-use Rattle.sheet.proofs.Sums.{Turn, turn, first-row, next-row}
+use Rattle.sheet.proofs.Sweep.{swept-last, rebase, own-base}
+use Rattle.sheet.proofs.Sums.{Summed, Turn, turn, first-row, next-row}
 use Rattle.sheet.proofs.inside.windows_inside.Statement.{statement}
 use Rattle.sheet.proofs.inside.windows_inside.Tie as tie
 
 abbrev Inv-loop2 : tie.InvT-loop2
 Inv-loop2 first last w t₀ a row sum₀ b₀ t sum b =
     (w * w ≤ length t₀) × (0 < a) × (a < w) × (b ≤ a)
-    × (toZ w16 sum ≡ negℤ (pos (howMany (endsIn b a) (windowsOf first last)))) × Swept w (exactWeights (windowsOf first last)) (insideWeights (windowsOf first last)) t₀ a b t
+    × (toZ w16 sum ≡ negℤ (pos (howMany (endsIn b a) (windowsOf first last)))) × Summed w (windowsOf first last) t₀ a b t
 
 abbrev μ-loop2 : tie.MeasureT-loop2
 μ-loop2 first last w t₀ a row sum₀ b₀ t sum b = b
 
 abbrev Inv-loop : tie.InvT-loop
-Inv-loop first last w t₀ a₀ t a = (0 < a) × (w * w ≤ length t₀) × Swept w (exactWeights (windowsOf first last)) (insideWeights (windowsOf first last)) t₀ a a t
+Inv-loop first last w t₀ a₀ t a = (0 < a) × (w * w ≤ length t₀) × Summed w (windowsOf first last) t₀ a a t
 
 abbrev μ-loop : tie.MeasureT-loop
 μ-loop first last w t₀ a₀ t a = w - a
@@ -47,7 +47,8 @@ exact : (c : tie.After-exact-windows Inv-loop2 μ-loop2 Inv-loop μ-loop)
 exact c =
     let s = c .before .before .before .before in
     let a = s .args in
-    is-filled (a .w) (exactWeights (windowsOf (a .first .now) (a .last .now))) (a .t .now) (c .exact-windows .last .1 .1 .1 .0) (s .pre .0) (c .exact-windows .ensures)
+    is-filled (a .w) (exactWeights (windowsOf (a .first .now) (a .last .now))) (a .t .now) (c .exact-windows .last .1 .1 .1 .0)
+    (s .pre .0) (c .exact-windows .ensures)
 
 loop-holds : tie.Need-loop-holds Inv-loop2 μ-loop2 Inv-loop μ-loop
 loop-holds c =
@@ -58,7 +59,8 @@ loop-holds c =
     let f = exact (c .before) in (
       omega arith,
       omega (arith, f .long, s .pre .0),
-      own-base (a .w) (exactWeights ws) (insideWeights ws) (a .t .now) t 1 1 (first-row (a .w) ws (fit-in-order (a .w) (a .first .now) (a .last .now) (s .pre .1)) (a .t .now) t f),
+      own-base (a .w) (exactWeights ws) (insideWeights ws) (a .t .now) t 1 1
+          (first-row (a .w) ws (fit-in-order (a .w) (a .first .now) (a .last .now) (s .pre .1)) (a .t .now) t f),
     )
 
 mul-row : tie.Need-mul-row Inv-loop2 μ-loop2 Inv-loop μ-loop
@@ -173,7 +175,7 @@ loop-again c =
     let ws = windowsOf (a .first .now) (a .last .now) in
     let t₀ = c .before .before .before .before .before .exact-windows .last .1 .1 .1 .0 in
     let e : l .b ≡ 0 = omega arith in
-    let done : Swept (a .w) (exactWeights ws) (insideWeights ws) (r .t) (r .a) 0 (l .t) = subst (λ (b : ℕ). Swept (a .w) (exactWeights ws) (insideWeights ws) (r .t) (r .a) b (l .t)) e (l .inv .5) in (
+    let done : Summed (a .w) ws (r .t) (r .a) 0 (l .t) = subst (λ (b : ℕ). Summed (a .w) ws (r .t) (r .a) b (l .t)) e (l .inv .5) in (
       omega arith,
       r .inv .1,
       next-row (a .w) ws (fit-in-order (a .w) (a .first .now) (a .last .now) (s .pre .1)) t₀ (l .t) (r .a)
