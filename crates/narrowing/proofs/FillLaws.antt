@@ -11,12 +11,10 @@ use lib.IntN.{ℤ, pos}
 use Rattle.lists.specs.Lists.{run, joined}
 use Rattle.network.specs.Network.{Weights}
 use Rattle.network.specs.Table.{listOf, tableOf, entry}
+use Rattle.narrowing.specs.Windows.{Filled}
 use Rattle.network.specs.TableLaws.{values-are, seam-moves, seam-length, length-rows, rows-snoc, length-listOf}
 
 -- ---- places
-abbrev pub Filled : {A : Type 0} → A → (ℕ → A) → ℕ → List A → Type 0
-Filled d g n xs = (j : ℕ) → j < n → getD xs j d ≡ g j
-
 pub filled-more : {A : Type 0} (d : A) (g : ℕ → A) (i : ℕ) (v : A) (xs : List A) → i < length xs → v ≡ g i → Filled d g i xs → Filled d g (i + 1) (set xs i v)
 filled-more d g i v xs h e f j l = elim (ℕ-discrete j i) [
   | yes q ↦ rw q (getD-set-same xs i v d h ∙ e)

@@ -6,3 +6,6 @@ mod CarryLaws
 mod SettleLaws
 mod SearchLaws
 mod FillLaws
+mod MarkLaws
+mod CutRowLaws
+mod CutWindowsLaws

@@ -1,3 +1,4 @@
 pub mod Cut
 pub mod Sink
 pub mod Carry
+pub mod Windows

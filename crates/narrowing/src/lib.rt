@@ -1,7 +1,7 @@
 use integers::less;
 use integers::lesser;
 ghost use mathlib.Core.Path.{_≡_};
-ghost use Prim.Native.Nat.{ℕ, _+_, _-_, _*_, _<_, _≤_};
+ghost use Prim.Native.Nat.{ℕ, _+_, _-_, _*_, _<_, _≤_, max};
 ghost use mathlib.Core.List.{List, _++_};
 ghost use lib.ListN.{length, getD, drop};
 ghost use lib.IntN.{ℤ, pos, _+ℤ_};
@@ -9,6 +9,7 @@ ghost use Rattle.network.specs.Table.{listOf, tableOf, entry};
 ghost use Rattle.narrowing.specs.Cut.{mirrored, oneLess};
 ghost use Rattle.narrowing.specs.Sink.{Within};
 ghost use Rattle.narrowing.specs.Carry.{at, Modest, Carried, LeastSum, Network, Cuts, SunkAt, AdmitsAt, Settling, Decides, Barred, LeastCutAt};
+ghost use Rattle.narrowing.specs.Windows.{Filled, slot, Units, Marked, KnownRow, CutRow, Floor, KnownCuts, CutRows, Admitted, LeastCuts};
 
 // What lowering a potential to the arcs of a cut comes to: it keeps them, it fell, or no potential keeps them.
 enum Settled {
@@ -177,4 +178,104 @@ fn arcs(inside: &[i16], w: usize, out: &mut [i16])
         let to = from + w;
         arcs_row(inside, w, b, &mut out[from..to]);
     }
+}
+
+fn larger(a: usize, b: u16) -> usize
+    ensures { λ r. ⌜ r ≡ max a b ⌝ }
+{
+    let c = b as usize;
+    if a < c { c } else { a }
+}
+
+// Marks each unit's window with the unit's slot.
+fn mark(first: &[u16], last: &[u16], plan: &[u16], w: usize, marks: &mut [u16])
+    requires { ⌜ Units w (now first) (now last) (now plan) × (w * w ≤ length (now marks)) × ((i : ℕ) → getD (now marks) i 0 ≡ 0) ⌝ }
+    ensures { λ _. ⌜ Marked (length (now (first .entry))) w (now (first .entry)) (now (last .entry)) (now (plan .entry)) (now (marks .exit)) ⌝ }
+{
+    for j in 0..first.len() {
+        let f = first[j] as usize;
+        let l = last[j] as usize;
+        let at = f * w + l;
+        marks[at] = plan[j];
+    }
+}
+
+// The least cuts of the windows that open in f, in the order in which they close: what is barred for one is barred for the next, and for
+// the window that opens later and closes in the same slot.
+fn cut_row(d: &[i16], m: &[i16], w: usize, f: usize, row: &mut [u16], floor: &mut [u16])
+    requires { ⌜ Network w (now d) (now m) × (1 ≤ f) × (f < w) × (length (now row) ≡ w) × (w ≤ length (now floor)) ⌝ }
+    requires { ⌜ KnownRow w (now d) (now m) f (now row) × Floor w (now d) (now m) f (now floor) ⌝ }
+    ensures { λ _. ⌜ CutRow w (now (d .entry)) (now (m .entry)) f w (now (row .entry)) (now (row .exit)) ⌝ }
+    ensures { λ _. ⌜ Floor w (now (d .entry)) (now (m .entry)) f (now (floor .exit)) ⌝ }
+{
+    let mut low = f;
+    for l in f..w {
+        low = larger(low, floor[l]);
+        let known = row[l] as usize;
+        if 0 < known {
+            low = least_cut(d, m, w, f, l, low, known);
+            row[l] = low as u16;
+        }
+        floor[l] = low as u16;
+    }
+}
+
+// Each unit's cut, as its window's mark has it.
+fn read_marks(first: &[u16], last: &[u16], w: usize, marks: &[u16], out: &mut [u16])
+    requires { ⌜ (length (now last) ≡ length (now first)) × (length (now first) ≤ length (now out)) × (w * w ≤ length (now marks)) ⌝ }
+    requires { ⌜ ((j : ℕ) → j < length (now first) → (getD (now first) j 0 < w) × (getD (now last) j 0 < w)) ⌝ }
+    ensures { λ _. ⌜ Filled 0 (λ j. slot w (now (marks .entry)) (getD (now (first .entry)) j 0) (getD (now (last .entry)) j 0)) (length (now (first .entry))) (now (out .exit)) ⌝ }
+    ensures { λ _. ⌜ ((j : ℕ) → length (now (first .entry)) ≤ j → getD (now (out .exit)) j 0 ≡ getD (now (out .entry)) j 0) ⌝ }
+{
+    for j in 0..first.len() {
+        let f = first[j] as usize;
+        let l = last[j] as usize;
+        let at = f * w + l;
+        out[j] = marks[at];
+    }
+}
+
+// The least cut of every marked window.
+fn cut_windows(d: &[i16], m: &[i16], w: usize, marks: &mut [u16])
+    requires { ⌜ Network w (now d) (now m) × (w * w ≤ length (now marks)) × KnownCuts w (now d) (now m) (now marks) ⌝ }
+    ensures { λ _. ⌜ CutRows w (now (d .entry)) (now (m .entry)) w (now (marks .entry)) (now (marks .exit)) ⌝ }
+{
+    let mut floor = [0u16; 49];
+    for f in 1..w {
+        let from = f * w;
+        let to = from + w;
+        cut_row(d, m, w, f, &mut marks[from..to], &mut floor);
+    }
+}
+
+// Every x becomes w - x: slots, seen from the end.
+fn reflect(xs: &[u16], w: usize, out: &mut [u16])
+    requires { ⌜ (w ≤ 49) × (length (now xs) ≤ length (now out)) × ((j : ℕ) → j < length (now xs) → getD (now xs) j 0 ≤ w) ⌝ }
+    ensures { λ _. ⌜ Filled 0 (λ j. w - getD (now (xs .entry)) j 0) (length (now (xs .entry))) (now (out .exit)) ⌝ }
+    ensures { λ _. ⌜ ((j : ℕ) → length (now (xs .entry)) ≤ j → getD (now (out .exit)) j 0 ≡ getD (now (out .entry)) j 0) ⌝ }
+{
+    let top = w as u16;
+    for j in 0..xs.len() {
+        out[j] = top - xs[j];
+    }
+}
+
+// Each unit's least cut.
+fn least_cuts(
+    d: &[i16],
+    m: &[i16],
+    w: usize,
+    first: &[u16],
+    last: &[u16],
+    plan: &[u16],
+    out: &mut [u16],
+)
+    requires { ⌜ Network w (now d) (now m) × Units w (now first) (now last) (now plan) × (length (now first) ≤ length (now out)) ⌝ }
+    requires { ⌜ Admitted w (now d) (now m) (now first) (now last) (now plan) ⌝ }
+    ensures { λ _. ⌜ LeastCuts w (now (d .entry)) (now (m .entry)) (now (first .entry)) (now (last .entry)) (now (out .entry)) (now (out .exit)) ⌝ }
+{
+    let mut marks = [0u16; 2401];
+    mark(first, last, plan, w, &mut marks);
+    cut_windows(d, m, w, &mut marks);
+    read_marks(first, last, w, &marks, out);
 }

@@ -1,4 +1,4 @@
-use Rattle.narrowing.proofs.FillLaws.{Filled, filled-more, filled-list}
+use Rattle.narrowing.proofs.FillLaws.{filled-more, filled-list}
 use Rattle.narrowing.proofs.CarryLaws.{sum-fits}
 use Rattle.narrowing.specs.Cut.{oneLess}
 use Rattle.network.specs.TableLaws.{row-inside}
@@ -11,6 +11,7 @@ use lib.ListN.{length, getD, set, length-set}
 use mathlib.Core.Path.{_≡_, refl, sym, ap, subst, _∙_}
 use Prim.Native.Nat.{ℕ, suc, _≤_, _<_, _-_, _+_, _*_}
 use native.Mathlib.Omega.{arith}
+use Rattle.narrowing.specs.Windows.{Filled}
 use borrow.Author.Needs.{needs}
 use Rattle.narrowing.proofs.arcs_row.Statement.{statement}
 use Rattle.narrowing.proofs.arcs_row.Tie as tie

@@ -1,4 +1,4 @@
-use Rattle.narrowing.proofs.FillLaws.{Filled, filled-more, filled-list}
+use Rattle.narrowing.proofs.FillLaws.{filled-more, filled-list}
 use Rattle.narrowing.specs.Cut.{mirrored}
 use Rattle.network.specs.TableLaws.{row-inside}
 use Rattle.network.specs.Table.{entry}
@@ -10,6 +10,7 @@ use lib.ListN.{length, getD, set, length-set}
 use mathlib.Core.Path.{_≡_, refl, sym, ap, subst, _∙_}
 use Prim.Native.Nat.{ℕ, suc, _≤_, _<_, _-_, _+_, _*_}
 use native.Mathlib.Omega.{arith}
+use Rattle.narrowing.specs.Windows.{Filled}
 use borrow.Author.Needs.{needs}
 use Rattle.narrowing.proofs.mirror_row.Statement.{statement}
 use Rattle.narrowing.proofs.mirror_row.Tie as tie

@@ -1,0 +1,77 @@
+use Rattle.narrowing.proofs.CutWindowsLaws.{zeros}
+use Rattle.narrowing.proofs.MarkLaws.{marks-known, cuts-least, square-most}
+use lib.ListN.{length, getD}
+use mathlib.Core.Path.{_≡_, refl, sym, ap, subst, _∙_}
+use Prim.Native.Nat.{ℕ, suc, _≤_, _<_, _-_, _+_, _*_}
+use native.Mathlib.Omega.{arith}
+use borrow.Author.Needs.{needs}
+use Rattle.narrowing.proofs.least_cuts.Statement.{statement}
+use Rattle.narrowing.proofs.least_cuts.Tie as tie
+use Rattle.narrowing.proofs.least_cuts.Reads as reads
+use Rattle.narrowing.proofs.least_cuts.Lts as lts
+use Rattle.narrowing.proofs.cut_windows.Reads as cut-windows-reads
+use Rattle.narrowing.proofs.mark.Reads as mark-reads
+use Rattle.narrowing.proofs.read_marks.Reads as read-marks-reads
+
+slice-aggregate-mark : tie.Need-slice-aggregate-mark
+slice-aggregate-mark c = search needs
+
+mark-requires : tie.Need-mark-requires
+mark-requires c κs =
+    let st = c .before .before .before .before .before in
+    (st .pre .0 .1, square-most (st .args .w) (st .pre .0 .0 .most), zeros 2401)
+
+slice-aggregate-cut-windows : tie.Need-slice-aggregate-cut-windows
+slice-aggregate-cut-windows c = search needs
+
+cut-windows-requires : tie.Need-cut-windows-requires
+cut-windows-requires c κs =
+    let mk = c .before .before in
+    let st = mk .before .before .before .before .before .before in
+    let a = st .args in
+    let n : length (mk .mark .last .1 .1 .1 .1 .0) ≡ 2401 = mk .mark .kept .1 .1 .1 .1 .0 in (
+      st .pre .0 .0,
+      omega (arith, square-most (a .w) (st .pre .0 .0 .most)),
+      marks-known (a .w) (a .first .now) (a .last .now) (a .plan .now) (st .pre .0 .1) (a .d .now) (a .m .now) (st .pre .1) (mk .mark .last .1 .1 .1 .1 .0) (mk .mark .ensures),
+    )
+
+slice-aggregate-read-marks : tie.Need-slice-aggregate-read-marks
+slice-aggregate-read-marks c = search needs
+
+read-marks-requires : tie.Need-read-marks-requires
+read-marks-requires c κs =
+    let cut = c .before .before .before in
+    let mk = cut .before .before .before in
+    let st = mk .before .before .before .before .before .before in
+    let a = st .args in
+    let n : length (cut .cut-windows .last .1 .1 .1 .0) ≡ 2401 = cut .cut-windows .kept .1 .1 .1 .0 ∙ mk .mark .kept .1 .1 .1 .1 .0 in (
+      (st .pre .0 .1 .lasts, st .pre .0 .2, omega (arith, square-most (a .w) (st .pre .0 .0 .most))),
+      λ j h. let u = st .pre .0 .1 .inside j h in omega (arith, u),
+    )
+
+same-length : tie.Need-same-length
+same-length c = search needs
+
+returns : tie.Need-returns
+returns c =
+    let rd = c .before .before in
+    let cut = rd .before .before .before .before in
+    let mk = cut .before .before .before in
+    let st = mk .before .before .before .before .before .before in
+    let a = st .args in
+    cuts-least (a .w) (a .first .now) (a .last .now) (a .plan .now) (st .pre .0 .1) (a .d .now) (a .m .now) (st .pre .1) (mk .mark .last .1 .1 .1 .1 .0) (mk .mark .ensures)
+    (cut .cut-windows .last .1 .1 .1 .0) (a .out .now) (rd .read-marks .last .1 .1 .1 .1 .0) (cut .cut-windows .ensures) (rd .read-marks .kept .1 .1 .1 .1 .0)
+    (rd .read-marks .ensures .0) (rd .read-marks .ensures .1)
+
+pub least-cuts-spec : {M : Type 1} → statement M
+least-cuts-spec =
+    tie.close
+    (tie.spec
+    slice-aggregate-mark
+    mark-requires
+    slice-aggregate-cut-windows
+    cut-windows-requires
+    slice-aggregate-read-marks
+    read-marks-requires
+    same-length
+    returns)

@@ -1,0 +1,128 @@
+use Rattle.narrowing.proofs.FillLaws.{filled-more}
+use Rattle.narrowing.specs.Windows.{Filled, slot}
+use Rattle.network.specs.TableLaws.{row-inside}
+use lib.Seq.{getD-set-other}
+use lib.ListN.{length, getD, set, length-set}
+use mathlib.Core.Path.{_≡_, refl, sym, ap, subst, _∙_}
+use Prim.Native.Nat.{ℕ, suc, _≤_, _<_, _-_, _+_, _*_}
+use native.Mathlib.Omega.{arith}
+use borrow.Author.Needs.{needs}
+use Rattle.narrowing.proofs.read_marks.Statement.{statement}
+use Rattle.narrowing.proofs.read_marks.Tie as tie
+use Rattle.narrowing.proofs.read_marks.Reads as reads
+use Rattle.narrowing.proofs.read_marks.Lts as lts
+
+abbrev Inv-loop : tie.InvT-loop
+Inv-loop first last w marks out₀ j₀ j-end out j = (j ≤ length first) × (j-end ≡ length first) × (length out ≡ length out₀) × Filled 0 (λ i. slot w marks (getD first i 0) (getD last i 0)) j out × ((i : ℕ) → j ≤ i → getD out i 0 ≡ getD out₀ i 0)
+
+abbrev μ-loop : tie.MeasureT-loop
+μ-loop first last w marks out₀ j₀ j-end out j = length first - j
+
+loop-holds : tie.Need-loop-holds Inv-loop μ-loop
+loop-holds c = (omega arith, refl, refl, λ i h. absurd (omega arith), λ i h. refl)
+
+mul-f : tie.Need-mul-f Inv-loop μ-loop
+mul-f c = omega arith
+
+shared-slice-read-f : tie.Need-shared-slice-read-f Inv-loop μ-loop
+shared-slice-read-f c = omega arith
+
+cast-f : tie.Need-cast-f Inv-loop μ-loop
+cast-f c = omega (arith, c .shared-slice-known .given (c .before .before .loop .j))
+
+mul-l : tie.Need-mul-l Inv-loop μ-loop
+mul-l c = omega (arith, c .before .before .before .pre .0)
+
+shared-slice-read-l : tie.Need-shared-slice-read-l Inv-loop μ-loop
+shared-slice-read-l c = omega (arith, c .before .before .before .before .pre .0)
+
+cast-l : tie.Need-cast-l Inv-loop μ-loop
+cast-l c = omega (arith, c .shared-slice-known2 .given (c .before .before .before .loop .j))
+
+mul-at : tie.Need-mul-at Inv-loop μ-loop
+mul-at c =
+    let st = c .before .before .before .before in
+    let a = st .args in
+    let j = c .before .before .before .loop .j in
+    let q = st .pre .1 j (omega arith) in
+    omega (arith, row-inside (getD (a .first .now) j 0) (a .w) (q .0), q, st .pre .0)
+
+add-at : tie.Need-add-at Inv-loop μ-loop
+add-at c =
+    let st = c .before .before .before .before in
+    let a = st .args in
+    let j = c .before .before .before .loop .j in
+    let q = st .pre .1 j (omega arith) in
+    omega (arith, row-inside (getD (a .first .now) j 0) (a .w) (q .0), q, st .pre .0)
+
+mul-out : tie.Need-mul-out Inv-loop μ-loop
+mul-out c =
+    let st = c .before .before .before .before in
+    let a = st .args in
+    let j = c .before .before .before .loop .j in
+    let q = st .pre .1 j (omega arith) in
+    omega (arith, row-inside (getD (a .first .now) j 0) (a .w) (q .0), q, st .pre .0, st .good)
+
+shared-slice-read-out : tie.Need-shared-slice-read-out Inv-loop μ-loop
+shared-slice-read-out c =
+    let st = c .before .before .before .before .before in
+    let a = st .args in
+    let j = c .before .before .before .before .loop .j in
+    let q = st .pre .1 j (omega arith) in
+    omega (arith, row-inside (getD (a .first .now) j 0) (a .w) (q .0), q, st .pre .0)
+
+mul-out-2 : tie.Need-mul-out-2 Inv-loop μ-loop
+mul-out-2 c = omega (arith, c .before .before .before .before .before .pre .0, c .before .before .before .before .loop .inv .2)
+
+slice-write-out : tie.Need-slice-write-out Inv-loop μ-loop
+slice-write-out c = omega (arith, c .before .before .before .before .before .pre .0, c .before .before .before .before .loop .inv .2)
+
+add-j : tie.Need-add-j Inv-loop μ-loop
+add-j c = omega arith
+
+loop-less : tie.Need-loop-less Inv-loop μ-loop
+loop-less c = omega arith
+
+loop-again : tie.Need-loop-again Inv-loop μ-loop
+loop-again c =
+    let st = c .before .before .before .before .before in
+    let a = st .args in
+    let l = c .before .before .before .before .loop in
+    let v = slot (a .w) (a .marks .now) (getD (a .first .now) (l .j) 0) (getD (a .last .now) (l .j) 0) in (
+      omega arith,
+      refl,
+      length-set (l .out) (l .j) v ∙ l .inv .2,
+      filled-more 0 (λ i. slot (a .w) (a .marks .now) (getD (a .first .now) i 0) (getD (a .last .now) i 0)) (l .j) v (l .out) (omega (arith, st .pre .0, l .inv .2)) refl (l .inv .3),
+      λ i h. getD-set-other (l .out) (l .j) i v 0 (λ e. omega arith) ∙ l .inv .4 i (omega arith),
+    )
+
+same-length : tie.Need-same-length Inv-loop μ-loop
+same-length c = c .before .loop .inv .2
+
+returns : tie.Need-returns Inv-loop μ-loop
+returns c = (λ j h. c .before .loop .inv .3 j (omega arith), λ j h. c .before .loop .inv .4 j (omega arith))
+
+pub read-marks-spec : {M : Type 1} → statement M
+read-marks-spec =
+    tie.close
+    (tie.spec
+    Inv-loop
+    μ-loop
+    loop-holds
+    mul-f
+    shared-slice-read-f
+    cast-f
+    mul-l
+    shared-slice-read-l
+    cast-l
+    mul-at
+    add-at
+    mul-out
+    shared-slice-read-out
+    mul-out-2
+    slice-write-out
+    add-j
+    loop-less
+    loop-again
+    same-length
+    returns)

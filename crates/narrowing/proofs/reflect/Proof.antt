@@ -1,0 +1,84 @@
+use Rattle.narrowing.proofs.FillLaws.{filled-more}
+use Rattle.narrowing.specs.Windows.{Filled}
+use lib.Seq.{getD-set-other}
+use lib.ListN.{length, getD, set, length-set}
+use mathlib.Core.Path.{_≡_, refl, sym, ap, subst, _∙_}
+use Prim.Native.Nat.{ℕ, suc, _≤_, _<_, _-_, _+_, _*_}
+use native.Mathlib.Omega.{arith}
+use borrow.Author.Needs.{needs}
+use Rattle.narrowing.proofs.reflect.Statement.{statement}
+use Rattle.narrowing.proofs.reflect.Tie as tie
+use Rattle.narrowing.proofs.reflect.Reads as reads
+use Rattle.narrowing.proofs.reflect.Lts as lts
+
+abbrev Inv-loop : tie.InvT-loop
+Inv-loop xs w out₀ top j₀ j-end out j = (j ≤ length xs) × (j-end ≡ length xs) × (top ≡ w) × (length out ≡ length out₀) × Filled 0 (λ i. w - getD xs i 0) j out × ((i : ℕ) → j ≤ i → getD out i 0 ≡ getD out₀ i 0)
+
+abbrev μ-loop : tie.MeasureT-loop
+μ-loop xs w out₀ top j₀ j-end out j = length xs - j
+
+cast-top : tie.Need-cast-top Inv-loop μ-loop
+cast-top c = omega arith
+
+loop-holds : tie.Need-loop-holds Inv-loop μ-loop
+loop-holds c = (omega arith, refl, refl, refl, λ i h. absurd (omega arith), λ i h. refl)
+
+mul-out : tie.Need-mul-out Inv-loop μ-loop
+mul-out c = omega arith
+
+shared-slice-read-out : tie.Need-shared-slice-read-out Inv-loop μ-loop
+shared-slice-read-out c = omega arith
+
+sub-out : tie.Need-sub-out Inv-loop μ-loop
+sub-out c = omega (arith, c .before .before .before .pre .2 (c .before .before .loop .j) (omega arith))
+
+mul-out-2 : tie.Need-mul-out-2 Inv-loop μ-loop
+mul-out-2 c = omega arith
+
+slice-write-out : tie.Need-slice-write-out Inv-loop μ-loop
+slice-write-out c = omega arith
+
+add-j : tie.Need-add-j Inv-loop μ-loop
+add-j c = omega arith
+
+loop-less : tie.Need-loop-less Inv-loop μ-loop
+loop-less c = omega arith
+
+loop-again : tie.Need-loop-again Inv-loop μ-loop
+loop-again c =
+    let st = c .before .before .before in
+    let a = st .args in
+    let l = c .before .before .loop in
+    let v = a .w - getD (a .xs .now) (l .j) 0 in (
+      omega arith,
+      refl,
+      refl,
+      length-set (l .out) (l .j) v ∙ l .inv .3,
+      filled-more 0 (λ i. a .w - getD (a .xs .now) i 0) (l .j) v (l .out) (omega arith) refl (l .inv .4),
+      λ i h. getD-set-other (l .out) (l .j) i v 0 (λ e. omega arith) ∙ l .inv .5 i (omega arith),
+    )
+
+same-length : tie.Need-same-length Inv-loop μ-loop
+same-length c = c .before .loop .inv .3
+
+returns : tie.Need-returns Inv-loop μ-loop
+returns c = (λ j h. c .before .loop .inv .4 j (omega arith), λ j h. c .before .loop .inv .5 j (omega arith))
+
+pub reflect-spec : {M : Type 1} → statement M
+reflect-spec =
+    tie.close
+    (tie.spec
+    Inv-loop
+    μ-loop
+    cast-top
+    loop-holds
+    mul-out
+    shared-slice-read-out
+    sub-out
+    mul-out-2
+    slice-write-out
+    add-j
+    loop-less
+    loop-again
+    same-length
+    returns)
