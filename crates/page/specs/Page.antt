@@ -3,7 +3,7 @@
 use mathlib.Core.Path.{_≡_}
 use mathlib.Core.Bool.{cond}
 use mathlib.Core.List.{List, [], _∷_, _++_, map}
-use Prim.Native.Nat.{ℕ, zero, suc, _+_, _-_, _*_, _/_, _%_, _≤_}
+use Prim.Native.Nat.{ℕ, zero, suc, _+_, _-_, _*_, _/_, _%_, _≤_, _<_}
 use Prim.Native.Char.{code}
 use Prim.Native.String.{String, [] as end-of-text, _∷_ as _then_}
 use lib.Dec.{ltb, eqb}
@@ -11,7 +11,7 @@ use lib.ListN.{length, take, drop, getD}
 use lib.IntN.{ℤ, negℤ}
 use Rattle.integers.specs.Parts.{up, dn}
 use Rattle.lists.specs.Lists.{run, fromTo, howMany, joined}
-use Rattle.sheet.specs.Limits.{maxSlots, maxUnits}
+use Rattle.sheet.specs.Limits.{maxSlots, maxUnits, maxCount}
 use Rattle.network.specs.Network.{Weights, around}
 use Rattle.network.specs.Table.{entry, mostBoundaries, listOf}
 
@@ -60,18 +60,18 @@ oneNumber word a = joined (word ∷ digits a ∷ text ")\n" ∷ [])
 -- a line of four numbers
 unfoldable pub fourNumbers : List ℕ → ℕ → List ℕ → ℕ → List ℕ → ℕ → ℕ → List ℕ
 fourNumbers first a second b third c d = joined (
-    first ∷ digits a ∷ second ∷ digits b ∷ third ∷ digits c ∷ text " " ∷ digits d ∷ text "))\n" ∷ []
-    )
+  first ∷ digits a ∷ second ∷ digits b ∷ third ∷ digits c ∷ text " " ∷ digits d ∷ text "))\n" ∷ []
+)
 
 unfoldable pub unitLine : ℕ → ℕ → ℕ → ℕ → List ℕ
 unitLine unit slot earliest latest = joined (
-    text "(unit " ∷ digits unit ∷ text " (slot " ∷ digits slot ∷ text ") (between " ∷ digits earliest ∷ text " " ∷ digits latest ∷ text "))\n" ∷ []
-    )
+  text "(unit " ∷ digits unit ∷ text " (slot " ∷ digits slot ∷ text ") (between " ∷ digits earliest ∷ text " " ∷ digits latest ∷ text "))\n" ∷ []
+)
 
 unfoldable pub slotLine : ℕ → ℕ → ℕ → ℕ → List ℕ
 slotLine slot count least greatest = joined (
-    text "(slot " ∷ digits slot ∷ text " (count " ∷ digits count ∷ text ") (range " ∷ digits least ∷ text " " ∷ digits greatest ∷ text "))\n" ∷ []
-    )
+  text "(slot " ∷ digits slot ∷ text " (count " ∷ digits count ∷ text ") (range " ∷ digits least ∷ text " " ∷ digits greatest ∷ text "))\n" ∷ []
+)
 
 -- no line of a plan is longer: at most 28 bytes of words, and four numbers of at most five digits
 abbrev pub maxLine : ℕ
@@ -124,30 +124,42 @@ tablePage span slots earliest latest table = planPage span slots earliest latest
 
 -- ---- the page of a ring
 
--- the bound that a step sets on the count of a stretch of slots
-unfoldable pub boundLine : String → ℕ → ℕ → ℕ → List ℕ
+-- the bound that a step sets on the count of the slots it crosses
+unfoldable pub boundLine : List ℕ → ℕ → ℕ → ℕ → List ℕ
 boundLine word bound first last = joined (
-    text word ∷ digits bound ∷ text " (slots " ∷ digits first ∷ text " " ∷ digits last ∷ text "))\n" ∷ []
-    )
+  word ∷ digits bound ∷ text " (slots " ∷ digits first ∷ text " " ∷ digits last ∷ text "))\n" ∷ []
+)
 
--- forward, the step's limit on the slots it crosses; backward, minus its limit
+-- forward, the step's limit; backward, minus its limit
 unfoldable pub stepLine : Weights → ℕ → ℕ → List ℕ
 stepLine d a b =
-    cond (ltb a b) (boundLine "(at-most " (up (d a b)) (suc a) b) (boundLine "(at-least " (up (negℤ (d a b))) (suc b) a)
+    cond (ltb a b) (boundLine (text "(at-most ") (up (d a b)) (suc a) b) (boundLine (text "(at-least ") (up (negℤ (d a b))) (suc b) a)
 
--- the steps from a over a list of boundaries and on to e
-unfoldable pub stepLines : Weights → ℕ → List ℕ → ℕ → List ℕ
-stepLines d a [] e = stepLine d a e
-stepLines d a (b ∷ bs) e = stepLine d a b ++ stepLines d b bs e
+-- the lines of the steps from a over a list of boundaries and on to e
+unfoldable pub stepLines : Weights → ℕ → List ℕ → ℕ → List (List ℕ)
+stepLines d a [] e = stepLine d a e ∷ []
+stepLines d a (b ∷ bs) e = stepLine d a b ∷ stepLines d b bs e
 
--- a ring closed on itself
-unfoldable pub ringLines : Weights → List ℕ → List ℕ
+-- the lines of a list of boundaries that is closed on itself
+unfoldable pub ringLines : Weights → List ℕ → List (List ℕ)
 ringLines d [] = []
 ringLines d (a ∷ bs) = stepLines d a bs a
 
 -- minus the ring's sum
-unfoldable pub shortfallLine : Weights → List ℕ → List ℕ
-shortfallLine d ring = joined (text "(shortfall " ∷ digits (up (negℤ (around d ring))) ∷ text ")\n" ∷ [])
+abbrev pub shortfallOf : Weights → List ℕ → ℕ
+shortfallOf d ring = up (negℤ (around d ring))
+
+unfoldable pub shortfallLine : ℕ → List ℕ
+shortfallLine k = joined (text "(shortfall " ∷ digits k ∷ text ")\n" ∷ [])
 
 unfoldable pub nonePage : Weights → List ℕ → List ℕ
-nonePage d ring = joined (text "(answer none)\n" ∷ ringLines d ring ∷ shortfallLine d ring ∷ [])
+nonePage d ring = joined (text "(answer none)\n" ∷ joined (ringLines d ring) ∷ shortfallLine (shortfallOf d ring) ∷ [])
+
+-- a ring, and the table of the limits of w boundaries, as a call is given them
+pub record RingFits (w : ℕ) (limits : List ℤ) (ring : List ℕ) : Type 0 where
+  pub boundaries : w ≤ mostBoundaries
+  pub entries : w * w ≤ length limits
+  pub some : 1 ≤ length ring
+  pub few : length ring ≤ mostBoundaries
+  pub inside : (i : ℕ) → i < length ring → getD ring i 0 < w
+  pub small : (a b : ℕ) → a < w → b < w → dn (entry w limits a b) ≤ maxCount

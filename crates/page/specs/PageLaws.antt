@@ -10,11 +10,13 @@ use native.Mathlib.Decide.{decLe}
 use native.Mathlib.Nat.{add-zero, add-suc, suc-add}
 use native.Mathlib.Numerals.{add-one}
 use lib.Dec.{T, ltb}
-use lib.ListN.{length, take, drop, getD, set, length-append, length-set}
-use lib.Seq.{sets, length-sets, sets-eq}
+use lib.ListN.{length, take, drop, getD, set, length-append, length-set, drop-of-length-le}
+use lib.Seq.{sets, length-sets, sets-eq, drop-cons}
+use Rattle.integers.specs.Parts.{up, dn, neg}
+use Rattle.network.specs.Network.{Weights}
 use borrow.Author.Tests.{lt-ltb, le-ltb}
 use Rattle.lists.specs.Lists.{run, fromTo, joined}
-use Rattle.page.specs.Page.{onto, Room, Written, text, digit, digitsWithin, digits, oneNumber, fourNumbers, planHead, unitLines, slotLine, slotLineAt, slotLines, unitsIn, planPage}
+use Rattle.page.specs.Page.{onto, Room, Written, text, digit, digitsWithin, digits, oneNumber, fourNumbers, planHead, unitLines, slotLine, slotLineAt, slotLines, unitsIn, planPage, boundLine, stepLine, stepLines, ringLines}
 
 -- ---- writing one thing after another
 sets-append : (page : List ℕ) (at : ℕ) (xs ys : List ℕ) → sets (sets page at xs) (at + length xs) ys ≡ sets page at (xs ++ ys)
@@ -176,8 +178,8 @@ length-five n h k = length-more n (omega arith) ∙ ap suc (length-four (n / 10)
 
 pub fourNumbers-length : (first : List ℕ) (a : ℕ) (second : List ℕ) (b : ℕ) (third : List ℕ) (c d : ℕ)
     → length (fourNumbers first a second b third c d)
-    ≡ length first + length second + length third + 4
-    + (length (digits a) + (length (digits b) + (length (digits c) + length (digits d))))
+      ≡ length first + length second + length third + 4
+        + (length (digits a) + (length (digits b) + (length (digits c) + length (digits d))))
 unfolding fourNumbers text
 fourNumbers-length first a second b third c d = simp length-append (omega arith)
 
@@ -201,3 +203,34 @@ pub measured-end : {f : ℕ → List ℕ} {whole : List ℕ} {n i total : ℕ} �
 measured-end {f} {whole} {n} {i} {total} h m =
     let e : n - i ≡ 0 = omega arith in
     omega (arith, m .rest, ap (λ k. length (joined (map f (run i k)))) e)
+
+-- ---- the steps of a ring
+module _ (d : Weights) (a b : ℕ) where
+  pub step-forward : a < b → stepLine d a b ≡ boundLine (text "(at-most ") (up (d a b)) (suc a) b
+  unfolding stepLine
+  step-forward h = rw (lt-ltb a b h)
+
+  pub step-backward : b ≤ a → stepLine d a b ≡ boundLine (text "(at-least ") (dn (d a b)) (suc b) a
+  unfolding stepLine
+  step-backward h = rw (le-ltb a b h) (ap (λ k. boundLine (text "(at-least ") k (suc b) a) (neg (d a b) .0))
+
+module _ (d : Weights) (ring : List ℕ) where
+  -- all lines, from the first boundary on
+  pub ring-start : 1 ≤ length ring → ringLines d ring ≡ stepLines d (getD ring 0 0) (drop 1 ring) (getD ring 0 0)
+  unfolding ringLines
+  ring-start h = go ring h
+    where
+      go : (r : List ℕ) → 1 ≤ length r → ringLines d r ≡ stepLines d (getD r 0 0) (drop 1 r) (getD r 0 0)
+      go [] h = absurd (omega arith)
+      go (x ∷ xs) h = refl
+
+  -- the line of the step from place i to place i + 1 stands in front
+  pub ring-next : (i a e : ℕ) → i + 1 < length ring
+      → stepLines d a (drop (i + 1) ring) e ≡ stepLine d a (getD ring (i + 1) 0) ∷ stepLines d (getD ring (i + 1) 0) (drop (i + 1 + 1) ring) e
+  unfolding stepLines
+  ring-next i a e h = rw (add-one (i + 1), drop-cons ring (i + 1) 0 h)
+
+  -- the last step goes back to the first boundary
+  pub ring-end : (i a e : ℕ) → length ring ≤ i + 1 → stepLines d a (drop (i + 1) ring) e ≡ stepLine d a e ∷ []
+  unfolding stepLines
+  ring-end i a e h = rw (drop-of-length-le ring h)

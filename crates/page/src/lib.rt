@@ -4,9 +4,10 @@ ghost use Prim.Native.Nat.{ℕ, _+_, _-_, _*_, _<_, _≤_};
 ghost use lib.ListN.{length, getD, replicate};
 ghost use lib.IntN.{ℤ, pos};
 ghost use Rattle.integers.specs.Parts.{up, dn};
+ghost use Rattle.lists.specs.Lists.{joined};
 ghost use Rattle.network.specs.Table.{entry, mostBoundaries};
 ghost use Rattle.sheet.specs.Limits.{maxSlots, maxUnits};
-ghost use Rattle.page.specs.Page.{Room, Written, text, digits, oneNumber, fourNumbers, maxLine, unitLine, slotLine, unitLines, slotLines, tally, leastFrom, greatestFrom, Printable, tablePage};
+ghost use Rattle.page.specs.Page.{Room, Written, text, digits, oneNumber, fourNumbers, maxLine, unitLine, slotLine, unitLines, slotLines, tally, leastFrom, greatestFrom, Printable, tablePage, boundLine, stepLine, ringLines, shortfallOf, shortfallLine, nonePage, RingFits};
 
 // The answer page. Every function that writes takes the page and a place, writes from there on, and gives the place just past what it
 // wrote; a caller has asked for the length before.
@@ -126,61 +127,21 @@ fn put_four_numbers(
     put_word(page, next4, b"))\n")
 }
 
-pub fn put_unit(
-    page: &mut [u8],
-    at: usize,
-    unit: u16,
-    slot: u16,
-    earliest: u16,
-    latest: u16,
-) -> usize
+pub fn put_unit(page: &mut [u8], at: usize, unit: u16, slot: u16, earliest: u16, latest: u16) -> usize
     requires { ⌜ Room (now page) at (unitLine unit slot earliest latest) ⌝ }
     ensures { λ r. ⌜ Written (now (page .entry)) at (unitLine unit slot earliest latest) (now (page .exit)) r ⌝ }
 {
-    put_four_numbers(
-        page,
-        at,
-        b"(unit ",
-        unit,
-        b" (slot ",
-        slot,
-        b") (between ",
-        earliest,
-        latest,
-    )
+    put_four_numbers(page, at, b"(unit ", unit, b" (slot ", slot, b") (between ", earliest, latest)
 }
 
-pub fn put_slot(
-    page: &mut [u8],
-    at: usize,
-    slot: u16,
-    count: u16,
-    least: u16,
-    greatest: u16,
-) -> usize
+pub fn put_slot(page: &mut [u8], at: usize, slot: u16, count: u16, least: u16, greatest: u16) -> usize
     requires { ⌜ Room (now page) at (slotLine slot count least greatest) ⌝ }
     ensures { λ r. ⌜ Written (now (page .entry)) at (slotLine slot count least greatest) (now (page .exit)) r ⌝ }
 {
-    put_four_numbers(
-        page,
-        at,
-        b"(slot ",
-        slot,
-        b" (count ",
-        count,
-        b") (range ",
-        least,
-        greatest,
-    )
+    put_four_numbers(page, at, b"(slot ", slot, b" (count ", count, b") (range ", least, greatest)
 }
 
-pub fn put_units(
-    page: &mut [u8],
-    at: usize,
-    plan: &[u16],
-    earliest: &[u16],
-    latest: &[u16],
-) -> usize
+pub fn put_units(page: &mut [u8], at: usize, plan: &[u16], earliest: &[u16], latest: &[u16]) -> usize
     requires { ⌜ (length (now earliest) ≡ length (now plan)) × (length (now latest) ≡ length (now plan)) × (length (now plan) ≤ maxUnits) ⌝ }
     requires { ⌜ Room (now page) at (unitLines (now plan) (now earliest) (now latest)) ⌝ }
     ensures { λ r. ⌜ Written (now (page .entry)) at (unitLines (now (plan .entry)) (now (earliest .entry)) (now (latest .entry)))
@@ -255,14 +216,7 @@ fn put_slots(page: &mut [u8], at: usize, span: usize, counts: &[u16], table: &[i
     let mut next = at;
     let mut t = 1;
     while t <= span {
-        next = put_slot(
-            page,
-            next,
-            t as u16,
-            counts[t],
-            least_of(table, span, t),
-            greatest_of(table, span, t),
-        );
+        next = put_slot(page, next, t as u16, counts[t], least_of(table, span, t), greatest_of(table, span, t));
         t += 1;
     }
     next
@@ -347,12 +301,7 @@ fn slots_length(span: usize, counts: &[u16], table: &[i16]) -> usize
     let mut total = 0;
     let mut t = 1;
     while t <= span {
-        total += slot_length(
-            t as u16,
-            counts[t],
-            least_of(table, span, t),
-            greatest_of(table, span, t),
-        );
+        total += slot_length(t as u16, counts[t], least_of(table, span, t), greatest_of(table, span, t));
         t += 1;
     }
     total
@@ -373,4 +322,42 @@ pub fn plan_length(
 {
     let head = 15 + digit_count(plan.len() as u16);
     head + (units_length(plan, earliest, latest) + slots_length(span, counts, table))
+}
+
+fn put_bound(page: &mut [u8], at: usize, word: &[u8], bound: u16, first: u16, last: u16) -> usize
+    requires { ⌜ Room (now page) at (boundLine (now word) bound first last) ⌝ }
+    ensures { λ r. ⌜ Written (now (page .entry)) at (boundLine (now (word .entry)) bound first last) (now (page .exit)) r ⌝ }
+{
+    let next = put_pair(page, at, word, bound);
+    let next2 = put_pair(page, next, b" (slots ", first);
+    let next3 = put_pair(page, next2, b" ", last);
+    put_word(page, next3, b"))\n")
+}
+
+// The step from boundary a to boundary b, with the sheet's own limit.
+fn put_step(page: &mut [u8], at: usize, limits: &[i16], w: usize, a: u16, b: u16) -> usize
+    requires { ⌜ (a < w) × (b < w) × (w ≤ mostBoundaries) × (w * w ≤ length (now limits)) ⌝ }
+    requires { ⌜ Room (now page) at (stepLine (entry w (now limits)) a b) ⌝ }
+    ensures { λ r. ⌜ Written (now (page .entry)) at (stepLine (entry w (now (limits .entry))) a b) (now (page .exit)) r ⌝ }
+{
+    let limit = entry_at(limits, w, a as usize, b as usize);
+    if a < b {
+        return put_bound(page, at, b"(at-most ", above(limit), a + 1, b);
+    }
+    put_bound(page, at, b"(at-least ", below(limit), b + 1, a)
+}
+
+fn put_steps(page: &mut [u8], at: usize, limits: &[i16], w: usize, ring: &[u16]) -> usize
+    requires { ⌜ RingFits w (now limits) (now ring) ⌝ }
+    requires { ⌜ Room (now page) at (joined (ringLines (entry w (now limits)) (now ring))) ⌝ }
+    ensures { λ r. ⌜ Written (now (page .entry)) at (joined (ringLines (entry w (now (limits .entry))) (now (ring .entry)))) (now (page .exit)) r ⌝ }
+{
+    let last = ring.len() - 1;
+    let mut next = at;
+    let mut i = 0;
+    while i < last {
+        next = put_step(page, next, limits, w, ring[i], ring[i + 1]);
+        i += 1;
+    }
+    put_step(page, next, limits, w, ring[last], ring[0])
 }

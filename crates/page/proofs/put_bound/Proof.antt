@@ -1,0 +1,92 @@
+-- Three pairs of a word and a number, and the closing word. `after-K` says what is left once K pairs are written.
+use mathlib.Core.Path.{refl}
+use mathlib.Core.List.{List, [], _∷_}
+use Prim.Native.Nat.{ℕ}
+use denote.Ref.{now}
+use Rattle.page.specs.Page.{text, digits, boundLine}
+use Rattle.page.specs.PageLaws.{Pending, pending-whole, pending-room, pending-pair, pending-after, pending-nothing}
+use borrow.Author.Needs.{needs}
+use Rattle.page.proofs.put_bound.Statement.{statement}
+use Rattle.page.proofs.put_bound.Tie as tie
+use Rattle.page.proofs.put_bound.Reads as reads
+use Rattle.page.proofs.put_bound.Lts as lts
+use Rattle.page.proofs.put_pair.Reads as put-pair-reads
+use Rattle.page.proofs.put_word.Reads as put-word-reads
+
+abbrev PendingOf : tie.Start → List ℕ → ℕ → List (List ℕ) → Type 0
+PendingOf c page at rest = Pending (now (c .args .page)) (c .args .at) (boundLine (now (c .args .word)) (c .args .bound) (c .args .first) (c .args .last)) page at rest
+
+abbrev rest-one : tie.Start → List (List ℕ)
+rest-one c = text " (slots " ∷ digits (c .args .first) ∷ text " " ∷ digits (c .args .last) ∷ text "))\n" ∷ []
+
+abbrev rest-two : tie.Start → List (List ℕ)
+rest-two c = text " " ∷ digits (c .args .last) ∷ text "))\n" ∷ []
+
+after-none : (c : tie.Start) → PendingOf c (now (c .args .page)) (c .args .at) (now (c .args .word) ∷ digits (c .args .bound) ∷ rest-one c)
+unfolding boundLine
+after-none c = pending-whole (now (c .args .word) ∷ digits (c .args .bound) ∷ rest-one c) refl (c .pre)
+
+after-one : (c : tie.After-put-pair) → PendingOf (c .before .before .before .before) (c .put-pair .last .0) (c .put-pair .result) (rest-one (c .before .before .before .before))
+after-one c = pending-after (pending-pair (after-none (c .before .before .before .before))) (c .put-pair .ensures)
+
+after-two : (c : tie.After-put-pair2) → PendingOf (c .before .before .before .before .before .before .before .before .before) (c .put-pair2 .last .0) (c .put-pair2 .result) (rest-two (c .before .before .before .before .before .before .before .before .before))
+unfolding text
+after-two c = pending-after (pending-pair (after-one (c .before .before .before .before .before))) (c .put-pair2 .ensures)
+
+after-three : (c : tie.After-put-pair3) → PendingOf (c .before .before .before .before .before .before .before .before .before .before .before .before .before .before) (c .put-pair3 .last .0) (c .put-pair3 .result) (text "))\n" ∷ [])
+unfolding text
+after-three c = pending-after (pending-pair (after-two (c .before .before .before .before .before))) (c .put-pair3 .ensures)
+
+-- src/lib.rt:331:9
+put-pair-requires : tie.Need-put-pair-requires
+put-pair-requires c κs = pending-room (pending-pair (after-none (c .before .before .before)))
+
+-- src/lib.rt:332:38
+slice-aggregate-put-pair : tie.Need-slice-aggregate-put-pair
+slice-aggregate-put-pair c = search needs
+
+-- src/lib.rt:332:9
+put-pair-requires-2 : tie.Need-put-pair-requires-2
+unfolding text
+put-pair-requires-2 c κs = pending-room (pending-pair (after-one (c .before .before .before .before)))
+
+-- src/lib.rt:333:39
+slice-aggregate-put-pair-2 : tie.Need-slice-aggregate-put-pair-2
+slice-aggregate-put-pair-2 c = search needs
+
+-- src/lib.rt:333:9
+put-pair-requires-3 : tie.Need-put-pair-requires-3
+unfolding text
+put-pair-requires-3 c κs = pending-room (pending-pair (after-two (c .before .before .before .before)))
+
+-- src/lib.rt:334:27
+slice-aggregate-put-word : tie.Need-slice-aggregate-put-word
+slice-aggregate-put-word c = search needs
+
+-- src/lib.rt:334:5
+put-word-requires : tie.Need-put-word-requires
+unfolding text
+put-word-requires c κs = pending-room (after-three (c .before .before .before .before))
+
+-- src/lib.rt:327:1
+same-length : tie.Need-same-length
+same-length c = search needs
+
+-- src/lib.rt:327:1
+returns : tie.Need-returns
+unfolding text
+returns c = pending-nothing (pending-after (after-three (c .before .before .before .before .before .before .before)) (c .before .before .put-word .ensures))
+
+pub put-bound-spec : {M : Type 1} → statement M
+put-bound-spec =
+    tie.close
+    (tie.spec
+    put-pair-requires
+    slice-aggregate-put-pair
+    put-pair-requires-2
+    slice-aggregate-put-pair-2
+    put-pair-requires-3
+    slice-aggregate-put-word
+    put-word-requires
+    same-length
+    returns)

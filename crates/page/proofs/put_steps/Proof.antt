@@ -1,0 +1,157 @@
+-- The lines of the steps from place i on are left to write; the last step goes back to the first boundary.
+use mathlib.Core.Path.{_≡_, refl, sym, ap, _∙_, subst}
+use mathlib.Core.List.{List, [], _∷_}
+use Prim.Native.Nat.{ℕ, suc, _+_, _-_, _≤_, _<_}
+use native.Mathlib.Omega.{arith}
+use denote.Ref.{now}
+use lib.ListN.{length, getD, drop}
+use Rattle.lists.specs.Lists.{joined}
+use Rattle.network.specs.Network.{Weights}
+use Rattle.network.specs.Table.{entry}
+use Rattle.page.specs.Page.{ringLines, stepLines, stepLine}
+use Rattle.page.specs.PageLaws.{Pending, pending-whole, pending-room, pending-after, pending-nothing, ring-start, ring-next, ring-end}
+use Rattle.page.proofs.put_steps.Statement.{statement}
+use Rattle.page.proofs.put_steps.Tie as tie
+use Rattle.page.proofs.put_steps.Reads as reads
+use Rattle.page.proofs.put_steps.Lts as lts
+use Rattle.page.proofs.put_step.Reads as put-step-reads
+
+abbrev Inv-loop : tie.InvT-loop
+Inv-loop page₀ at limits w ring last next₀ i₀ page next i =
+    (i ≤ last) × Pending page₀ at (joined (ringLines (entry w limits) ring)) page next (stepLines (entry w limits) (getD ring i 0) (drop (i + 1) ring) (getD ring 0 0))
+
+abbrev μ-loop : tie.MeasureT-loop
+μ-loop page₀ at limits w ring last next₀ i₀ page next i = last - i
+
+-- src/lib.rt:355:16
+sub-last : tie.Need-sub-last Inv-loop μ-loop
+sub-last c = omega arith
+
+-- src/lib.rt:358:5
+loop-holds : tie.Need-loop-holds Inv-loop μ-loop
+loop-holds c =
+    let s = c .before .before in
+    let a = s .args in
+    let d = entry (a .w) (now (a .limits)) in
+    (omega arith, pending-whole (stepLines d (getD (now (a .ring)) 0 0) (drop 1 (now (a .ring))) (getD (now (a .ring)) 0 0))
+    (ap joined (ring-start d (now (a .ring)) (s .pre .0 .some))) (s .pre .1))
+
+abbrev limits : tie.Start Inv-loop μ-loop → Weights
+limits c = entry (c .args .w) (now (c .args .limits))
+
+abbrev PendingOf : tie.Start Inv-loop μ-loop → List ℕ → ℕ → List (List ℕ) → Type 0
+PendingOf c page at rest = Pending (now (c .args .page)) (c .args .at) (joined (ringLines (limits c) (now (c .args .ring)))) page at rest
+
+abbrev boundary : tie.Start Inv-loop μ-loop → ℕ → ℕ
+boundary c i = getD (now (c .args .ring)) i 0
+
+-- the next step goes from place i to place i + 1
+next : (c : tie.In-loop Inv-loop μ-loop) → PendingOf (c .before .before .before .before) (c .before .loop .page) (c .before .loop .next)
+    (stepLine (limits (c .before .before .before .before)) (boundary (c .before .before .before .before) (c .before .loop .i)) (boundary (c .before .before .before .before) (c .before .loop .i + 1))
+    ∷ stepLines (limits (c .before .before .before .before)) (boundary (c .before .before .before .before) (c .before .loop .i + 1)) (drop (c .before .loop .i + 1 + 1) (now (c .before .before .before .before .args .ring))) (boundary (c .before .before .before .before) 0))
+next c =
+    let s = c .before .before .before .before in
+    let l = c .before .loop in
+    subst (PendingOf s (l .page) (l .next)) (ring-next (limits s) (now (s .args .ring)) (l .i) (boundary s (l .i)) (boundary s 0) (omega arith)) (l .inv .1)
+
+-- the last one goes back to the first boundary
+last : (c : tie.After-loop Inv-loop μ-loop) → PendingOf (c .before .before .before .before) (c .before .loop .page) (c .before .loop .next)
+    (stepLine (limits (c .before .before .before .before)) (boundary (c .before .before .before .before) (length (now (c .before .before .before .before .args .ring)) - 1)) (boundary (c .before .before .before .before) 0) ∷ [])
+last c =
+    let s = c .before .before .before .before in
+    let l = c .before .loop in
+    let e : l .i ≡ length (now (s .args .ring)) - 1 = omega arith in
+    subst (λ k. PendingOf s (l .page) (l .next) (stepLine (limits s) (boundary s k) (boundary s 0) ∷ [])) e
+    (subst (PendingOf s (l .page) (l .next)) (ring-end (limits s) (now (s .args .ring)) (l .i) (boundary s (l .i)) (boundary s 0) (omega (arith, s .pre .0 .some)))
+    (l .inv .1))
+
+-- src/lib.rt:359:48
+mul-put-step : tie.Need-mul-put-step Inv-loop μ-loop
+mul-put-step c = omega arith
+
+-- src/lib.rt:359:48
+shared-slice-read-put-step : tie.Need-shared-slice-read-put-step Inv-loop μ-loop
+shared-slice-read-put-step c = omega arith
+
+-- src/lib.rt:359:62
+add-put-step : tie.Need-add-put-step Inv-loop μ-loop
+add-put-step c = omega arith
+
+-- src/lib.rt:359:57
+mul-put-step-2 : tie.Need-mul-put-step-2 Inv-loop μ-loop
+mul-put-step-2 c = omega arith
+
+-- src/lib.rt:359:57
+shared-slice-read-put-step-2 : tie.Need-shared-slice-read-put-step-2 Inv-loop μ-loop
+shared-slice-read-put-step-2 c = omega arith
+
+-- src/lib.rt:359:9
+put-step-requires : tie.Need-put-step-requires Inv-loop μ-loop
+put-step-requires c κs =
+    let s = c .before .before .before .before .before .before .before in
+    let i = c .before .before .before .before .loop .i in
+    let f = s .pre .0 in
+    ((f .inside i (omega (arith, f .some)), f .inside (i + 1) (omega (arith, f .some)), f .boundaries, f .entries), pending-room (next (c .before .before .before)))
+
+-- src/lib.rt:360:9
+add-i : tie.Need-add-i Inv-loop μ-loop
+add-i c = omega arith
+
+-- src/lib.rt:358:5
+loop-less : tie.Need-loop-less Inv-loop μ-loop
+loop-less c = omega arith
+
+-- src/lib.rt:358:5
+loop-again : tie.Need-loop-again Inv-loop μ-loop
+loop-again c = (omega arith, pending-after (next (c .before .before .before .before .before .before)) (c .before .before .put-step .ensures))
+
+-- src/lib.rt:362:37
+mul-put-step-3 : tie.Need-mul-put-step-3 Inv-loop μ-loop
+mul-put-step-3 c = omega arith
+
+-- src/lib.rt:362:37
+shared-slice-read-put-step-3 : tie.Need-shared-slice-read-put-step-3 Inv-loop μ-loop
+shared-slice-read-put-step-3 c = omega arith
+
+-- src/lib.rt:362:49
+shared-slice-read-put-step-4 : tie.Need-shared-slice-read-put-step-4 Inv-loop μ-loop
+shared-slice-read-put-step-4 c = omega arith
+
+-- src/lib.rt:362:5
+put-step-requires-2 : tie.Need-put-step-requires-2 Inv-loop μ-loop
+put-step-requires-2 c κs =
+    let s = c .before .before .before .before .before .before .before in
+    let f = s .pre .0 in
+    ((f .inside (length (now (s .args .ring)) - 1) (omega (arith, f .some)), f .inside 0 (f .some), f .boundaries, f .entries), pending-room (last (c .before .before .before)))
+
+-- src/lib.rt:350:1
+same-length : tie.Need-same-length Inv-loop μ-loop
+same-length c = omega arith
+
+-- src/lib.rt:350:1
+returns : tie.Need-returns Inv-loop μ-loop
+returns c = pending-nothing (pending-after (last (c .before .before .before .before .before .before)) (c .before .before .put-step2 .ensures))
+
+pub put-steps-spec : {M : Type 1} → statement M
+put-steps-spec =
+    tie.close
+    (tie.spec
+    Inv-loop
+    μ-loop
+    sub-last
+    loop-holds
+    mul-put-step
+    shared-slice-read-put-step
+    add-put-step
+    mul-put-step-2
+    shared-slice-read-put-step-2
+    put-step-requires
+    add-i
+    loop-less
+    loop-again
+    mul-put-step-3
+    shared-slice-read-put-step-3
+    shared-slice-read-put-step-4
+    put-step-requires-2
+    same-length
+    returns)
