@@ -87,7 +87,7 @@ counted-all {plan} {j} {counts} e c =
 -- the page of a plan, with each slot's count read from the tally
 pub page-counted : (span : ℕ) (plan earliest latest counts : List ℕ) (least greatest : ℕ → ℕ) → span ≤ maxSlots → counts ≡ tally plan
     → planPage span plan earliest latest least greatest
-      ≡ joined (planHead (length plan) ∷ unitLines plan earliest latest ∷ slotLines span (λ t. getD counts t 0) least greatest ∷ [])
+    ≡ joined (planHead (length plan) ∷ unitLines plan earliest latest ∷ slotLines span (λ t. getD counts t 0) least greatest ∷ [])
 unfolding planPage
 page-counted span plan earliest latest counts least greatest h e =
     ap (λ ls. joined (planHead (length plan) ∷ unitLines plan earliest latest ∷ ls ∷ []))
@@ -101,7 +101,7 @@ joined-length a b c = simp length-append (omega arith)
 
 pub page-counted-length : (span : ℕ) (plan earliest latest counts : List ℕ) (least greatest : ℕ → ℕ) → span ≤ maxSlots → counts ≡ tally plan
     → length (planPage span plan earliest latest least greatest)
-      ≡ length (planHead (length plan)) + (length (unitLines plan earliest latest) + length (slotLines span (λ t. getD counts t 0) least greatest))
+    ≡ length (planHead (length plan)) + (length (unitLines plan earliest latest) + length (slotLines span (λ t. getD counts t 0) least greatest))
 page-counted-length span plan earliest latest counts least greatest h e =
     ap length (page-counted span plan earliest latest counts least greatest h e)
     ∙ joined-length (planHead (length plan)) (unitLines plan earliest latest) (slotLines span (λ t. getD counts t 0) least greatest)

@@ -60,18 +60,18 @@ oneNumber word a = joined (word ∷ digits a ∷ text ")\n" ∷ [])
 -- a line of four numbers
 unfoldable pub fourNumbers : List ℕ → ℕ → List ℕ → ℕ → List ℕ → ℕ → ℕ → List ℕ
 fourNumbers first a second b third c d = joined (
-  first ∷ digits a ∷ second ∷ digits b ∷ third ∷ digits c ∷ text " " ∷ digits d ∷ text "))\n" ∷ []
-)
+    first ∷ digits a ∷ second ∷ digits b ∷ third ∷ digits c ∷ text " " ∷ digits d ∷ text "))\n" ∷ []
+    )
 
 unfoldable pub unitLine : ℕ → ℕ → ℕ → ℕ → List ℕ
 unitLine unit slot earliest latest = joined (
-  text "(unit " ∷ digits unit ∷ text " (slot " ∷ digits slot ∷ text ") (between " ∷ digits earliest ∷ text " " ∷ digits latest ∷ text "))\n" ∷ []
-)
+    text "(unit " ∷ digits unit ∷ text " (slot " ∷ digits slot ∷ text ") (between " ∷ digits earliest ∷ text " " ∷ digits latest ∷ text "))\n" ∷ []
+    )
 
 unfoldable pub slotLine : ℕ → ℕ → ℕ → ℕ → List ℕ
 slotLine slot count least greatest = joined (
-  text "(slot " ∷ digits slot ∷ text " (count " ∷ digits count ∷ text ") (range " ∷ digits least ∷ text " " ∷ digits greatest ∷ text "))\n" ∷ []
-)
+    text "(slot " ∷ digits slot ∷ text " (count " ∷ digits count ∷ text ") (range " ∷ digits least ∷ text " " ∷ digits greatest ∷ text "))\n" ∷ []
+    )
 
 -- no line of a plan is longer: at most 28 bytes of words, and four numbers of at most five digits
 abbrev pub maxLine : ℕ
@@ -127,8 +127,8 @@ tablePage span slots earliest latest table = planPage span slots earliest latest
 -- the bound that a step sets on the count of the slots it crosses
 unfoldable pub boundLine : List ℕ → ℕ → ℕ → ℕ → List ℕ
 boundLine word bound first last = joined (
-  word ∷ digits bound ∷ text " (slots " ∷ digits first ∷ text " " ∷ digits last ∷ text "))\n" ∷ []
-)
+    word ∷ digits bound ∷ text " (slots " ∷ digits first ∷ text " " ∷ digits last ∷ text "))\n" ∷ []
+    )
 
 -- forward, the step's limit; backward, minus its limit
 unfoldable pub stepLine : Weights → ℕ → ℕ → List ℕ

@@ -178,8 +178,8 @@ length-five n h k = length-more n (omega arith) ∙ ap suc (length-four (n / 10)
 
 pub fourNumbers-length : (first : List ℕ) (a : ℕ) (second : List ℕ) (b : ℕ) (third : List ℕ) (c d : ℕ)
     → length (fourNumbers first a second b third c d)
-      ≡ length first + length second + length third + 4
-        + (length (digits a) + (length (digits b) + (length (digits c) + length (digits d))))
+    ≡ length first + length second + length third + 4
+    + (length (digits a) + (length (digits b) + (length (digits c) + length (digits d))))
 unfolding fourNumbers text
 fourNumbers-length first a second b third c d = simp length-append (omega arith)
 

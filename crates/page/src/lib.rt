@@ -127,21 +127,61 @@ fn put_four_numbers(
     put_word(page, next4, b"))\n")
 }
 
-pub fn put_unit(page: &mut [u8], at: usize, unit: u16, slot: u16, earliest: u16, latest: u16) -> usize
+pub fn put_unit(
+    page: &mut [u8],
+    at: usize,
+    unit: u16,
+    slot: u16,
+    earliest: u16,
+    latest: u16,
+) -> usize
     requires { ⌜ Room (now page) at (unitLine unit slot earliest latest) ⌝ }
     ensures { λ r. ⌜ Written (now (page .entry)) at (unitLine unit slot earliest latest) (now (page .exit)) r ⌝ }
 {
-    put_four_numbers(page, at, b"(unit ", unit, b" (slot ", slot, b") (between ", earliest, latest)
+    put_four_numbers(
+        page,
+        at,
+        b"(unit ",
+        unit,
+        b" (slot ",
+        slot,
+        b") (between ",
+        earliest,
+        latest,
+    )
 }
 
-pub fn put_slot(page: &mut [u8], at: usize, slot: u16, count: u16, least: u16, greatest: u16) -> usize
+pub fn put_slot(
+    page: &mut [u8],
+    at: usize,
+    slot: u16,
+    count: u16,
+    least: u16,
+    greatest: u16,
+) -> usize
     requires { ⌜ Room (now page) at (slotLine slot count least greatest) ⌝ }
     ensures { λ r. ⌜ Written (now (page .entry)) at (slotLine slot count least greatest) (now (page .exit)) r ⌝ }
 {
-    put_four_numbers(page, at, b"(slot ", slot, b" (count ", count, b") (range ", least, greatest)
+    put_four_numbers(
+        page,
+        at,
+        b"(slot ",
+        slot,
+        b" (count ",
+        count,
+        b") (range ",
+        least,
+        greatest,
+    )
 }
 
-pub fn put_units(page: &mut [u8], at: usize, plan: &[u16], earliest: &[u16], latest: &[u16]) -> usize
+pub fn put_units(
+    page: &mut [u8],
+    at: usize,
+    plan: &[u16],
+    earliest: &[u16],
+    latest: &[u16],
+) -> usize
     requires { ⌜ (length (now earliest) ≡ length (now plan)) × (length (now latest) ≡ length (now plan)) × (length (now plan) ≤ maxUnits) ⌝ }
     requires { ⌜ Room (now page) at (unitLines (now plan) (now earliest) (now latest)) ⌝ }
     ensures { λ r. ⌜ Written (now (page .entry)) at (unitLines (now (plan .entry)) (now (earliest .entry)) (now (latest .entry)))
@@ -216,7 +256,14 @@ fn put_slots(page: &mut [u8], at: usize, span: usize, counts: &[u16], table: &[i
     let mut next = at;
     let mut t = 1;
     while t <= span {
-        next = put_slot(page, next, t as u16, counts[t], least_of(table, span, t), greatest_of(table, span, t));
+        next = put_slot(
+            page,
+            next,
+            t as u16,
+            counts[t],
+            least_of(table, span, t),
+            greatest_of(table, span, t),
+        );
         t += 1;
     }
     next
@@ -301,7 +348,12 @@ fn slots_length(span: usize, counts: &[u16], table: &[i16]) -> usize
     let mut total = 0;
     let mut t = 1;
     while t <= span {
-        total += slot_length(t as u16, counts[t], least_of(table, span, t), greatest_of(table, span, t));
+        total += slot_length(
+            t as u16,
+            counts[t],
+            least_of(table, span, t),
+            greatest_of(table, span, t),
+        );
         t += 1;
     }
     total

@@ -8,3 +8,4 @@ pub mod Deciding
 pub mod DecidingLaws
 pub mod Filling
 pub mod FillingLaws
+pub mod SolvingLaws

@@ -70,12 +70,13 @@ loop-again c =
     let l = c .before .before .before .loop in
     let plan = now (c .before .before .before .before .args .plan) in
     let less = c .before .before .loop-test .taken in
-    let counted : Counted plan (l .j) (l .counts) = l .inv .1 in
-    (omega arith,
-    ⊎-elim
-    (λ w. subst (Counted plan (l .j + 1)) (sym (w .2)) (counted-store less counted (omega (arith, w .0 .taken, counted .long))))
-    (λ w. subst (Counted plan (l .j + 1)) (sym (w .1)) (counted-pass less counted (omega (arith, w .0 .left, counted .long))))
-    (c .if1 .came))
+    let counted : Counted plan (l .j) (l .counts) = l .inv .1 in (
+      omega arith,
+      ⊎-elim
+          (λ w. subst (Counted plan (l .j + 1)) (sym (w .2)) (counted-store less counted (omega (arith, w .0 .taken, counted .long))))
+          (λ w. subst (Counted plan (l .j + 1)) (sym (w .1)) (counted-pass less counted (omega (arith, w .0 .left, counted .long))))
+          (c .if1 .came),
+    )
 
 -- src/lib.rt:151:1
 same-length : tie.Need-same-length Inv-loop μ-loop

@@ -55,9 +55,15 @@ returns c =
     let s = c .before .before .before .before .before .before .before in
     let a = s .args in
     let e = page-counted-length (a .span) (now (a .plan)) (now (a .earliest)) (now (a .latest)) (now (a .counts)) (leastFrom (a .span + 1) (now (a .table)))
-        (greatestFrom (a .span + 1) (now (a .table))) (s .pre .0 .slots) (s .pre .1) in
-    omega (arith, e, head-length (length (now (a .plan))), c .slots-length .ensures .0, c .before .units-length .ensures .0,
-    c .before .before .digit-count .ensures .0)
+    (greatestFrom (a .span + 1) (now (a .table))) (s .pre .0 .slots) (s .pre .1) in
+    omega (
+      arith,
+      e,
+      head-length (length (now (a .plan))),
+      c .slots-length .ensures .0,
+      c .before .units-length .ensures .0,
+      c .before .before .digit-count .ensures .0,
+    )
 
 pub plan-length-spec : {M : Type 1} → statement M
 plan-length-spec =

@@ -55,9 +55,10 @@ put-units-requires c κs =
 put-slots-requires : tie.Need-put-slots-requires
 unfolding planHead oneNumber text
 put-slots-requires c κs =
-    let s = c .before .before .before .before .before .before .before .before .before .before .before .before .before .before .before in
-    ((s .pre .0 .slots, s .pre .0 .entries, ap length (s .pre .1 .0) ∙ tally-length (now (s .args .plan))),
-    pending-room (pending-after (pending-after (begun s) (c .before .before .before .before .before .before .before .put-one-number .ensures)) (c .before .before .before .put-units .ensures)))
+    let s = c .before .before .before .before .before .before .before .before .before .before .before .before .before .before .before in (
+      (s .pre .0 .slots, s .pre .0 .entries, ap length (s .pre .1 .0) ∙ tally-length (now (s .args .plan))),
+      pending-room (pending-after (pending-after (begun s) (c .before .before .before .before .before .before .before .put-one-number .ensures)) (c .before .before .before .put-units .ensures)),
+    )
 
 -- src/lib.rt:224:1
 same-length : tie.Need-same-length

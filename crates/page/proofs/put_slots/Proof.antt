@@ -89,11 +89,13 @@ loop-less c = omega arith
 -- src/lib.rt:217:5
 loop-again : tie.Need-loop-again Inv-loop μ-loop
 loop-again c =
-    let g = c .before .before .before in
-    (omega arith, omega arith,
-    pending-after (next (c .before .before .before .before .before .before .before))
-    (subst (λ l. Written (c .before .before .before .before .before .before .before .before .loop .page) (c .before .before .before .before .before .before .before .before .loop .next) l (c .before .before .put-slot .last .0) (c .before .before .put-slot .result)) (same g)
-    (c .before .before .put-slot .ensures)))
+    let g = c .before .before .before in (
+      omega arith,
+      omega arith,
+      pending-after (next (c .before .before .before .before .before .before .before))
+          (subst (λ l. Written (c .before .before .before .before .before .before .before .before .loop .page) (c .before .before .before .before .before .before .before .before .loop .next) l (c .before .before .put-slot .last .0) (c .before .before .put-slot .result)) (same g)
+          (c .before .before .put-slot .ensures)),
+    )
 
 -- src/lib.rt:208:1
 same-length : tie.Need-same-length Inv-loop μ-loop

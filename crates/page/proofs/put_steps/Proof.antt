@@ -32,9 +32,11 @@ loop-holds : tie.Need-loop-holds Inv-loop μ-loop
 loop-holds c =
     let s = c .before .before in
     let a = s .args in
-    let d = entry (a .w) (now (a .limits)) in
-    (omega arith, pending-whole (stepLines d (getD (now (a .ring)) 0 0) (drop 1 (now (a .ring))) (getD (now (a .ring)) 0 0))
-    (ap joined (ring-start d (now (a .ring)) (s .pre .0 .some))) (s .pre .1))
+    let d = entry (a .w) (now (a .limits)) in (
+      omega arith,
+      pending-whole (stepLines d (getD (now (a .ring)) 0 0) (drop 1 (now (a .ring))) (getD (now (a .ring)) 0 0))
+          (ap joined (ring-start d (now (a .ring)) (s .pre .0 .some))) (s .pre .1),
+    )
 
 abbrev limits : tie.Start Inv-loop μ-loop → Weights
 limits c = entry (c .args .w) (now (c .args .limits))

@@ -52,10 +52,11 @@ loop-again c =
     let l = c .before .before .loop in
     let a = c .before .before .before .args in
     let w = now (a .word) in
-    let t : l .i < length w = c .before .loop-test .taken in
-    (omega arith,
-    rw (sym (add-assoc (a .at) (l .i) 1), add-one (a .at + l .i), add-one (l .i))
-    (pending-byte (rw (drop-cons w (l .i) 0 t) at (l .inv .1))))
+    let t : l .i < length w = c .before .loop-test .taken in (
+      omega arith,
+      rw (sym (add-assoc (a .at) (l .i) 1), add-one (a .at + l .i), add-one (l .i))
+          (pending-byte (rw (drop-cons w (l .i) 0 t) at (l .inv .1))),
+    )
 
 -- src/lib.rt:18:5
 add-result : tie.Need-add-result Inv-loop μ-loop

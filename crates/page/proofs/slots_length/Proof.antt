@@ -20,7 +20,7 @@ abbrev Inv-loop : tie.InvT-loop
 Inv-loop span counts table total₀ t₀ total t =
     (1 ≤ t) × (t ≤ span + 1) × (total ≤ (t - 1) * maxLine)
     × Measured (slotLineAt (λ i. getD counts i 0) (leastFrom (span + 1) table) (greatestFrom (span + 1) table))
-      (slotLines span (λ i. getD counts i 0) (leastFrom (span + 1) table) (greatestFrom (span + 1) table)) (suc span) t total
+    (slotLines span (λ i. getD counts i 0) (leastFrom (span + 1) table) (greatestFrom (span + 1) table)) (suc span) t total
 
 abbrev μ-loop : tie.MeasureT-loop
 μ-loop span counts table total₀ t₀ total t = suc span - t

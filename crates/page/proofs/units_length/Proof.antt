@@ -27,9 +27,11 @@ loop-holds : tie.Need-loop-holds Inv-loop μ-loop
 unfolding unitLines
 loop-holds c =
     let a = c .before .before .before .args in
-    let e : length (now (a .plan)) - 0 ≡ length (now (a .plan)) = omega arith in
-    (omega arith, omega arith,
-    record { rest = omega (arith, ap (λ k. length (joined (map (unitLineAt (now (a .plan)) (now (a .earliest)) (now (a .latest))) (run 0 k)))) e) })
+    let e : length (now (a .plan)) - 0 ≡ length (now (a .plan)) = omega arith in (
+      omega arith,
+      omega arith,
+      record { rest = omega (arith, ap (λ k. length (joined (map (unitLineAt (now (a .plan)) (now (a .earliest)) (now (a .latest))) (run 0 k)))) e) },
+    )
 
 -- src/lib.rt:288:31
 add-unit-length : tie.Need-add-unit-length Inv-loop μ-loop
@@ -83,9 +85,11 @@ loop-less c = omega arith
 loop-again : tie.Need-loop-again Inv-loop μ-loop
 unfolding unitLineAt
 loop-again c =
-    let l = c .before .before .before .before .before .loop in
-    (omega arith, omega arith,
-    measured-next (c .before .before .before .before .loop-test .taken) (rw (add-one (l .j)) at (c .unit-length .ensures .0)) (l .inv .2))
+    let l = c .before .before .before .before .before .loop in (
+      omega arith,
+      omega arith,
+      measured-next (c .before .before .before .before .loop-test .taken) (rw (add-one (l .j)) at (c .unit-length .ensures .0)) (l .inv .2),
+    )
 
 -- src/lib.rt:281:1
 returns : tie.Need-returns Inv-loop μ-loop
