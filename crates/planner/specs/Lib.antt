@@ -9,3 +9,4 @@ pub mod DecidingLaws
 pub mod Filling
 pub mod FillingLaws
 pub mod SolvingLaws
+pub mod RingLaws

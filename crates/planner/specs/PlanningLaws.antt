@@ -87,8 +87,10 @@ module _ (s : Sheet) where
         sound = λ z f. pass-sound (top s) (boundaries s) refl (tableOf (boundaries s) (limit s)) zeros t e z (limits-feasible z f);
       }
 
-  pub stopped-unlawful : passed s ≡ stopped → (x : List ℕ) → T (lawful s x) → ⊥
+  pub stopped-no-potential : passed s ≡ stopped → (z : Potential) → Feasible (top s) (limit s) z → ⊥
   unfolding passed
-  stopped-unlawful e x l =
-      stopped-infeasible (top s) (boundaries s) refl (tableOf (boundaries s) (limit s)) zeros e
-      (λ b. pos (countIn 1 b x)) (limits-feasible (λ b. pos (countIn 1 b x)) (lawful-feasible s x l (top s)))
+  stopped-no-potential e z f =
+      stopped-infeasible (top s) (boundaries s) refl (tableOf (boundaries s) (limit s)) zeros e z (limits-feasible z f)
+
+  pub stopped-unlawful : passed s ≡ stopped → (x : List ℕ) → T (lawful s x) → ⊥
+  stopped-unlawful e x l = stopped-no-potential e (λ b. pos (countIn 1 b x)) (lawful-feasible s x l (top s))
