@@ -17,6 +17,7 @@ use lib.Signed.{leZ, ltZ, _≤ℤ_}
 use Rattle.integers.specs.Parts.{ints, minℤ, min≤l}
 use Rattle.lists.specs.Lists.{run, every, joined}
 use Rattle.lists.specs.Members.{every-at}
+use Rattle.lists.specs.Parts.{part-at, part-length, back, back-length}
 use Rattle.lists.specs.Values.{listOf, length-listOf, listOf-at, listOf-is, values-are, Filled, filled-length, filled-old, filled-new, filled-all, filled-part, front-length, front-rest, front-past, front-part}
 use Rattle.network.specs.Closure.{step}
 use Rattle.network.specs.Table.{tableOf, entry, middle, sumInRange, rowInRange, Passed, finished, stopped, outOfRange, afterRows, passFrom, outcomeOf, cleared, After}
@@ -24,35 +25,7 @@ use Rattle.network.specs.TableLaws.{length-rows, rows-snoc, row-inside, 
 use Rattle.network.specs.Row.{leastOf, greatestOf, lowered, relaxed, SumsInRange, Loaded, Ran}
 use Rattle.network.specs.declared.Outcome.{Outcome}
 use Rattle.network.specs.declared.Outcome.the-variants.{Finished, Stopped, OutOfRange}
-use Rattle.network.proofs.RowLaws.{ends-ask-all}
-
--- ---- a part of a list, and the list with a part replaced, as a lent part comes back
-part-at : (i k : ℕ) (t : List ℤ) (j : ℕ) → j < k → getD (take k (drop i t)) j (pos 0) ≡ getD t (i + j) (pos 0)
-part-at i k t j h = getD-take k (drop i t) j (pos 0) h ∙ getD-drop i t j (pos 0)
-
-pub part-length : (i k : ℕ) (t : List ℤ) → i + k ≤ length t → length (take k (drop i t)) ≡ k
-part-length i k t h = omega (arith, length-take k (drop i t), length-drop i t)
-
-abbrev pub back : ℕ → ℕ → List ℤ → List ℤ → List ℤ
-back i k ys t = take i t ++ (ys ++ drop k (drop i t))
-
-module _ (i k : ℕ) (ys t : List ℤ) (fits : i + k ≤ length t) (long : length ys ≡ k) where
-  front : List ℤ
-  front = take i t ++ ys
-
-  front-long : length front ≡ i + k
-  unfolding front
-  front-long = length-append (take i t) ys ∙ (omega (arith, length-take i t))
-
-  back-form : back i k ys t ≡ front ++ drop (i + k) t
-  unfolding front
-  back-form = front-part (take i t) i (omega (arith, length-take i t)) t t (sym (take-append-drop i t)) k ys
-
-  pub back-length : length (back i k ys t) ≡ length t
-  back-length = front-length front (i + k) front-long t (back i k ys t) back-form fits
-
-  pub back-past : (n : ℕ) → i + k ≤ n → drop n (back i k ys t) ≡ drop n t
-  back-past = front-past front (i + k) front-long t (back i k ys t) back-form
+use Rattle.network.specs.RowLaws.{ends-ask-all}
 
 -- ---- the middle row, copied, and its extremes
 pub record MidIs (w m : ℕ) (t mid : List ℤ) (least greatest : ℤ) : Type 0 where
@@ -66,11 +39,11 @@ pub mid-is : (w m k : ℕ) (t mid₀ mid : List ℤ) (least greatest : ℤ) → 
 mid-is w m k t mid₀ mid least greatest e h r v =
     let xs = take k (drop (m * w) t) in
     let long : length xs ≡ w = part-length (m * w) k t h ∙ e in
-    let is : xs ≡ listOf w (entry w t m) = listOf-is (entry w t m) (pos 0) w xs long (λ j l. part-at (m * w) k t j (omega arith)) in
+    let is : xs ≡ listOf w (entry w t m) = listOf-is (entry w t m) (pos 0) w xs long (λ j l. part-at (m * w) k t (pos 0) j (omega arith)) in
     record {
       room = r;
       at = λ j l. ap (λ (x : List ℤ). getD x j (pos 0)) (v .front) ∙ List·getD-append xs (drop (length xs) mid₀) (pos 0) j (omega arith)
-          ∙ part-at (m * w) k t j (omega arith);
+          ∙ part-at (m * w) k t (pos 0) j (omega arith);
       least-is = v .low ∙ ap leastOf is;
       greatest-is = v .high ∙ ap greatestOf is;
     }
@@ -99,7 +72,7 @@ stretch-in-range w m a t mid least greatest am v e r b k h j l =
     let hj : j < k = omega (arith, length-take k (drop b mid)) in
     let g = entry w t m in
     let y : getD (take k (drop b mid)) j (pos 0) ≡ getD (listOf w g) (b + j) (pos 0) =
-    part-at b k mid j hj ∙ v .at (b + j) (omega arith) ∙ sym (listOf-at g w (b + j) (pos 0) (omega arith)) in
+    part-at b k mid (pos 0) j hj ∙ v .at (b + j) (omega arith) ∙ sym (listOf-at g w (b + j) (pos 0) (omega arith)) in
     let test = every-at (λ x. sumInRange (entry w t a m +ℤ x)) (pos 0) (listOf w g) (subst T (sym r) tt) (b + j) (omega (arith, length-listOf g w)) in
     subst (λ (x : ℤ). T (sumInRange (am +ℤ x))) (sym y) (subst (λ (x : ℤ). T (sumInRange (x +ℤ getD (listOf w g) (b + j) (pos 0)))) (sym e) test)
 
@@ -127,11 +100,11 @@ module _ (am : ℤ) (mid old : List ℤ) (w a : ℕ) (outcome : Outcome) (row : 
       let h : b + k ≤ length row = omega (arith, v .long) in
       let values : ys ≡ map (lowered am mid old) (run b k) = values-are (lowered am mid old) (pos 0) b k ys stretch-length (λ j l.
       let y : getD part j (pos 0) ≡ getD old (b + j) (pos 0) =
-      part-at b k row j l ∙ filled-old (lowered am mid old) b old row (v .form) (b + j) (pos 0) (omega arith) in
+      part-at b k row (pos 0) j l ∙ filled-old (lowered am mid old) b old row (v .form) (b + j) (pos 0) (omega arith) in
       ap (λ (zs : List ℤ). getD zs j (pos 0)) ey
       ∙ listOf-at (lowered am (take k (drop b mid)) part) (length part) j (pos 0) (omega (arith, part-length b k row h))
       ∙ ap (λ (x : ℤ). minℤ x (am +ℤ getD (take k (drop b mid)) j (pos 0))) y
-      ∙ ap (λ (x : ℤ). minℤ (getD old (b + j) (pos 0)) (am +ℤ x)) (part-at b k mid j l)) in
+      ∙ ap (λ (x : ℤ). minℤ (getD old (b + j) (pos 0)) (am +ℤ x)) (part-at b k mid (pos 0) j l)) in
       let q : b + k ≡ e = omega arith in
       subst (λ (n : ℕ). Filled (lowered am mid old) n old (back b k ys row)) q (filled-part (lowered am mid old) b old row (v .form) k ys values)
 
@@ -202,7 +175,7 @@ module _ (w m : ℕ) (t₁ t : List ℤ) (outcome : Outcome) (a : ℕ) (v : Rows
   row-is k e h = record {
     long = part-length (a * w) k t h ∙ e;
     at = λ j l. ap (λ (x : List ℤ). getD (take k x) j (pos 0)) (front-rest (joined (map (newRow w m t₁) (run 0 a))) (a * w) done-long t₁ t (v .form))
-        ∙ part-at (a * w) k t₁ j (omega arith);
+        ∙ part-at (a * w) k t₁ (pos 0) j (omega arith);
   }
 
   pub rows-past : a * w ≤ w * w → drop (w * w) t ≡ drop (w * w) t₁

@@ -7,3 +7,4 @@ pub mod TableLaws
 pub mod PassLaws
 pub mod PassFront
 pub mod Row
+pub mod RowLaws

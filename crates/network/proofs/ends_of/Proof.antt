@@ -11,7 +11,7 @@ use lib.IntN.{ℤ, pos}
 use borrow.Author.Needs.{needs}
 use Rattle.integers.specs.Parts.{minℤ, maxℤ}
 use Rattle.network.specs.Row.{foldFrom, leastOf, greatestOf}
-use Rattle.network.proofs.RowLaws.{fold-next}
+use Rattle.network.specs.RowLaws.{fold-next}
 use Rattle.network.proofs.ends_of.Statement.{statement}
 use Rattle.network.proofs.ends_of.Tie as tie
 

@@ -10,7 +10,7 @@ use mir.Facts.{toZ-ofZ}
 use borrow.Author.Needs.{needs}
 use Rattle.integers.specs.Parts.{minℤ}
 use Rattle.lists.specs.Values.{listOf, Filled, filled-old, filled-all, filled-store}
-use Rattle.network.proofs.RowLaws.{range-fits}
+use Rattle.network.specs.RowLaws.{range-fits}
 use Rattle.network.proofs.relax_row.Statement.{statement}
 use Rattle.network.proofs.relax_row.Tie as tie
 

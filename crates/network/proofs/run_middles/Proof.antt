@@ -12,12 +12,13 @@ use mir.Syntax.{w16}
 use mir.Val.{SFits, toZ, ofZ}
 use mir.Facts.{toZ-ofZ}
 use borrow.Author.Needs.{needs}
+use Rattle.lists.specs.Parts.{back, back-length, back-past, part-length}
 use Rattle.network.specs.Closure.{step}
 use Rattle.network.specs.Table.{entry, middle, rowInRange, Passed, finished, stopped, outOfRange, afterRows, passFrom}
 use Rattle.network.specs.TableLaws.{row-inside}
 use Rattle.network.specs.Row.{lowered, relaxed}
 use Rattle.network.specs.declared.Outcome.the-variants.{Finished, Stopped, OutOfRange}
-use Rattle.network.proofs.PassSteps.{back, back-length, back-past, part-length, MidIs, mid-is, RowIs, row-asked, stretch-in-range, ColsInv, cols-start, cols-long, cols-again, cols-low, newRow, lowered-is, row-done, row-low, RowsInv, rows-start, row-is, rows-past, rows-out, rows-low, rows-again, rows-done, rows-on, PassInv, middle-again, pass-ended, pass-left}
+use Rattle.network.proofs.PassSteps.{MidIs, mid-is, RowIs, row-asked, stretch-in-range, ColsInv, cols-start, cols-long, cols-again, cols-low, newRow, lowered-is, row-done, row-low, RowsInv, rows-start, row-is, rows-past, rows-out, rows-low, rows-again, rows-done, rows-on, PassInv, middle-again, pass-ended, pass-left}
 use Rattle.network.proofs.run_middles.Statement.{statement}
 use Rattle.network.proofs.run_middles.Tie as tie
 use Rattle.network.proofs.run_middles.Reads as reads

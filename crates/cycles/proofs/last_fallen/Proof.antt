@@ -1,0 +1,90 @@
+-- The first boundary whose last level is below the one before.
+use Prim.Native.Nat.{ℕ, suc, _+_, _-_, _*_, _≤_, _<_}
+use native.Mathlib.Omega.{arith}
+use mathlib.Core.Path.{_≡_, refl, sym, ap, subst, _∙_}
+use mathlib.Core.List.{List}
+use lib.ListN.{length, getD, take, drop}
+use lib.IntN.{ℤ, pos, _+ℤ_}
+use borrow.Author.Needs.{needs}
+use Rattle.lists.specs.Parts.{part-at, part-length}
+use Rattle.network.specs.Table.{entry}
+use Rattle.network.specs.TableLaws.{row-inside}
+use Rattle.cycles.proofs.LevelSteps.{fallen-found}
+use borrow.Author.Needs.{needs}
+use Rattle.cycles.proofs.last_fallen.Statement.{statement}
+use Rattle.cycles.proofs.last_fallen.Tie as tie
+
+mul-last : tie.Need-mul-last
+mul-last c = search needs
+
+add-end : tie.Need-add-end
+add-end c = search needs
+
+sub-before : tie.Need-sub-before
+sub-before c = omega (arith, row-inside 0 (c .args .w) (omega arith))
+
+mul-first-below : tie.Need-mul-first-below
+mul-first-below c = search needs
+
+sub-first-below : tie.Need-sub-first-below
+sub-first-below c = search needs
+
+part-first-below-start : tie.Need-part-first-below-start
+part-first-below-start c = search needs
+
+part-first-below-end : tie.Need-part-first-below-end
+part-first-below-end c = search needs
+
+mul-first-below-2 : tie.Need-mul-first-below-2
+mul-first-below-2 c = search needs
+
+sub-first-below-2 : tie.Need-sub-first-below-2
+sub-first-below-2 c = search needs
+
+part-first-below-start-2 : tie.Need-part-first-below-start-2
+part-first-below-start-2 c = search needs
+
+part-first-below-end-2 : tie.Need-part-first-below-end-2
+part-first-below-end-2 c = search needs
+
+first-below-requires : tie.Need-first-below-requires
+first-below-requires c κs =
+    let st = c .before .before in
+    let w = st .args .w in
+    let levels = st .args .levels .now in
+    let h = row-inside 0 w (omega arith) in
+    omega (arith, part-length (w * w) (w * w + w - w * w) levels (omega arith), part-length (w * w - w) (w * w - (w * w - w)) levels (omega arith))
+
+returns : tie.Need-returns
+returns c =
+    let st = c .before .before .before in
+    let w = st .args .w in
+    let levels = st .args .levels .now in
+    let q = st .pre .0 in
+    let h = row-inside 0 w (omega arith) in
+    let m = w * w - w in
+    let e₀ : w ≡ w - 1 + 1 = omega arith in
+    let e : (w - 1) * w ≡ m = omega (arith, ap (λ (n : ℕ). n * w) e₀) in
+    fallen-found w (st .args .d .now) levels (take (w * w + w - w * w) (drop (w * w) levels)) (take (w * w - m) (drop m levels)) (c .first-below .result) q (st .pre .1)
+    (omega (arith, part-length (w * w) (w * w + w - w * w) levels (omega arith)))
+    (λ v l. part-at (w * w) (w * w + w - w * w) levels (pos 0) v (omega arith) ∙ q .levels-are w v (omega arith) l)
+    (λ v l. part-at m (w * w - m) levels (pos 0) v (omega arith) ∙ ap (λ (n : ℕ). getD levels (n + v) (pos 0)) (sym e) ∙ q .levels-are (w - 1) v (omega arith) l)
+    (c .first-below .ensures)
+
+pub last-fallen-spec : {M : Type 1} → statement M
+last-fallen-spec =
+    tie.close
+    (tie.spec
+    mul-last
+    add-end
+    sub-before
+    mul-first-below
+    sub-first-below
+    part-first-below-start
+    part-first-below-end
+    mul-first-below-2
+    sub-first-below-2
+    part-first-below-start-2
+    part-first-below-end-2
+    first-below-requires
+    returns)

@@ -1,0 +1,65 @@
+-- The rooms for levels and walk are long enough for the largest number of boundaries.
+use Prim.Native.Nat.{ℕ, _+_, _*_, _≤_}
+use native.Mathlib.Omega.{arith}
+use mathlib.Core.Path.{_≡_, sym}
+use lib.ListN.{length, take, replicate}
+use lib.Seq.{length-take-le}
+use Rattle.cycles.proofs.LevelSteps.{first-level, levels-fit}
+use borrow.Author.Needs.{needs}
+use Rattle.cycles.proofs.negative_cycle.Statement.{statement}
+use Rattle.cycles.proofs.negative_cycle.Tie as tie
+
+slice-aggregate-fill-levels : tie.Need-slice-aggregate-fill-levels
+slice-aggregate-fill-levels c = search needs
+
+fill-levels-requires : tie.Need-fill-levels-requires
+fill-levels-requires c κs =
+    let st = c .before .before in
+    (st .pre .0, levels-fit (st .args .w) (st .pre .0 .few), first-level 2450 (st .args .w) (st .args .d .now))
+
+add-n : tie.Need-add-n
+add-n c = search needs
+
+slice-aggregate-find-cycle : tie.Need-slice-aggregate-find-cycle
+slice-aggregate-find-cycle c = search needs
+
+array-borrow-prefix-walk : tie.Need-array-borrow-prefix-walk
+array-borrow-prefix-walk c = search needs
+
+slice-aggregate-find-cycle-2 : tie.Need-slice-aggregate-find-cycle-2
+slice-aggregate-find-cycle-2 c =
+    let st = c .before .before .before .before .before .before in
+    let h = st .pre .0 .few in
+    sym (length-take-le (st .args .w + 1) (replicate 50 0) (omega arith))
+
+find-cycle-requires : tie.Need-find-cycle-requires
+find-cycle-requires c κs =
+    let st = c .before .before .before .before .before .before .before in
+    let q = st .pre .0 in
+    let h = q .few in
+    let f = c .before .before .before .before .fill-levels in (
+      record { weights = q; long = omega (arith, levels-fit (st .args .w) h, f .kept .1 .1 .0); levels-are = f .ensures },
+      st .pre .1,
+      length-take-le (st .args .w + 1) (replicate 50 0) (omega arith),
+      st .pre .2,
+    )
+
+same-length : tie.Need-same-length
+same-length c = search needs
+
+returns : tie.Need-returns
+returns c = search needs
+
+pub negative-cycle-spec : {M : Type 1} → statement M
+negative-cycle-spec =
+    tie.close
+    (tie.spec
+    slice-aggregate-fill-levels
+    fill-levels-requires
+    add-n
+    slice-aggregate-find-cycle
+    array-borrow-prefix-walk
+    slice-aggregate-find-cycle-2
+    find-cycle-requires
+    same-length
+    returns)

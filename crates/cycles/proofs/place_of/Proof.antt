@@ -1,0 +1,77 @@
+-- What is left of the list gives the whole answer.
+use Prim.Native.Nat.{ℕ, suc, _+_, _-_, _*_, _≤_, _<_}
+use native.Mathlib.Omega.{arith}
+use mathlib.Core.Path.{_≡_, refl, sym, ap, subst, _∙_}
+use borrow.Author.Needs.{needs}
+use mathlib.Core.Bool.{Bool, true, false}
+use lib.Dec.{eqb}
+use lib.ListN.{length, getD}
+use native.Mathlib.Nat.{sub-zero}
+use borrow.Author.Tests.{eq-eqb, ne-eqb}
+use Rattle.lists.specs.First.{firstFrom, firstPlace, first-passed, first-failed, first-none}
+use Rattle.cycles.proofs.place_of.Statement.{statement}
+use Rattle.cycles.proofs.place_of.Tie as tie
+
+abbrev Inv-loop : tie.InvT-loop
+Inv-loop c x n j₀ j =
+    (j ≤ length c) × (n ≡ length c)
+    × (firstFrom (length c - j) j (λ (i : ℕ). eqb (getD c i 0) x) ≡ firstPlace (length c) (λ (i : ℕ). eqb (getD c i 0) x))
+
+abbrev μ-loop : tie.MeasureT-loop
+μ-loop c x n j₀ j = length c - j
+
+loop-holds : tie.Need-loop-holds Inv-loop μ-loop
+loop-holds c =
+    let c₀ = c .args .c .now in
+    (omega arith, refl, ap (λ (k : ℕ). firstFrom k 0 (λ (i : ℕ). eqb (getD c₀ i 0) (c .args .x))) (sub-zero (length c₀)))
+
+mul-if1 : tie.Need-mul-if1 Inv-loop μ-loop
+mul-if1 c = omega arith
+
+shared-slice-read-if1 : tie.Need-shared-slice-read-if1 Inv-loop μ-loop
+shared-slice-read-if1 c = omega arith
+
+returns : tie.Need-returns Inv-loop μ-loop
+returns c =
+    let xs = c .before .before .before .before .args .c .now in
+    let x = c .before .before .before .before .args .x in
+    let l = c .before .before .before .loop in
+    let t : ℕ → Bool = (λ i. eqb (getD xs i 0) x) in
+    sym (first-passed t (length xs) (l .j) (omega arith) (eq-eqb (getD xs (l .j) 0) x (c .if1 .taken))) ∙ l .inv .2
+
+add-j : tie.Need-add-j Inv-loop μ-loop
+add-j c = omega arith
+
+loop-less : tie.Need-loop-less Inv-loop μ-loop
+loop-less c = omega arith
+
+loop-again : tie.Need-loop-again Inv-loop μ-loop
+loop-again c =
+    let xs = c .before .before .before .before .args .c .now in
+    let x = c .before .before .before .before .args .x in
+    let l = c .before .before .before .loop in
+    let t : ℕ → Bool = (λ i. eqb (getD xs i 0) x) in
+    (omega arith, refl, first-failed t (length xs) (l .j) (omega arith) (ne-eqb (getD xs (l .j) 0) x (c .if1 .left)) ∙ l .inv .2)
+
+returns-2 : tie.Need-returns-2 Inv-loop μ-loop
+returns-2 c =
+    let xs = c .before .before .args .c .now in
+    let x = c .before .before .args .x in
+    let l = c .before .loop in
+    let t : ℕ → Bool = (λ i. eqb (getD xs i 0) x) in
+    sym (first-none t (length xs) (l .j) (omega arith)) ∙ l .inv .2
+
+pub place-of-spec : {M : Type 1} → statement M
+place-of-spec =
+    tie.close
+    (tie.spec
+    Inv-loop
+    μ-loop
+    loop-holds
+    mul-if1
+    shared-slice-read-if1
+    returns
+    add-j
+    loop-less
+    loop-again
+    returns-2)

@@ -1,0 +1,197 @@
+ghost use mathlib.Core.Path.{_≡_};
+ghost use mathlib.Core.List.{_++_};
+ghost use Prim.Native.Nat.{ℕ, _+_, _-_, _*_, _≤_, _<_};
+ghost use lib.Dec.{eqb};
+ghost use lib.ListN.{length, getD, take, drop};
+ghost use lib.IntN.{pos};
+ghost use lib.Signed.{ltZ};
+ghost use Rattle.lists.specs.First.{firstPlace};
+ghost use Rattle.lists.specs.Values.{listOf};
+ghost use Rattle.network.specs.Table.{mostBoundaries, entry};
+ghost use Rattle.cycles.specs.Levels.{lower};
+ghost use Rattle.cycles.specs.Finder.{Infeasible, SumsFit, LevelsUpTo, Weighed, Ready, Fallen, Source, Lowest, Found, CycleAt};
+
+// A stretch of a walk: from its first place to behind its last one.
+struct Stretch(usize, usize);
+
+// The level below prev. The row holds prev at first, and each boundary's steps lower it.
+fn next_level(d: &[i16], w: usize, prev: &[i16], row: &mut [i16])
+    requires { ⌜ (w ≤ mostBoundaries) × (w * w ≤ length (now d)) × (length (now prev) ≡ w) × (now row ≡ now prev) × SumsFit w (now d) (now prev) ⌝ }
+    ensures { λ _. ⌜ now (row .exit) ≡ listOf w (lower w (entry w (now (d .entry))) (λ v. getD (now (prev .entry)) v (pos 0))) ⌝ }
+{
+    for u in 0..w {
+        let from = u * w;
+        let to = from + w;
+        let reached = prev[u];
+        network::relax_row(row, &d[from..to], reached);
+    }
+}
+
+// The first place where low is below high, or the length.
+fn first_below(low: &[i16], high: &[i16]) -> usize
+    requires { ⌜ length (now low) ≡ length (now high) ⌝ }
+    ensures { λ r. ⌜ r ≡ firstPlace (length (now (low .entry))) (λ v. ltZ (getD (now (low .entry)) v (pos 0)) (getD (now (high .entry)) v (pos 0))) ⌝ }
+{
+    let n = low.len();
+    let mut v = 0;
+    while v < n {
+        if integers::less(low[v], high[v]) {
+            return v;
+        }
+        v += 1;
+    }
+    v
+}
+
+// The first place of x, or the length.
+fn place_of(c: &[u16], x: u16) -> usize
+    ensures { λ r. ⌜ r ≡ firstPlace (length (now (c .entry))) (λ j. eqb (getD (now (c .entry)) j 0) x) ⌝ }
+{
+    let n = c.len();
+    let mut j = 0;
+    while j < n {
+        if c[j] == x {
+            return j;
+        }
+        j += 1;
+    }
+    j
+}
+
+// A place of the least boundary.
+fn lowest_place(c: &[u16]) -> usize
+    requires { ⌜ 0 < length (now c) ⌝ }
+    ensures { λ r. ⌜ Lowest (now (c .entry)) r ⌝ }
+{
+    let mut low = 0;
+    let mut j = 1;
+    let n = c.len();
+    while j < n {
+        if c[j] < c[low] {
+            low = j;
+        }
+        j += 1;
+    }
+    low
+}
+
+fn copy_list(c: &[u16], out: &mut [u16])
+    requires { ⌜ length (now c) ≤ length (now out) ⌝ }
+    ensures { λ _. ⌜ now (out .exit) ≡ now (c .entry) ++ drop (length (now (c .entry))) (now (out .entry)) ⌝ }
+{
+    for i in 0..c.len() {
+        out[i] = c[i];
+    }
+}
+
+// The cycle c at the front of out, from its place low on.
+fn put_turned(c: &[u16], low: usize, out: &mut [u16])
+    requires { ⌜ (low ≤ length (now c)) × (length (now c) ≤ length (now out)) ⌝ }
+    ensures { λ _. ⌜ now (out .exit) ≡ (drop low (now (c .entry)) ++ take low (now (c .entry))) ++ drop (length (now (c .entry))) (now (out .entry)) ⌝ }
+{
+    let n = c.len();
+    copy_list(&c[low..n], out);
+    let rest = n - low;
+    copy_list(&c[0..low], &mut out[rest..n]);
+}
+
+// The level below prev, into the row.
+fn make_level(d: &[i16], w: usize, prev: &[i16], row: &mut [i16])
+    requires { ⌜ (w ≤ mostBoundaries) × (w * w ≤ length (now d)) × (length (now prev) ≡ w) × (length (now row) ≡ w) × SumsFit w (now d) (now prev) ⌝ }
+    ensures { λ _. ⌜ now (row .exit) ≡ listOf w (lower w (entry w (now (d .entry))) (λ v. getD (now (prev .entry)) v (pos 0))) ⌝ }
+{
+    network::copy_row(prev, row);
+    next_level(d, w, prev, row);
+}
+
+// The levels 0 to w, row by row. Level 0 stands there already.
+fn fill_levels(d: &[i16], w: usize, levels: &mut [i16])
+    requires { ⌜ Weighed w (now d) × (w * w + w ≤ length (now levels)) × LevelsUpTo w (now d) (now levels) 0 ⌝ }
+    ensures { λ _. ⌜ LevelsUpTo w (now (d .entry)) (now (levels .exit)) w ⌝ }
+{
+    let mut prev = [0i16; 49];
+    for k in 0..w {
+        let from = k * w;
+        let to = from + w;
+        network::copy_row(&levels[from..to], &mut prev);
+        let end = to + w;
+        make_level(d, w, &prev[..w], &mut levels[to..end]);
+    }
+}
+
+// A boundary from which v has its level k.
+fn source_of(d: &[i16], w: usize, levels: &[i16], k: usize, v: usize) -> usize
+    requires { ⌜ Ready w (now d) (now levels) × (0 < k) × (k ≤ w) × (v < w) ⌝ }
+    ensures { λ r. ⌜ Source w (now (d .entry)) (k - 1) v r ⌝ }
+{
+    let above = (k - 1) * w;
+    let target = levels[k * w + v];
+    let mut u = 0;
+    while u < w {
+        let x = levels[above + u] + d[u * w + v];
+        if integers::less(target, x) {} else {
+            return u;
+        }
+        u += 1;
+    }
+    u
+}
+
+// A boundary that fell at the last level: without a feasible potential there is one.
+fn last_fallen(d: &[i16], w: usize, levels: &[i16]) -> usize
+    requires { ⌜ Ready w (now d) (now levels) × Infeasible w (now d) ⌝ }
+    ensures { λ r. ⌜ Fallen w (now (d .entry)) r ⌝ }
+{
+    let last = w * w;
+    let end = last + w;
+    let before = last - w;
+    first_below(&levels[last..end], &levels[before..last])
+}
+
+// The walk back from a boundary that fell at the last level, into its room from the end on, until it would meet a boundary again.
+fn walk_back(d: &[i16], w: usize, levels: &[i16], last: usize, walk: &mut [u16]) -> Stretch
+    requires { ⌜ Ready w (now d) (now levels) × Fallen w (now d) last × (length (now walk) ≡ w + 1) ⌝ }
+    ensures { λ r. ⌜ Found w (now (d .entry)) (r .0) (r .1) (now (walk .exit)) ⌝ }
+{
+    walk[w] = last as u16;
+    let end = w + 1;
+    let mut k = w;
+    let mut v = last;
+    loop {
+        let u = source_of(d, w, levels, k, v);
+        let x = u as u16;
+        let j = place_of(&walk[k..end], x);
+        if j < end - k {
+            return Stretch(k, k + j + 1);
+        }
+        k -= 1;
+        walk[k] = x;
+        v = u;
+    }
+}
+
+// The cycle that the walk back finds, turned to its lowest boundary, at the front of out.
+fn find_cycle(d: &[i16], w: usize, levels: &[i16], walk: &mut [u16], out: &mut [u16]) -> usize
+    requires { ⌜ Ready w (now d) (now levels) × Infeasible w (now d) × (length (now walk) ≡ w + 1) × (w ≤ length (now out)) ⌝ }
+    ensures { λ r. ⌜ CycleAt w (now (d .entry)) (now (out .entry)) r (now (out .exit)) ⌝ }
+{
+    let last = last_fallen(d, w, levels);
+    let s = walk_back(d, w, levels, last, walk);
+    let from = s.0;
+    let to = s.1;
+    let low = lowest_place(&walk[from..to]);
+    put_turned(&walk[from..to], low, out);
+    to - from
+}
+
+// A negative cycle, from its lowest boundary on, at the front of out; the answer is its length.
+pub fn negative_cycle(d: &[i16], w: usize, out: &mut [u16]) -> usize
+    requires { ⌜ Weighed w (now d) × Infeasible w (now d) × (w ≤ length (now out)) ⌝ }
+    ensures { λ r. ⌜ CycleAt w (now (d .entry)) (now (out .entry)) r (now (out .exit)) ⌝ }
+{
+    let mut levels = [0i16; 2450];
+    fill_levels(d, w, &mut levels);
+    let mut walk = [0u16; 50];
+    let n = w + 1;
+    find_cycle(d, w, &levels, &mut walk[..n], out)
+}
