@@ -1,0 +1,4 @@
+pub mod StepLaws
+pub mod ReadLaws
+pub mod SpreadLaws
+pub mod AnswerLaws

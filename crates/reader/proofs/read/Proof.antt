@@ -1,0 +1,131 @@
+use Prim.Native.Nat.{_≤_}
+use mathlib.Core.Path.{_≡_, sym, ap, subst, _∙_}
+use mathlib.Core.Bool.{true}
+use lib.Dec.{lit≤}
+use lib.ListN.{length, replicate}
+use borrow.Author.Tests.{not-true, not-false}
+use Rattle.reader.specs.Reading.{maxBytes, rooms, sizesOf, roomsFit, read, answerOf}
+use Rattle.reader.specs.Reader.{passAnswer, Kept, KeptNumbers}
+use Rattle.reader.specs.declared.Reading.{Reading}
+use Rattle.reader.proofs.AnswerLaws.{answer-long, answer-no, answer-rooms, answer-read, rooms-kept, fills, rooms-filled}
+use borrow.Author.Needs.{needs}
+use Rattle.reader.proofs.read.Statement.{statement}
+use Rattle.reader.proofs.read.Tie as tie
+
+short : (c : tie.Else1) → length (c .before .before .before .before .before .before .before .before .args .text .now) ≤ maxBytes
+short c = c .if1 .left
+
+-- of a sheet that the pass found: its numbers, and what the arrays hold
+answered : (c : tie.After-known-told2) → let s = c .before .asked2 .given .0 .0 in
+    read (s .span) (s .units) (s .rules) ≡ passAnswer (c .before .before .before .before .before .before .before .before .before .before .before .before .before .before .before .before .args .text .now)
+answered c = sym (ap answerOf (c .before .asked2 .given .1)) ∙ c .before .before .before .before .before .ask .ensures .0
+
+kept : (c : tie.After-known-told2) → let k = c .before .before .before .before .before .ask in
+    KeptNumbers (c .before .asked2 .given .0 .0) (c .before .before .before .before .before .before .before .before .before .before .before .before .before .before .before .before .args .text .now) (replicate 600 0) (k .last .1 .0) (replicate 240 0) (k .last .1 .1 .0)
+kept c =
+    let k = c .before .before .before .before .before .ask in
+    subst (λ (r : Reading). Kept r (c .before .before .before .before .before .before .before .before .before .before .before .before .before .before .before .before .args .text .now) (replicate 600 0) (k .last .1 .0) (replicate 240 0) (k .last .1 .1 .0)) (c .before .asked2 .given .1) (k .ensures .1)
+
+fitting : (c : tie.Else2) → let a = c .before .before .before .before .before .before .before .before .before .before .before .before .before .before .before .before .before .before .args in
+    let s = c .before .before .before .asked2 .given .0 .0 in
+    roomsFit (s .units) (s .rules) (sizesOf (rooms (a .first .now) (a .last .now) (a .from .now) (a .to .now) (a .low .now) (a .high .now))) ≡ true
+fitting c = sym (c .before .rooms-fit .ensures) ∙ not-false _ (c .if2 .left)
+
+returns : tie.Need-returns
+returns c =
+    let a = c .before .before .before .before .before .before .before .before .args in
+    let m = (rooms (a .first .now) (a .last .now) (a .from .now) (a .to .now) (a .low .now) (a .high .now)) in
+    let e = answer-long (a .text .now) (sizesOf m) (c .if1 .taken) in
+    (e, rooms-kept (a .text .now) m 1 0 e)
+
+slice-aggregate-ask : tie.Need-slice-aggregate-ask
+slice-aggregate-ask c = search needs
+
+slice-aggregate-ask-2 : tie.Need-slice-aggregate-ask-2
+slice-aggregate-ask-2 c = search needs
+
+ask-requires : tie.Need-ask-requires
+ask-requires c κs = search needs
+
+enum-known-asked : tie.Need-enum-known-asked
+enum-known-asked c = search needs
+
+enum-known-asked-2 : tie.Need-enum-known-asked-2
+enum-known-asked-2 c = search needs
+
+rooms-fit-requires : tie.Need-rooms-fit-requires
+rooms-fit-requires c κs = search needs
+
+returns-2 : tie.Need-returns-2
+returns-2 c =
+    let a = c .before .before .before .before .before .before .before .before .before .before .before .before .before .before .before .before .before .before .args in
+    let m = (rooms (a .first .now) (a .last .now) (a .from .now) (a .to .now) (a .low .now) (a .high .now)) in
+    let e = answer-rooms (a .text .now) (sizesOf m) (short (c .before .before .before .before .before .before .before .before .before .before)) _ _ _ (answered (c .before .before)) (sym (c .before .rooms-fit .ensures) ∙ not-true _ (c .if2 .taken)) in
+    (e, rooms-kept (a .text .now) m 12 0 e)
+
+slice-aggregate-fill : tie.Need-slice-aggregate-fill
+slice-aggregate-fill c = search needs
+
+slice-aggregate-fill-2 : tie.Need-slice-aggregate-fill-2
+slice-aggregate-fill-2 c = search needs
+
+fill-requires : tie.Need-fill-requires
+fill-requires c κs = fills _ _ _ _ _ _ _ (lit≤ tt) (lit≤ tt) (kept (c .before .before .before .before .before .before .before .before .before .before)) (fitting (c .before .before .before .before .before .before .before .before))
+
+returns-3 : tie.Need-returns-3
+returns-3 c =
+    let a = c .before .before .before .before .before .before .before .before .before .before .before .before .before .before .before .before .args in
+    let m = (rooms (a .first .now) (a .last .now) (a .from .now) (a .to .now) (a .low .now) (a .high .now)) in
+    let e = answer-no (a .text .now) (sizesOf m) (short (c .before .before .before .before .before .before .before .before)) _ _ (sym (ap answerOf (c .before .asked .given .1)) ∙ c .before .before .before .before .before .ask .ensures .0) in
+    (e, rooms-kept (a .text .now) m _ _ e)
+
+same-length : tie.Need-same-length
+same-length c = search needs
+
+same-length-2 : tie.Need-same-length-2
+same-length-2 c = search needs
+
+same-length-3 : tie.Need-same-length-3
+same-length-3 c = search needs
+
+same-length-4 : tie.Need-same-length-4
+same-length-4 c = search needs
+
+same-length-5 : tie.Need-same-length-5
+same-length-5 c = search needs
+
+same-length-6 : tie.Need-same-length-6
+same-length-6 c = search needs
+
+returns-4 : tie.Need-returns-4
+returns-4 c =
+    let a = c .before .before .before .before .before .before .before .before .before .before .before .before .before .before .before .before .before .before .before .before .before .before .before .before .before .before .before .before .before .before .before .before .before .before .before .before .before .before .before .args in
+    let m = (rooms (a .first .now) (a .last .now) (a .from .now) (a .to .now) (a .low .now) (a .high .now)) in (
+      answer-read (a .text .now) (sizesOf m) (short (c .before .before .before .before .before .before .before .before .before .before .before .before .before .before .before .before .before .before .before .before .before .before .before .before .before .before .before .before .before .before .before)) _ _ _ (answered (c .before .before .before .before .before .before .before .before .before .before .before .before .before .before .before .before .before .before .before .before .before .before .before)) (fitting (c .before .before .before .before .before .before .before .before .before .before .before .before .before .before .before .before .before .before .before .before .before)),
+      c .before .before .before .before .before .before .before .before .before .before .before .before .fill .ensures
+          ∙ rooms-filled _ (a .text .now) _ _ _ _ m (lit≤ tt) (lit≤ tt) (short (c .before .before .before .before .before .before .before .before .before .before .before .before .before .before .before .before .before .before .before .before .before .before .before .before .before .before .before .before .before .before .before)) (answered (c .before .before .before .before .before .before .before .before .before .before .before .before .before .before .before .before .before .before .before .before .before .before .before)) (fitting (c .before .before .before .before .before .before .before .before .before .before .before .before .before .before .before .before .before .before .before .before .before)) (kept (c .before .before .before .before .before .before .before .before .before .before .before .before .before .before .before .before .before .before .before .before .before .before .before)),
+    )
+
+pub read-spec : {M : Type 1} → statement M
+read-spec =
+    tie.close
+    (tie.spec
+    returns
+    slice-aggregate-ask
+    slice-aggregate-ask-2
+    ask-requires
+    enum-known-asked
+    enum-known-asked-2
+    rooms-fit-requires
+    returns-2
+    slice-aggregate-fill
+    slice-aggregate-fill-2
+    fill-requires
+    returns-3
+    same-length
+    same-length-2
+    same-length-3
+    same-length-4
+    same-length-5
+    same-length-6
+    returns-4)
