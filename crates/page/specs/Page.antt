@@ -162,4 +162,4 @@ pub record RingFits (w : ℕ) (limits : List ℤ) (ring : List ℕ) : Type 0 whe
   pub some : 1 ≤ length ring
   pub few : length ring ≤ mostBoundaries
   pub inside : (i : ℕ) → i < length ring → getD ring i 0 < w
-  pub small : (a b : ℕ) → a < w → b < w → dn (entry w limits a b) ≤ maxCount
+  pub small : (a b : ℕ) → a < w → b < w → (up (entry w limits a b) ≤ maxCount) × (dn (entry w limits a b) ≤ maxCount)

@@ -3,6 +3,7 @@
 -- one law takes it over each piece: the same for a word, a number, a line and all lines of a page.
 use mathlib.Core.Path.{_≡_, refl, sym, ap, ap₂, _∙_, subst}
 use mathlib.Core.Bool.{Bool, true, false, cond}
+use mathlib.Core.Logic.{⊎-elim}
 use mathlib.Core.List.{List, [], _∷_, _++_, map, append-assoc, append-nil}
 use Prim.Native.Nat.{ℕ, zero, suc, _+_, _-_, _*_, _/_, _%_, _≤_, _<_}
 use native.Mathlib.Omega.{arith}
@@ -11,12 +12,13 @@ use native.Mathlib.Nat.{add-zero, add-suc, suc-add}
 use native.Mathlib.Numerals.{add-one}
 use lib.Dec.{T, ltb}
 use lib.ListN.{length, take, drop, getD, set, length-append, length-set, drop-of-length-le}
+use lib.IntN.{ℤ, _+ℤ_}
 use lib.Seq.{sets, length-sets, sets-eq, drop-cons}
-use Rattle.integers.specs.Parts.{up, dn, neg}
-use Rattle.network.specs.Network.{Weights}
+use Rattle.integers.specs.Parts.{up, dn, sum, neg, apart}
+use Rattle.network.specs.Network.{Weights, via, around}
 use borrow.Author.Tests.{lt-ltb, le-ltb}
 use Rattle.lists.specs.Lists.{run, fromTo, joined}
-use Rattle.page.specs.Page.{onto, Room, Written, text, digit, digitsWithin, digits, oneNumber, fourNumbers, planHead, unitLines, slotLine, slotLineAt, slotLines, unitsIn, planPage, boundLine, stepLine, stepLines, ringLines}
+use Rattle.page.specs.Page.{onto, Room, Written, text, digit, digitsWithin, digits, oneNumber, fourNumbers, planHead, unitLines, slotLine, slotLineAt, slotLines, unitsIn, planPage, boundLine, stepLine, stepLines, ringLines, shortfallOf, shortfallLine, nonePage}
 
 -- ---- writing one thing after another
 sets-append : (page : List ℕ) (at : ℕ) (xs ys : List ℕ) → sets (sets page at xs) (at + length xs) ys ≡ sets page at (xs ++ ys)
@@ -234,3 +236,76 @@ module _ (d : Weights) (ring : List ℕ) where
   pub ring-end : (i a e : ℕ) → length ring ≤ i + 1 → stepLines d a (drop (i + 1) ring) e ≡ stepLine d a e ∷ []
   unfolding stepLines
   ring-end i a e h = rw (drop-of-length-le ring h)
+
+  -- the weights from place i on, and back to the first boundary
+  abbrev pub weightFrom : ℕ → ℤ
+  weightFrom i = via d (getD ring i 0) (drop (i + 1) ring) (getD ring 0 0)
+
+  weight-start : 1 ≤ length ring → around d ring ≡ weightFrom 0
+  weight-start h = go ring h
+    where
+      go : (r : List ℕ) → 1 ≤ length r → around d r ≡ via d (getD r 0 0) (drop 1 r) (getD r 0 0)
+      go [] h = absurd (omega arith)
+      go (x ∷ xs) h = refl
+
+  -- what the first i steps rise and fall by, and what the others add up to, make up the ring's sum
+  pub record Walked (i rise fall : ℕ) : Type 0 where
+    pub rest : rise + up (weightFrom i) + dn (around d ring) ≡ up (around d ring) + fall + dn (weightFrom i)
+
+  pub walked-none : 1 ≤ length ring → Walked 0 0 0
+  walked-none h = record { rest = omega (arith, ap up (weight-start h), ap dn (weight-start h)) }
+
+  pub walked-next : (i rise fall : ℕ) → i + 1 < length ring → Walked i rise fall
+      → Walked (i + 1) (rise + up (d (getD ring i 0) (getD ring (i + 1) 0))) (fall + dn (d (getD ring i 0) (getD ring (i + 1) 0)))
+  walked-next i rise fall h w =
+      let e : weightFrom i ≡ d (getD ring i 0) (getD ring (i + 1) 0) +ℤ weightFrom (i + 1) = rw (add-one (i + 1), drop-cons ring (i + 1) 0 h) refl in
+      record { rest = omega (arith, w .rest, ap up e, ap dn e, sum (d (getD ring i 0) (getD ring (i + 1) 0)) (weightFrom (i + 1))) }
+
+  -- with the last step the ring is closed
+  pub walked-all : (i rise fall : ℕ) → length ring ≤ i + 1 → Walked i rise fall
+      → fall + dn (d (getD ring i 0) (getD ring 0 0)) - (rise + up (d (getD ring i 0) (getD ring 0 0))) ≡ shortfallOf d ring
+  walked-all i rise fall h w =
+      let e : weightFrom i ≡ d (getD ring i 0) (getD ring 0 0) = rw (drop-of-length-le ring h) refl in
+      ⊎-elim
+      (λ z. omega (arith, w .rest, ap up e, ap dn e, neg (around d ring)))
+      (λ z. omega (arith, w .rest, ap up e, ap dn e, neg (around d ring)))
+      (apart (around d ring))
+
+  -- what is counted and the length of the lines of the steps from place i on make up the whole
+  pub record StepsMeasured (i total : ℕ) : Type 0 where
+    pub rest : total + length (joined (stepLines d (getD ring i 0) (drop (i + 1) ring) (getD ring 0 0))) ≡ length (joined (ringLines d ring))
+
+  pub steps-none : 1 ≤ length ring → StepsMeasured 0 0
+  steps-none h = record { rest = omega (arith, ap (λ ls. length (joined ls)) (ring-start h)) }
+
+  pub steps-next : (i total : ℕ) → i + 1 < length ring → StepsMeasured i total
+      → StepsMeasured (i + 1) (total + length (stepLine d (getD ring i 0) (getD ring (i + 1) 0)))
+  steps-next i total h m =
+      let a = getD ring i 0 in
+      let b = getD ring (i + 1) 0 in
+      let e = getD ring 0 0 in
+      record {
+        rest = omega (
+          arith,
+          m .rest,
+          ap (λ ls. length (joined ls)) (ring-next i a e h),
+          length-append (stepLine d a b) (joined (stepLines d b (drop (i + 1 + 1) ring) e)),
+        );
+      }
+
+  pub steps-all : (i total : ℕ) → length ring ≤ i + 1 → StepsMeasured i total
+      → total + length (stepLine d (getD ring i 0) (getD ring 0 0)) ≡ length (joined (ringLines d ring))
+  steps-all i total h m =
+      let a = getD ring i 0 in
+      let e = getD ring 0 0 in
+      omega (arith, m .rest, ap (λ ls. length (joined ls)) (ring-end i a e h), ap length (append-nil (stepLine d a e)))
+
+pub boundLine-length : (word : List ℕ) (bound first last : ℕ)
+    → length (boundLine word bound first last) ≡ length word + 12 + (length (digits bound) + (length (digits first) + length (digits last)))
+unfolding boundLine text
+boundLine-length word bound first last = simp length-append (omega arith)
+
+pub nonePage-length : (d : Weights) (ring : List ℕ)
+    → length (nonePage d ring) ≡ 14 + (length (joined (ringLines d ring)) + (13 + length (digits (shortfallOf d ring))))
+unfolding nonePage shortfallLine text
+nonePage-length d ring = simp length-append (omega arith)

@@ -413,3 +413,79 @@ fn put_steps(page: &mut [u8], at: usize, limits: &[i16], w: usize, ring: &[u16])
     }
     put_step(page, next, limits, w, ring[last], ring[0])
 }
+
+// How far one number is above another; 0 where it is not.
+fn excess(a: u16, b: u16) -> u16
+    ensures { λ r. ⌜ r ≡ a - b ⌝ }
+{
+    if b < a { a - b } else { 0 }
+}
+
+// Minus the sum of the ring's limits: what its steps fall by, less what they rise by.
+fn shortfall(limits: &[i16], w: usize, ring: &[u16]) -> u16
+    requires { ⌜ RingFits w (now limits) (now ring) ⌝ }
+    ensures { λ r. ⌜ r ≡ shortfallOf (entry w (now (limits .entry))) (now (ring .entry)) ⌝ }
+{
+    let last = ring.len() - 1;
+    let mut rise: u16 = 0;
+    let mut fall: u16 = 0;
+    let mut i = 0;
+    while i < last {
+        let limit = entry_at(limits, w, ring[i] as usize, ring[i + 1] as usize);
+        rise += above(limit);
+        fall += below(limit);
+        i += 1;
+    }
+    let limit = entry_at(limits, w, ring[last] as usize, ring[0] as usize);
+    excess(fall + below(limit), rise + above(limit))
+}
+
+fn bound_length(word: usize, bound: u16, first: u16, last: u16) -> usize
+    requires { ⌜ word ≤ 10 ⌝ }
+    ensures { λ r. ⌜ (r ≡ word + 12 + (length (digits bound) + (length (digits first) + length (digits last)))) × (r ≤ maxLine) ⌝ }
+{
+    word + 12 + (digit_count(bound) + (digit_count(first) + digit_count(last)))
+}
+
+fn step_length(limits: &[i16], w: usize, a: u16, b: u16) -> usize
+    requires { ⌜ (a < w) × (b < w) × (w ≤ mostBoundaries) × (w * w ≤ length (now limits)) ⌝ }
+    ensures { λ r. ⌜ (r ≡ length (stepLine (entry w (now (limits .entry))) a b)) × (r ≤ maxLine) ⌝ }
+{
+    let limit = entry_at(limits, w, a as usize, b as usize);
+    if a < b {
+        return bound_length(9, above(limit), a + 1, b);
+    }
+    bound_length(10, below(limit), b + 1, a)
+}
+
+fn steps_length(limits: &[i16], w: usize, ring: &[u16]) -> usize
+    requires { ⌜ RingFits w (now limits) (now ring) ⌝ }
+    ensures { λ r. ⌜ (r ≡ length (joined (ringLines (entry w (now (limits .entry))) (now (ring .entry))))) × (r ≤ mostBoundaries * maxLine) ⌝ }
+{
+    let last = ring.len() - 1;
+    let mut total = 0;
+    let mut i = 0;
+    while i < last {
+        total += step_length(limits, w, ring[i], ring[i + 1]);
+        i += 1;
+    }
+    total + step_length(limits, w, ring[last], ring[0])
+}
+
+// The length of the page of a ring, known before the first byte is written.
+pub fn none_length(limits: &[i16], w: usize, ring: &[u16]) -> usize
+    requires { ⌜ RingFits w (now limits) (now ring) ⌝ }
+    ensures { λ r. ⌜ r ≡ length (nonePage (entry w (now (limits .entry))) (now (ring .entry))) ⌝ }
+{
+    14 + (steps_length(limits, w, ring) + (13 + digit_count(shortfall(limits, w, ring))))
+}
+
+pub fn put_none(page: &mut [u8], at: usize, limits: &[i16], w: usize, ring: &[u16]) -> usize
+    requires { ⌜ RingFits w (now limits) (now ring) ⌝ }
+    requires { ⌜ Room (now page) at (nonePage (entry w (now limits)) (now ring)) ⌝ }
+    ensures { λ r. ⌜ Written (now (page .entry)) at (nonePage (entry w (now (limits .entry))) (now (ring .entry))) (now (page .exit)) r ⌝ }
+{
+    let steps = put_word(page, at, b"(answer none)\n");
+    let end = put_steps(page, steps, limits, w, ring);
+    put_one_number(page, end, b"(shortfall ", shortfall(limits, w, ring))
+}

@@ -11,8 +11,6 @@ use Rattle.network.specs.Table.{mostBoundaries}
 use Rattle.page.proofs.TallyLaws.{Counted, counted-none, counted-small, counted-store, counted-pass, counted-all}
 use Rattle.page.proofs.count_slots.Statement.{statement}
 use Rattle.page.proofs.count_slots.Tie as tie
-use Rattle.page.proofs.count_slots.Reads as reads
-use Rattle.page.proofs.count_slots.Lts as lts
 
 abbrev Inv-loop : tie.InvT-loop
 Inv-loop plan counts₀ j₀ counts j =
@@ -21,50 +19,39 @@ Inv-loop plan counts₀ j₀ counts j =
 abbrev μ-loop : tie.MeasureT-loop
 μ-loop plan counts₀ j₀ counts j = length plan - j
 
--- src/lib.rt:156:5
 loop-holds : tie.Need-loop-holds Inv-loop μ-loop
 loop-holds c = (omega arith, counted-none (now (c .args .plan)) (now (c .args .counts)) (c .pre .0))
 
--- src/lib.rt:157:20
 mul-slot : tie.Need-mul-slot Inv-loop μ-loop
 mul-slot c = omega arith
 
--- src/lib.rt:157:20
 shared-slice-read-slot : tie.Need-shared-slice-read-slot Inv-loop μ-loop
 shared-slice-read-slot c = omega arith
 
--- src/lib.rt:157:20
 cast-slot : tie.Need-cast-slot Inv-loop μ-loop
 cast-slot c = omega (arith, c .shared-slice-known .given (c .before .before .loop .j))
 
--- src/lib.rt:159:13
 mul-counts : tie.Need-mul-counts Inv-loop μ-loop
 mul-counts c = omega arith
 
--- src/lib.rt:159:13
 slice-read-counts : tie.Need-slice-read-counts Inv-loop μ-loop
 slice-read-counts c = omega arith
 
--- src/lib.rt:159:13
 add-counts : tie.Need-add-counts Inv-loop μ-loop
 add-counts c =
     let l = c .before .before .before .before .loop in
     let counted = l .inv .1 in
     omega (arith, counted-small counted (getD (now (c .before .before .before .before .before .args .plan)) (l .j) 0) (omega (arith, c .before .if1 .taken, counted .long)), l .inv .0)
 
--- src/lib.rt:159:13
 slice-write-counts : tie.Need-slice-write-counts Inv-loop μ-loop
 slice-write-counts c = omega arith
 
--- src/lib.rt:161:9
 add-j : tie.Need-add-j Inv-loop μ-loop
 add-j c = omega arith
 
--- src/lib.rt:156:5
 loop-less : tie.Need-loop-less Inv-loop μ-loop
 loop-less c = omega arith
 
--- src/lib.rt:156:5
 loop-again : tie.Need-loop-again Inv-loop μ-loop
 loop-again c =
     let l = c .before .before .before .loop in
@@ -78,11 +65,9 @@ loop-again c =
           (c .if1 .came),
     )
 
--- src/lib.rt:151:1
 same-length : tie.Need-same-length Inv-loop μ-loop
 same-length c = omega (arith, ap length (c .before .before .pre .0))
 
--- src/lib.rt:151:1
 returns : tie.Need-returns Inv-loop μ-loop
 returns c = counted-all (c .loop-test .left) (c .before .loop .inv .1)
 

@@ -4,26 +4,19 @@ use native.Mathlib.Omega.{arith}
 use Rattle.page.specs.PageLaws.{length-one, length-two, length-three, length-four, length-five}
 use Rattle.page.proofs.digit_count.Statement.{statement}
 use Rattle.page.proofs.digit_count.Tie as tie
-use Rattle.page.proofs.digit_count.Reads as reads
-use Rattle.page.proofs.digit_count.Lts as lts
 
--- src/lib.rt:249:9
 returns : tie.Need-returns
 returns c = (sym (length-one (c .before .args .n) (c .if1 .taken)), omega arith)
 
--- src/lib.rt:252:9
 returns-2 : tie.Need-returns-2
 returns-2 c = (sym (length-two (c .before .before .args .n) (omega arith) (omega arith)), omega arith)
 
--- src/lib.rt:255:9
 returns-3 : tie.Need-returns-3
 returns-3 c = (sym (length-three (c .before .before .before .args .n) (omega arith) (omega arith)), omega arith)
 
--- src/lib.rt:258:9
 returns-4 : tie.Need-returns-4
 returns-4 c = (sym (length-four (c .before .before .before .before .args .n) (omega arith) (omega arith)), omega arith)
 
--- src/lib.rt:245:1
 returns-5 : tie.Need-returns-5
 returns-5 c = (sym (length-five (c .before .before .before .before .args .n) (omega arith) (omega arith)), omega arith)
 

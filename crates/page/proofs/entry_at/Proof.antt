@@ -1,33 +1,26 @@
 -- The place of an entry is inside the table.
+use borrow.Author.Needs.{needs}
 use Prim.Native.Nat.{_+_, _*_, _<_}
 use native.Mathlib.Omega.{arith}
 use Rattle.sheet.specs.EntryLaws.{place-inside}
-use borrow.Author.Needs.{needs}
 use Rattle.page.proofs.entry_at.Statement.{statement}
 use Rattle.page.proofs.entry_at.Tie as tie
-use Rattle.page.proofs.entry_at.Reads as reads
-use Rattle.page.proofs.entry_at.Lts as lts
 
 inside : (c : tie.Start) → c .args .a * c .args .w + c .args .b < c .args .w * c .args .w
 inside c = place-inside (c .args .w) (c .args .a) (c .args .b) (c .pre .0) (c .pre .1)
 
--- src/lib.rt:169:11
 mul-result : tie.Need-mul-result
 mul-result c = omega (arith, inside c)
 
--- src/lib.rt:169:11
 add-result : tie.Need-add-result
 add-result c = omega (arith, inside c)
 
--- src/lib.rt:169:5
 mul-result-2 : tie.Need-mul-result-2
 mul-result-2 c = omega (arith, inside c)
 
--- src/lib.rt:169:5
 shared-slice-copy-out-result : tie.Need-shared-slice-copy-out-result
 shared-slice-copy-out-result c = omega (arith, inside c)
 
--- src/lib.rt:165:1
 returns : tie.Need-returns
 returns c = search needs
 

@@ -1,17 +1,12 @@
 -- Three pairs of a word and a number, and the closing word. `after-K` says what is left once K pairs are written.
-use mathlib.Core.Path.{refl}
+use mathlib.Core.Path.{_∙_, refl}
 use mathlib.Core.List.{List, [], _∷_}
 use Prim.Native.Nat.{ℕ}
 use denote.Ref.{now}
 use Rattle.page.specs.Page.{text, digits, boundLine}
 use Rattle.page.specs.PageLaws.{Pending, pending-whole, pending-room, pending-pair, pending-after, pending-nothing}
-use borrow.Author.Needs.{needs}
 use Rattle.page.proofs.put_bound.Statement.{statement}
 use Rattle.page.proofs.put_bound.Tie as tie
-use Rattle.page.proofs.put_bound.Reads as reads
-use Rattle.page.proofs.put_bound.Lts as lts
-use Rattle.page.proofs.put_pair.Reads as put-pair-reads
-use Rattle.page.proofs.put_word.Reads as put-word-reads
 
 abbrev PendingOf : tie.Start → List ℕ → ℕ → List (List ℕ) → Type 0
 PendingOf c page at rest = Pending (now (c .args .page)) (c .args .at) (boundLine (now (c .args .word)) (c .args .bound) (c .args .first) (c .args .last)) page at rest
@@ -37,42 +32,33 @@ after-three : (c : tie.After-put-pair3) → PendingOf (c .before .before .before
 unfolding text
 after-three c = pending-after (pending-pair (after-two (c .before .before .before .before .before))) (c .put-pair3 .ensures)
 
--- src/lib.rt:331:9
 put-pair-requires : tie.Need-put-pair-requires
 put-pair-requires c κs = pending-room (pending-pair (after-none (c .before .before .before)))
 
--- src/lib.rt:332:38
 slice-aggregate-put-pair : tie.Need-slice-aggregate-put-pair
-slice-aggregate-put-pair c = search needs
+slice-aggregate-put-pair c = refl
 
--- src/lib.rt:332:9
 put-pair-requires-2 : tie.Need-put-pair-requires-2
 unfolding text
 put-pair-requires-2 c κs = pending-room (pending-pair (after-one (c .before .before .before .before)))
 
--- src/lib.rt:333:39
 slice-aggregate-put-pair-2 : tie.Need-slice-aggregate-put-pair-2
-slice-aggregate-put-pair-2 c = search needs
+slice-aggregate-put-pair-2 c = refl
 
--- src/lib.rt:333:9
 put-pair-requires-3 : tie.Need-put-pair-requires-3
 unfolding text
 put-pair-requires-3 c κs = pending-room (pending-pair (after-two (c .before .before .before .before)))
 
--- src/lib.rt:334:27
 slice-aggregate-put-word : tie.Need-slice-aggregate-put-word
-slice-aggregate-put-word c = search needs
+slice-aggregate-put-word c = refl
 
--- src/lib.rt:334:5
 put-word-requires : tie.Need-put-word-requires
 unfolding text
 put-word-requires c κs = pending-room (after-three (c .before .before .before .before))
 
--- src/lib.rt:327:1
 same-length : tie.Need-same-length
-same-length c = search needs
+same-length c = c .before .before .put-word .kept .0 ∙ after-three (c .before .before .before .before .before .before .before) .kept
 
--- src/lib.rt:327:1
 returns : tie.Need-returns
 unfolding text
 returns c = pending-nothing (pending-after (after-three (c .before .before .before .before .before .before .before)) (c .before .before .put-word .ensures))

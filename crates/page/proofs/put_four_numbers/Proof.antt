@@ -1,18 +1,13 @@
 -- Four pairs of a word and a number, and the closing word. `lineK` says what is left once K pairs are written.
-use mathlib.Core.Path.{refl}
+use mathlib.Core.Path.{_∙_, refl}
 use mathlib.Core.List.{List, [], _∷_, _++_}
 use Prim.Native.Nat.{ℕ}
 use denote.Ref.{now}
 use Rattle.lists.specs.Lists.{joined}
 use Rattle.page.specs.Page.{Room, Written, text, digits, fourNumbers}
 use Rattle.page.specs.PageLaws.{Pending, pending-whole, pending-room, pending-pair, pending-after, pending-nothing}
-use borrow.Author.Needs.{needs}
 use Rattle.page.proofs.put_four_numbers.Statement.{statement}
 use Rattle.page.proofs.put_four_numbers.Tie as tie
-use Rattle.page.proofs.put_four_numbers.Reads as reads
-use Rattle.page.proofs.put_four_numbers.Lts as lts
-use Rattle.page.proofs.put_pair.Reads as put-pair-reads
-use Rattle.page.proofs.put_word.Reads as put-word-reads
 
 abbrev line : tie.Start → List ℕ
 line c = fourNumbers (now (c .args .first)) (c .args .a) (now (c .args .second)) (c .args .b) (now (c .args .third)) (c .args .c) (c .args .d)
@@ -46,41 +41,32 @@ line4 : (c : tie.After-put-pair4) → PendingOf (c .before .before .before .befo
 unfolding text
 line4 c = pending-after (pending-pair (line3 (c .before .before .before .before .before))) (c .put-pair4 .ensures)
 
--- src/lib.rt:110:9
 put-pair-requires : tie.Need-put-pair-requires
 put-pair-requires c κs = pending-room (pending-pair (line0 (c .before .before .before .before .before)))
 
--- src/lib.rt:111:9
 put-pair-requires-2 : tie.Need-put-pair-requires-2
 put-pair-requires-2 c κs = pending-room (pending-pair (line1 (c .before .before .before)))
 
--- src/lib.rt:112:9
 put-pair-requires-3 : tie.Need-put-pair-requires-3
 put-pair-requires-3 c κs = pending-room (pending-pair (line2 (c .before .before .before)))
 
--- src/lib.rt:113:39
 slice-aggregate-put-pair : tie.Need-slice-aggregate-put-pair
-slice-aggregate-put-pair c = search needs
+slice-aggregate-put-pair c = refl
 
--- src/lib.rt:113:9
 put-pair-requires-4 : tie.Need-put-pair-requires-4
 unfolding text
 put-pair-requires-4 c κs = pending-room (pending-pair (line3 (c .before .before .before .before)))
 
--- src/lib.rt:114:27
 slice-aggregate-put-word : tie.Need-slice-aggregate-put-word
-slice-aggregate-put-word c = search needs
+slice-aggregate-put-word c = refl
 
--- src/lib.rt:114:5
 put-word-requires : tie.Need-put-word-requires
 unfolding text
 put-word-requires c κs = pending-room (line4 (c .before .before .before .before))
 
--- src/lib.rt:95:1
 same-length : tie.Need-same-length
-same-length c = search needs
+same-length c = c .before .before .put-word .kept .0 ∙ line4 (c .before .before .before .before .before .before .before) .kept
 
--- src/lib.rt:95:1
 returns : tie.Need-returns
 unfolding text
 returns c = pending-nothing (pending-after (line4 (c .before .before .before .before .before .before .before)) (c .before .before .put-word .ensures))

@@ -4,36 +4,27 @@ use Prim.Native.Nat.{ℕ, _+_, _-_, _≤_, _<_}
 use native.Mathlib.Omega.{arith}
 use lib.Seq.{sets}
 use denote.Ref.{now}
-use lib.ListN.{length, getD}
+use lib.ListN.{length-set, length, getD}
 use Rattle.page.specs.Page.{digits, digit}
 use Rattle.page.specs.PageLaws.{digits-one, onto-sets}
-use borrow.Author.Needs.{needs}
 use Rattle.page.proofs.put_one.Statement.{statement}
 use Rattle.page.proofs.put_one.Tie as tie
-use Rattle.page.proofs.put_one.Reads as reads
-use Rattle.page.proofs.put_one.Lts as lts
 
--- src/lib.rt:27:17
 add-page : tie.Need-add-page
-add-page c = search needs
+add-page c = omega arith
 
--- src/lib.rt:27:16
 cast-page : tie.Need-cast-page
-cast-page c = search needs
+cast-page c = omega arith
 
--- src/lib.rt:27:5
 slice-write-page : tie.Need-slice-write-page
 slice-write-page c = omega (arith, ap length (digits-one (c .args .n) (c .pre .0)))
 
--- src/lib.rt:28:5
 add-result : tie.Need-add-result
-add-result c = search needs
+add-result c = omega arith
 
--- src/lib.rt:22:1
 same-length : tie.Need-same-length
-same-length c = search needs
+same-length c = simp length-set
 
--- src/lib.rt:22:1
 returns : tie.Need-returns
 returns c =
     let a = c .args in

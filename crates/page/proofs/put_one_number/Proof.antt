@@ -1,40 +1,30 @@
 -- A word, a number and the closing word.
-use mathlib.Core.Path.{refl}
+use mathlib.Core.Path.{_∙_, refl}
 use mathlib.Core.List.{List, [], _∷_}
 use denote.Ref.{now}
 use Rattle.page.specs.Page.{text, digits, oneNumber}
 use Rattle.page.specs.PageLaws.{Pending, pending-whole, pending-room, pending-pair, pending-after, pending-nothing}
-use borrow.Author.Needs.{needs}
 use Rattle.page.proofs.put_one_number.Statement.{statement}
 use Rattle.page.proofs.put_one_number.Tie as tie
-use Rattle.page.proofs.put_one_number.Reads as reads
-use Rattle.page.proofs.put_one_number.Lts as lts
-use Rattle.page.proofs.put_pair.Reads as put-pair-reads
-use Rattle.page.proofs.put_word.Reads as put-word-reads
 
 start : (c : tie.Start) → Pending (now (c .args .page)) (c .args .at) (oneNumber (now (c .args .word)) (c .args .a)) (now (c .args .page)) (c .args .at)
     (now (c .args .word) ∷ digits (c .args .a) ∷ text ")\n" ∷ [])
 unfolding oneNumber
 start c = pending-whole (now (c .args .word) ∷ digits (c .args .a) ∷ text ")\n" ∷ []) refl (c .pre)
 
--- src/lib.rt:103:9
 put-pair-requires : tie.Need-put-pair-requires
 put-pair-requires c κs = pending-room (pending-pair (start (c .before .before .before)))
 
--- src/lib.rt:104:26
 slice-aggregate-put-word : tie.Need-slice-aggregate-put-word
-slice-aggregate-put-word c = search needs
+slice-aggregate-put-word c = refl
 
--- src/lib.rt:104:5
 put-word-requires : tie.Need-put-word-requires
 unfolding text
 put-word-requires c κs = pending-room (pending-after (pending-pair (start (c .before .before .before .before .before .before .before .before))) (c .before .before .before .before .put-pair .ensures))
 
--- src/lib.rt:99:1
 same-length : tie.Need-same-length
-same-length c = search needs
+same-length c = c .before .before .put-word .kept .0 ∙ c .before .before .before .before .before .before .before .put-pair .kept .0
 
--- src/lib.rt:99:1
 returns : tie.Need-returns
 unfolding text
 returns c =

@@ -1,15 +1,10 @@
-use mathlib.Core.Path.{_≡_, sym, ap}
+use mathlib.Core.Path.{_∙_, _≡_, sym, ap}
 use mathlib.Core.List.{List, [], _∷_, _++_, append-nil}
 use denote.Ref.{now}
 use Rattle.page.specs.Page.{digits}
 use Rattle.page.specs.PageLaws.{Pending, pending-whole, pending-room, pending-after, pending-nothing}
-use borrow.Author.Needs.{needs}
 use Rattle.page.proofs.put_pair.Statement.{statement}
 use Rattle.page.proofs.put_pair.Tie as tie
-use Rattle.page.proofs.put_pair.Reads as reads
-use Rattle.page.proofs.put_pair.Lts as lts
-use Rattle.page.proofs.put_number.Reads as put-number-reads
-use Rattle.page.proofs.put_word.Reads as put-word-reads
 
 whole : (c : tie.Start) →
     Pending (now (c .args .page)) (c .args .at) (now (c .args .word) ++ digits (c .args .n)) (now (c .args .page)) (c .args .at)
@@ -17,19 +12,15 @@ whole : (c : tie.Start) →
 whole c =
     pending-whole (now (c .args .word) ∷ digits (c .args .n) ∷ []) (ap (λ r. now (c .args .word) ++ r) (sym (append-nil (digits (c .args .n))))) (c .pre)
 
--- src/lib.rt:91:9
 put-word-requires : tie.Need-put-word-requires
 put-word-requires c κs = pending-room (whole (c .before .before .before))
 
--- src/lib.rt:92:5
 put-number-requires : tie.Need-put-number-requires
 put-number-requires c κs = pending-room (pending-after (whole (c .before .before .before .before .before .before .before)) (c .before .before .before .put-word .ensures))
 
--- src/lib.rt:87:1
 same-length : tie.Need-same-length
-same-length c = search needs
+same-length c = c .before .before .put-number .kept .0 ∙ c .before .before .before .before .before .before .put-word .kept .0
 
--- src/lib.rt:87:1
 returns : tie.Need-returns
 returns c = pending-nothing (pending-after (pending-after (whole (c .before .before .before .before .before .before .before .before .before .before)) (c .before .before .before .before .before .before .put-word .ensures)) (c .before .before .put-number .ensures))
 

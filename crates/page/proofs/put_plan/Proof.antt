@@ -1,5 +1,6 @@
 -- The head, the units and the slots, in this order. The tally has the count of each slot.
-use mathlib.Core.Path.{ap, _∙_}
+use native.Mathlib.Omega.{arith}
+use mathlib.Core.Path.{refl, ap, _∙_}
 use mathlib.Core.List.{List, [], _∷_}
 use Prim.Native.Nat.{ℕ, _+_}
 use denote.Ref.{now}
@@ -7,14 +8,8 @@ use lib.ListN.{length, getD}
 use Rattle.page.specs.Page.{text, oneNumber, planHead, unitLines, slotLines, leastFrom, greatestFrom, tablePage}
 use Rattle.page.specs.PageLaws.{Pending, pending-whole, pending-room, pending-after, pending-nothing}
 use Rattle.page.proofs.TallyLaws.{tally-length, page-counted}
-use borrow.Author.Needs.{needs}
 use Rattle.page.proofs.put_plan.Statement.{statement}
 use Rattle.page.proofs.put_plan.Tie as tie
-use Rattle.page.proofs.put_plan.Reads as reads
-use Rattle.page.proofs.put_plan.Lts as lts
-use Rattle.page.proofs.put_one_number.Reads as put-one-number-reads
-use Rattle.page.proofs.put_slots.Reads as put-slots-reads
-use Rattle.page.proofs.put_units.Reads as put-units-reads
 
 abbrev Begun : tie.Start → Type 0
 Begun c =
@@ -31,27 +26,22 @@ begun c =
     (greatestFrom (a .span + 1) (now (a .table))) (c .pre .0 .slots) (c .pre .1 .0))
     (c .pre .1 .1)
 
--- src/lib.rt:240:42
 slice-aggregate-put-one-number : tie.Need-slice-aggregate-put-one-number
-slice-aggregate-put-one-number c = search needs
+slice-aggregate-put-one-number c = refl
 
--- src/lib.rt:240:60
 cast-put-one-number : tie.Need-cast-put-one-number
-cast-put-one-number c = search needs
+cast-put-one-number c = omega arith
 
--- src/lib.rt:240:9
 put-one-number-requires : tie.Need-put-one-number-requires
 unfolding planHead oneNumber text
 put-one-number-requires c κs = pending-room (begun (c .before .before .before .before .before .before .before))
 
--- src/lib.rt:241:9
 put-units-requires : tie.Need-put-units-requires
 unfolding planHead oneNumber text
 put-units-requires c κs =
     let s = c .before .before .before .before .before .before .before .before .before .before .before in
     ((s .pre .0 .earliest, s .pre .0 .latest, s .pre .0 .units), pending-room (pending-after (begun s) (c .before .before .before .put-one-number .ensures)))
 
--- src/lib.rt:242:5
 put-slots-requires : tie.Need-put-slots-requires
 unfolding planHead oneNumber text
 put-slots-requires c κs =
@@ -60,11 +50,9 @@ put-slots-requires c κs =
       pending-room (pending-after (pending-after (begun s) (c .before .before .before .before .before .before .before .put-one-number .ensures)) (c .before .before .before .put-units .ensures)),
     )
 
--- src/lib.rt:224:1
 same-length : tie.Need-same-length
-same-length c = search needs
+same-length c = c .before .before .put-slots .kept .0 ∙ (c .before .before .before .before .before .before .put-units .kept .0 ∙ c .before .before .before .before .before .before .before .before .before .before .put-one-number .kept .0)
 
--- src/lib.rt:224:1
 returns : tie.Need-returns
 unfolding planHead oneNumber text
 returns c =

@@ -1,33 +1,24 @@
+use mathlib.Core.Path.{refl}
 use Rattle.page.specs.Page.{slotLine, fourNumbers, text}
-use borrow.Author.Needs.{needs}
 use Rattle.page.proofs.put_slot.Statement.{statement}
 use Rattle.page.proofs.put_slot.Tie as tie
-use Rattle.page.proofs.put_slot.Reads as reads
-use Rattle.page.proofs.put_slot.Lts as lts
-use Rattle.page.proofs.put_four_numbers.Reads as put-four-numbers-reads
 
--- src/lib.rt:128:32
 slice-aggregate-put-four-numbers : tie.Need-slice-aggregate-put-four-numbers
-slice-aggregate-put-four-numbers c = search needs
+slice-aggregate-put-four-numbers c = refl
 
--- src/lib.rt:128:49
 slice-aggregate-put-four-numbers-2 : tie.Need-slice-aggregate-put-four-numbers-2
-slice-aggregate-put-four-numbers-2 c = search needs
+slice-aggregate-put-four-numbers-2 c = refl
 
--- src/lib.rt:128:69
 slice-aggregate-put-four-numbers-3 : tie.Need-slice-aggregate-put-four-numbers-3
-slice-aggregate-put-four-numbers-3 c = search needs
+slice-aggregate-put-four-numbers-3 c = refl
 
--- src/lib.rt:128:5
 put-four-numbers-requires : tie.Need-put-four-numbers-requires
 unfolding slotLine fourNumbers text
 put-four-numbers-requires c κs = c .before .before .before .before .before .pre
 
--- src/lib.rt:124:1
 same-length : tie.Need-same-length
-same-length c = search needs
+same-length c = c .before .before .put-four-numbers .kept .0
 
--- src/lib.rt:124:1
 returns : tie.Need-returns
 unfolding slotLine fourNumbers text
 returns c = c .before .before .put-four-numbers .ensures

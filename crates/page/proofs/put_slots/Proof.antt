@@ -10,11 +10,6 @@ use Rattle.page.specs.Page.{Room, Written, slotLine, slotLineAt, slotLin
 use Rattle.page.specs.PageLaws.{Pending, pending-whole, pending-room, pending-after, lines-next, lines-end}
 use Rattle.page.proofs.put_slots.Statement.{statement}
 use Rattle.page.proofs.put_slots.Tie as tie
-use Rattle.page.proofs.put_slots.Reads as reads
-use Rattle.page.proofs.put_slots.Lts as lts
-use Rattle.page.proofs.greatest_of.Reads as greatest-of-reads
-use Rattle.page.proofs.least_of.Reads as least-of-reads
-use Rattle.page.proofs.put_slot.Reads as put-slot-reads
 
 abbrev Inv-loop : tie.InvT-loop
 Inv-loop page₀ at span counts table next₀ t₀ page next t =
@@ -33,30 +28,24 @@ lines c =
     slotLines (c .args .span) (λ i. getD (now (c .args .counts)) i 0) (leastFrom (c .args .span + 1) (now (c .args .table)))
     (greatestFrom (c .args .span + 1) (now (c .args .table)))
 
--- src/lib.rt:217:5
 loop-holds : tie.Need-loop-holds Inv-loop μ-loop
 unfolding slotLines
 loop-holds c =
     let s = c .before .before in
     (omega arith, omega arith, pending-whole (map (line s) (fromTo 1 (s .args .span))) refl (s .pre .1))
 
--- src/lib.rt:218:37
 cast-put-slot : tie.Need-cast-put-slot Inv-loop μ-loop
 cast-put-slot c = omega arith
 
--- src/lib.rt:218:47
 mul-put-slot : tie.Need-mul-put-slot Inv-loop μ-loop
 mul-put-slot c = omega arith
 
--- src/lib.rt:218:47
 shared-slice-read-put-slot : tie.Need-shared-slice-read-put-slot Inv-loop μ-loop
 shared-slice-read-put-slot c = omega arith
 
--- src/lib.rt:218:58
 least-of-requires : tie.Need-least-of-requires Inv-loop μ-loop
 least-of-requires c κs = omega arith
 
--- src/lib.rt:218:84
 greatest-of-requires : tie.Need-greatest-of-requires Inv-loop μ-loop
 greatest-of-requires c κs = omega arith
 
@@ -74,19 +63,15 @@ same c =
     let t = c .before .before .before .before .before .loop .t in
     ap₂ (λ l g. slotLine t (getD (now (c .before .before .before .before .before .before .before .before .args .counts)) t 0) l g) (c .before .least-of .ensures) (c .greatest-of .ensures)
 
--- src/lib.rt:218:9
 put-slot-requires : tie.Need-put-slot-requires Inv-loop μ-loop
 put-slot-requires c κs = subst (Room (c .before .before .before .before .before .loop .page) (c .before .before .before .before .before .loop .next)) (sym (same c)) (pending-room (next (c .before .before .before .before)))
 
--- src/lib.rt:219:9
 add-t : tie.Need-add-t Inv-loop μ-loop
 add-t c = omega arith
 
--- src/lib.rt:217:5
 loop-less : tie.Need-loop-less Inv-loop μ-loop
 loop-less c = omega arith
 
--- src/lib.rt:217:5
 loop-again : tie.Need-loop-again Inv-loop μ-loop
 loop-again c =
     let g = c .before .before .before in (
@@ -97,11 +82,9 @@ loop-again c =
           (c .before .before .put-slot .ensures)),
     )
 
--- src/lib.rt:208:1
 same-length : tie.Need-same-length Inv-loop μ-loop
 same-length c = omega arith
 
--- src/lib.rt:208:1
 returns : tie.Need-returns Inv-loop μ-loop
 returns c = lines-end (line (c .before .before .before .before)) (c .before .loop .t) (suc (c .before .before .before .before .args .span)) (omega arith) (c .before .loop .inv .2)
 

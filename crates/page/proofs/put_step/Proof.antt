@@ -1,5 +1,6 @@
 -- Forward the limit's positive part, backward its negative part.
-use mathlib.Core.Path.{_≡_, sym, ap, ap₂, subst, _∙_}
+use native.Mathlib.Omega.{arith}
+use mathlib.Core.Path.{refl, _≡_, sym, ap, ap₂, subst, _∙_}
 use mathlib.Core.List.{List}
 use Prim.Native.Nat.{ℕ, suc, _+_}
 use native.Mathlib.Numerals.{add-one}
@@ -10,19 +11,11 @@ use Rattle.integers.specs.Parts.{up, dn}
 use Rattle.network.specs.Table.{entry}
 use Rattle.page.specs.Page.{Room, Written, text, boundLine, stepLine}
 use Rattle.page.specs.PageLaws.{step-forward, step-backward}
-use borrow.Author.Needs.{needs}
 use Rattle.page.proofs.put_step.Statement.{statement}
 use Rattle.page.proofs.put_step.Tie as tie
-use Rattle.page.proofs.put_step.Reads as reads
-use Rattle.page.proofs.put_step.Lts as lts
-use Rattle.page.proofs.above.Reads as above-reads
-use Rattle.page.proofs.below.Reads as below-reads
-use Rattle.page.proofs.entry_at.Reads as entry-at-reads
-use Rattle.page.proofs.put_bound.Reads as put-bound-reads
 
--- src/lib.rt:343:9
 entry-at-requires : tie.Need-entry-at-requires
-entry-at-requires c κs = search needs
+entry-at-requires c κs = c .before .pre .0
 
 forward : (c : tie.After-above) →
     boundLine (text "(at-most ") (c .above .result) (c .before .before .before .before .before .before .args .a + 1) (c .before .before .before .before .before .before .args .b)
@@ -44,28 +37,22 @@ backward c =
     ap₂ (λ k f. boundLine (text "(at-least ") k f (a .a)) limit (add-one (a .b))
     ∙ sym (step-backward (entry (a .w) (now (a .limits))) (a .a) (a .b) (c .before .before .before .if1 .left))
 
--- src/lib.rt:345:36
 slice-aggregate-put-bound : tie.Need-slice-aggregate-put-bound
-slice-aggregate-put-bound c = search needs
+slice-aggregate-put-bound c = refl
 
--- src/lib.rt:345:50
 above-requires : tie.Need-above-requires
-above-requires c κs = search needs
+above-requires c κs = tt
 
--- src/lib.rt:345:64
 add-put-bound : tie.Need-add-put-bound
-add-put-bound c = search needs
+add-put-bound c = omega arith
 
--- src/lib.rt:345:9
 put-bound-requires : tie.Need-put-bound-requires
 unfolding text
 put-bound-requires c κs = subst (Room (now (c .before .before .before .before .before .before .args .page)) (c .before .before .before .before .before .before .args .at)) (sym (forward c)) (c .before .before .before .before .before .before .pre .1)
 
--- src/lib.rt:345:9
 same-length : tie.Need-same-length
-same-length c = search needs
+same-length c = c .before .before .put-bound .kept .0
 
--- src/lib.rt:345:9
 returns : tie.Need-returns
 unfolding text
 returns c =
@@ -73,28 +60,22 @@ returns c =
     subst (λ l. Written (now (a .page)) (a .at) l (c .before .before .put-bound .last .0) (c .before .before .put-bound .result)) (forward (c .before .before .before))
     (c .before .before .put-bound .ensures)
 
--- src/lib.rt:347:25
 slice-aggregate-put-bound-2 : tie.Need-slice-aggregate-put-bound-2
-slice-aggregate-put-bound-2 c = search needs
+slice-aggregate-put-bound-2 c = refl
 
--- src/lib.rt:347:40
 below-requires : tie.Need-below-requires
-below-requires c κs = search needs
+below-requires c κs = tt
 
--- src/lib.rt:347:54
 add-put-bound-2 : tie.Need-add-put-bound-2
-add-put-bound-2 c = search needs
+add-put-bound-2 c = omega arith
 
--- src/lib.rt:347:5
 put-bound-requires-2 : tie.Need-put-bound-requires-2
 unfolding text
 put-bound-requires-2 c κs = subst (Room (now (c .before .before .before .before .before .before .args .page)) (c .before .before .before .before .before .before .args .at)) (sym (backward c)) (c .before .before .before .before .before .before .pre .1)
 
--- src/lib.rt:338:1
 same-length-2 : tie.Need-same-length-2
-same-length-2 c = search needs
+same-length-2 c = c .before .before .put-bound2 .kept .0
 
--- src/lib.rt:338:1
 returns-2 : tie.Need-returns-2
 unfolding text
 returns-2 c =

@@ -12,9 +12,6 @@ use Rattle.page.specs.Page.{ringLines, stepLines, stepLine}
 use Rattle.page.specs.PageLaws.{Pending, pending-whole, pending-room, pending-after, pending-nothing, ring-start, ring-next, ring-end}
 use Rattle.page.proofs.put_steps.Statement.{statement}
 use Rattle.page.proofs.put_steps.Tie as tie
-use Rattle.page.proofs.put_steps.Reads as reads
-use Rattle.page.proofs.put_steps.Lts as lts
-use Rattle.page.proofs.put_step.Reads as put-step-reads
 
 abbrev Inv-loop : tie.InvT-loop
 Inv-loop page₀ at limits w ring last next₀ i₀ page next i =
@@ -23,11 +20,9 @@ Inv-loop page₀ at limits w ring last next₀ i₀ page next i =
 abbrev μ-loop : tie.MeasureT-loop
 μ-loop page₀ at limits w ring last next₀ i₀ page next i = last - i
 
--- src/lib.rt:355:16
 sub-last : tie.Need-sub-last Inv-loop μ-loop
 sub-last c = omega arith
 
--- src/lib.rt:358:5
 loop-holds : tie.Need-loop-holds Inv-loop μ-loop
 loop-holds c =
     let s = c .before .before in
@@ -67,27 +62,21 @@ last c =
     (subst (PendingOf s (l .page) (l .next)) (ring-end (limits s) (now (s .args .ring)) (l .i) (boundary s (l .i)) (boundary s 0) (omega (arith, s .pre .0 .some)))
     (l .inv .1))
 
--- src/lib.rt:359:48
 mul-put-step : tie.Need-mul-put-step Inv-loop μ-loop
 mul-put-step c = omega arith
 
--- src/lib.rt:359:48
 shared-slice-read-put-step : tie.Need-shared-slice-read-put-step Inv-loop μ-loop
 shared-slice-read-put-step c = omega arith
 
--- src/lib.rt:359:62
 add-put-step : tie.Need-add-put-step Inv-loop μ-loop
 add-put-step c = omega arith
 
--- src/lib.rt:359:57
 mul-put-step-2 : tie.Need-mul-put-step-2 Inv-loop μ-loop
 mul-put-step-2 c = omega arith
 
--- src/lib.rt:359:57
 shared-slice-read-put-step-2 : tie.Need-shared-slice-read-put-step-2 Inv-loop μ-loop
 shared-slice-read-put-step-2 c = omega arith
 
--- src/lib.rt:359:9
 put-step-requires : tie.Need-put-step-requires Inv-loop μ-loop
 put-step-requires c κs =
     let s = c .before .before .before .before .before .before .before in
@@ -95,42 +84,33 @@ put-step-requires c κs =
     let f = s .pre .0 in
     ((f .inside i (omega (arith, f .some)), f .inside (i + 1) (omega (arith, f .some)), f .boundaries, f .entries), pending-room (next (c .before .before .before)))
 
--- src/lib.rt:360:9
 add-i : tie.Need-add-i Inv-loop μ-loop
 add-i c = omega arith
 
--- src/lib.rt:358:5
 loop-less : tie.Need-loop-less Inv-loop μ-loop
 loop-less c = omega arith
 
--- src/lib.rt:358:5
 loop-again : tie.Need-loop-again Inv-loop μ-loop
 loop-again c = (omega arith, pending-after (next (c .before .before .before .before .before .before)) (c .before .before .put-step .ensures))
 
--- src/lib.rt:362:37
 mul-put-step-3 : tie.Need-mul-put-step-3 Inv-loop μ-loop
 mul-put-step-3 c = omega arith
 
--- src/lib.rt:362:37
 shared-slice-read-put-step-3 : tie.Need-shared-slice-read-put-step-3 Inv-loop μ-loop
 shared-slice-read-put-step-3 c = omega arith
 
--- src/lib.rt:362:49
 shared-slice-read-put-step-4 : tie.Need-shared-slice-read-put-step-4 Inv-loop μ-loop
 shared-slice-read-put-step-4 c = omega arith
 
--- src/lib.rt:362:5
 put-step-requires-2 : tie.Need-put-step-requires-2 Inv-loop μ-loop
 put-step-requires-2 c κs =
     let s = c .before .before .before .before .before .before .before in
     let f = s .pre .0 in
     ((f .inside (length (now (s .args .ring)) - 1) (omega (arith, f .some)), f .inside 0 (f .some), f .boundaries, f .entries), pending-room (last (c .before .before .before)))
 
--- src/lib.rt:350:1
 same-length : tie.Need-same-length Inv-loop μ-loop
 same-length c = omega arith
 
--- src/lib.rt:350:1
 returns : tie.Need-returns Inv-loop μ-loop
 returns c = pending-nothing (pending-after (last (c .before .before .before .before .before .before)) (c .before .before .put-step2 .ensures))
 

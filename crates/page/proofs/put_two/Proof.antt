@@ -1,25 +1,18 @@
+use mathlib.Core.Path.{_∙_}
 use native.Mathlib.Omega.{arith}
 use Rattle.page.specs.PageLaws.{number-left, pending-room, pending-after, pending-nothing}
-use borrow.Author.Needs.{needs}
 use Rattle.page.proofs.put_two.Statement.{statement}
 use Rattle.page.proofs.put_two.Tie as tie
-use Rattle.page.proofs.put_two.Reads as reads
-use Rattle.page.proofs.put_two.Lts as lts
-use Rattle.page.proofs.put_one.Reads as put-one-reads
 
--- src/lib.rt:36:9
 put-one-requires : tie.Need-put-one-requires
 put-one-requires c κs = (omega arith, pending-room (number-left (omega arith) (c .before .before .pre .1)))
 
--- src/lib.rt:37:5
 put-one-requires-2 : tie.Need-put-one-requires-2
 put-one-requires-2 c κs = (omega arith, pending-room (pending-after (number-left (omega arith) (c .before .before .before .before .before .before .pre .1)) (c .before .before .before .put-one .ensures)))
 
--- src/lib.rt:31:1
 same-length : tie.Need-same-length
-same-length c = search needs
+same-length c = c .before .before .put-one2 .kept .0 ∙ c .before .before .before .before .before .before .put-one .kept .0
 
--- src/lib.rt:31:1
 returns : tie.Need-returns
 returns c =
     pending-nothing

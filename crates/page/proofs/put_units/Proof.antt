@@ -11,9 +11,6 @@ use Rattle.page.specs.Page.{unitLine, unitLineAt, unitLines}
 use Rattle.page.specs.PageLaws.{Pending, pending-whole, pending-room, pending-after, lines-next, lines-end}
 use Rattle.page.proofs.put_units.Statement.{statement}
 use Rattle.page.proofs.put_units.Tie as tie
-use Rattle.page.proofs.put_units.Reads as reads
-use Rattle.page.proofs.put_units.Lts as lts
-use Rattle.page.proofs.put_unit.Reads as put-unit-reads
 
 abbrev Inv-loop : tie.InvT-loop
 Inv-loop page₀ at plan earliest latest next₀ j₀ page next j =
@@ -22,7 +19,6 @@ Inv-loop page₀ at plan earliest latest next₀ j₀ page next j =
 abbrev μ-loop : tie.MeasureT-loop
 μ-loop page₀ at plan earliest latest next₀ j₀ page next j = length plan - j
 
--- src/lib.rt:143:5
 loop-holds : tie.Need-loop-holds Inv-loop μ-loop
 unfolding unitLines
 loop-holds c =
@@ -32,35 +28,27 @@ loop-holds c =
     let e : length (now (a .plan)) ≡ length (now (a .plan)) - 0 = omega arith in
     (omega arith, pending-whole (map lines (run 0 (length (now (a .plan)) - 0))) (ap (λ k. joined (map lines (run 0 k))) e) (s .pre .1))
 
--- src/lib.rt:144:38
 add-put-unit : tie.Need-add-put-unit Inv-loop μ-loop
 add-put-unit c = omega arith
 
--- src/lib.rt:144:37
 cast-put-unit : tie.Need-cast-put-unit Inv-loop μ-loop
 cast-put-unit c = omega arith
 
--- src/lib.rt:144:53
 mul-put-unit : tie.Need-mul-put-unit Inv-loop μ-loop
 mul-put-unit c = omega arith
 
--- src/lib.rt:144:53
 shared-slice-read-put-unit : tie.Need-shared-slice-read-put-unit Inv-loop μ-loop
 shared-slice-read-put-unit c = omega arith
 
--- src/lib.rt:144:62
 mul-put-unit-2 : tie.Need-mul-put-unit-2 Inv-loop μ-loop
 mul-put-unit-2 c = omega arith
 
--- src/lib.rt:144:62
 shared-slice-read-put-unit-2 : tie.Need-shared-slice-read-put-unit-2 Inv-loop μ-loop
 shared-slice-read-put-unit-2 c = omega arith
 
--- src/lib.rt:144:75
 mul-put-unit-3 : tie.Need-mul-put-unit-3 Inv-loop μ-loop
 mul-put-unit-3 c = omega arith
 
--- src/lib.rt:144:75
 shared-slice-read-put-unit-3 : tie.Need-shared-slice-read-put-unit-3 Inv-loop μ-loop
 shared-slice-read-put-unit-3 c = omega arith
 
@@ -75,29 +63,23 @@ next c =
     lines-next (unitLineAt (now (a .plan)) (now (a .earliest)) (now (a .latest))) (c .before .loop .j) (length (now (a .plan))) (c .loop-test .taken)
     (c .before .loop .inv .1)
 
--- src/lib.rt:144:9
 put-unit-requires : tie.Need-put-unit-requires Inv-loop μ-loop
 unfolding unitLineAt
 put-unit-requires c κs = rw (add-one (c .before .before .before .before .before .loop .j)) (pending-room (next (c .before .before .before .before)))
 
--- src/lib.rt:145:9
 add-j : tie.Need-add-j Inv-loop μ-loop
 add-j c = omega arith
 
--- src/lib.rt:143:5
 loop-less : tie.Need-loop-less Inv-loop μ-loop
 loop-less c = omega arith
 
--- src/lib.rt:143:5
 loop-again : tie.Need-loop-again Inv-loop μ-loop
 unfolding unitLineAt
 loop-again c = (omega arith, pending-after (next (c .before .before .before .before .before .before .before)) (rw (add-one (c .before .before .before .before .before .before .before .before .loop .j)) at (c .before .before .put-unit .ensures)))
 
--- src/lib.rt:135:1
 same-length : tie.Need-same-length Inv-loop μ-loop
 same-length c = omega arith
 
--- src/lib.rt:135:1
 returns : tie.Need-returns Inv-loop μ-loop
 returns c =
     let a = c .before .before .before .before .before .before .args in

@@ -11,8 +11,6 @@ use lib.Seq.{drop-cons}
 use Rattle.page.specs.PageLaws.{Pending, pending-whole, pending-byte, pending-empty, pending-nothing}
 use Rattle.page.proofs.put_word.Statement.{statement}
 use Rattle.page.proofs.put_word.Tie as tie
-use Rattle.page.proofs.put_word.Reads as reads
-use Rattle.page.proofs.put_word.Lts as lts
 
 abbrev Inv-loop : tie.InvT-loop
 Inv-loop page₀ at word i₀ page i = (i ≤ length word) × Pending page₀ at word page (at + i) (drop i word ∷ [])
@@ -20,33 +18,26 @@ Inv-loop page₀ at word i₀ page i = (i ≤ length word) × Pending page₀ at
 abbrev μ-loop : tie.MeasureT-loop
 μ-loop page₀ at word i₀ page i = length word - i
 
--- src/lib.rt:14:5
 loop-holds : tie.Need-loop-holds Inv-loop μ-loop
 loop-holds c =
     let a = c .args in
     (omega arith, rw (add-zero (a .at)) (pending-whole (now (a .word) ∷ []) (sym (append-nil (now (a .word)))) (c .pre)))
 
--- src/lib.rt:15:24
 shared-slice-read-page : tie.Need-shared-slice-read-page Inv-loop μ-loop
 shared-slice-read-page c = omega arith
 
--- src/lib.rt:15:14
 add-page : tie.Need-add-page Inv-loop μ-loop
 add-page c = omega arith
 
--- src/lib.rt:15:9
 slice-write-page : tie.Need-slice-write-page Inv-loop μ-loop
 slice-write-page c = omega arith
 
--- src/lib.rt:16:9
 add-i : tie.Need-add-i Inv-loop μ-loop
 add-i c = omega arith
 
--- src/lib.rt:14:5
 loop-less : tie.Need-loop-less Inv-loop μ-loop
 loop-less c = omega arith
 
--- src/lib.rt:14:5
 loop-again : tie.Need-loop-again Inv-loop μ-loop
 loop-again c =
     let l = c .before .before .loop in
@@ -58,15 +49,12 @@ loop-again c =
           (pending-byte (rw (drop-cons w (l .i) 0 t) at (l .inv .1))),
     )
 
--- src/lib.rt:18:5
 add-result : tie.Need-add-result Inv-loop μ-loop
 add-result c = omega arith
 
--- src/lib.rt:9:1
 same-length : tie.Need-same-length Inv-loop μ-loop
 same-length c = omega arith
 
--- src/lib.rt:9:1
 returns : tie.Need-returns Inv-loop μ-loop
 returns c =
     let l = c .before .loop in

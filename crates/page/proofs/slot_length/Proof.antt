@@ -1,22 +1,15 @@
 use native.Mathlib.Omega.{arith}
 use Rattle.page.specs.Page.{text, fourNumbers, slotLine}
 use Rattle.page.specs.PageLaws.{fourNumbers-length}
-use borrow.Author.Needs.{needs}
 use Rattle.page.proofs.slot_length.Statement.{statement}
 use Rattle.page.proofs.slot_length.Tie as tie
-use Rattle.page.proofs.slot_length.Reads as reads
-use Rattle.page.proofs.slot_length.Lts as lts
-use Rattle.page.proofs.four_digit_counts.Reads as four-digit-counts-reads
 
--- src/lib.rt:278:10
 four-digit-counts-requires : tie.Need-four-digit-counts-requires
-four-digit-counts-requires c κs = search needs
+four-digit-counts-requires c κs = tt
 
--- src/lib.rt:278:5
 add-result : tie.Need-add-result
-add-result c = search needs
+add-result c = omega arith
 
--- src/lib.rt:275:1
 returns : tie.Need-returns
 unfolding slotLine fourNumbers text
 returns c = (omega (arith, c .four-digit-counts .ensures .0, fourNumbers-length (text "(slot ") (c .before .args .slot) (text " (count ") (c .before .args .count) (text ") (range ") (c .before .args .least) (c .before .args .greatest)), omega arith)

@@ -10,11 +10,6 @@ use Rattle.page.specs.Page.{maxLine, slotLine, slotLineAt, slotLines, le
 use Rattle.page.specs.PageLaws.{Measured, measured-next, measured-end}
 use Rattle.page.proofs.slots_length.Statement.{statement}
 use Rattle.page.proofs.slots_length.Tie as tie
-use Rattle.page.proofs.slots_length.Reads as reads
-use Rattle.page.proofs.slots_length.Lts as lts
-use Rattle.page.proofs.greatest_of.Reads as greatest-of-reads
-use Rattle.page.proofs.least_of.Reads as least-of-reads
-use Rattle.page.proofs.slot_length.Reads as slot-length-reads
 
 abbrev Inv-loop : tie.InvT-loop
 Inv-loop span counts table total₀ t₀ total t =
@@ -25,48 +20,37 @@ Inv-loop span counts table total₀ t₀ total t =
 abbrev μ-loop : tie.MeasureT-loop
 μ-loop span counts table total₀ t₀ total t = suc span - t
 
--- src/lib.rt:302:5
 loop-holds : tie.Need-loop-holds Inv-loop μ-loop
 unfolding slotLines
 loop-holds c = (omega arith, omega arith, omega arith, record { rest = omega arith })
 
--- src/lib.rt:303:30
 cast-slot-length : tie.Need-cast-slot-length Inv-loop μ-loop
 cast-slot-length c = omega arith
 
--- src/lib.rt:303:40
 mul-slot-length : tie.Need-mul-slot-length Inv-loop μ-loop
 mul-slot-length c = omega arith
 
--- src/lib.rt:303:40
 shared-slice-read-slot-length : tie.Need-shared-slice-read-slot-length Inv-loop μ-loop
 shared-slice-read-slot-length c = omega arith
 
--- src/lib.rt:303:51
 least-of-requires : tie.Need-least-of-requires Inv-loop μ-loop
 least-of-requires c κs = omega arith
 
--- src/lib.rt:303:77
 greatest-of-requires : tie.Need-greatest-of-requires Inv-loop μ-loop
 greatest-of-requires c κs = omega arith
 
--- src/lib.rt:303:18
 slot-length-requires : tie.Need-slot-length-requires Inv-loop μ-loop
 slot-length-requires c κs = tt
 
--- src/lib.rt:303:9
 add-total : tie.Need-add-total Inv-loop μ-loop
 add-total c = omega arith
 
--- src/lib.rt:304:9
 add-t : tie.Need-add-t Inv-loop μ-loop
 add-t c = omega arith
 
--- src/lib.rt:302:5
 loop-less : tie.Need-loop-less Inv-loop μ-loop
 loop-less c = omega arith
 
--- src/lib.rt:302:5
 loop-again : tie.Need-loop-again Inv-loop μ-loop
 unfolding slotLineAt
 loop-again c =
@@ -75,7 +59,6 @@ loop-again c =
     let e = ap₂ (λ l₁ g. length (slotLine (l .t) (getD (now (a .counts)) (l .t) 0) l₁ g)) (c .before .before .least-of .ensures) (c .before .greatest-of .ensures) in
     (omega arith, omega arith, omega arith, measured-next (omega arith) (c .slot-length .ensures .0 ∙ e) (l .inv .3))
 
--- src/lib.rt:294:1
 returns : tie.Need-returns Inv-loop μ-loop
 returns c = (measured-end (omega arith) (c .before .loop .inv .3), omega arith)
 

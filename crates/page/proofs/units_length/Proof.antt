@@ -11,9 +11,6 @@ use Rattle.page.specs.Page.{maxLine, unitLineAt, unitLines}
 use Rattle.page.specs.PageLaws.{Measured, measured-next, measured-end}
 use Rattle.page.proofs.units_length.Statement.{statement}
 use Rattle.page.proofs.units_length.Tie as tie
-use Rattle.page.proofs.units_length.Reads as reads
-use Rattle.page.proofs.units_length.Lts as lts
-use Rattle.page.proofs.unit_length.Reads as unit-length-reads
 
 abbrev Inv-loop : tie.InvT-loop
 Inv-loop plan earliest latest total₀ j₀ total j =
@@ -22,7 +19,6 @@ Inv-loop plan earliest latest total₀ j₀ total j =
 abbrev μ-loop : tie.MeasureT-loop
 μ-loop plan earliest latest total₀ j₀ total j = length plan - j
 
--- src/lib.rt:287:5
 loop-holds : tie.Need-loop-holds Inv-loop μ-loop
 unfolding unitLines
 loop-holds c =
@@ -33,55 +29,42 @@ loop-holds c =
       record { rest = omega (arith, ap (λ k. length (joined (map (unitLineAt (now (a .plan)) (now (a .earliest)) (now (a .latest))) (run 0 k)))) e) },
     )
 
--- src/lib.rt:288:31
 add-unit-length : tie.Need-add-unit-length Inv-loop μ-loop
 add-unit-length c = omega arith
 
--- src/lib.rt:288:30
 cast-unit-length : tie.Need-cast-unit-length Inv-loop μ-loop
 cast-unit-length c = omega arith
 
--- src/lib.rt:288:46
 mul-unit-length : tie.Need-mul-unit-length Inv-loop μ-loop
 mul-unit-length c = omega arith
 
--- src/lib.rt:288:46
 shared-slice-read-unit-length : tie.Need-shared-slice-read-unit-length Inv-loop μ-loop
 shared-slice-read-unit-length c = omega arith
 
--- src/lib.rt:288:55
 mul-unit-length-2 : tie.Need-mul-unit-length-2 Inv-loop μ-loop
 mul-unit-length-2 c = omega arith
 
--- src/lib.rt:288:55
 shared-slice-read-unit-length-2 : tie.Need-shared-slice-read-unit-length-2 Inv-loop μ-loop
 shared-slice-read-unit-length-2 c = omega arith
 
--- src/lib.rt:288:68
 mul-unit-length-3 : tie.Need-mul-unit-length-3 Inv-loop μ-loop
 mul-unit-length-3 c = omega arith
 
--- src/lib.rt:288:68
 shared-slice-read-unit-length-3 : tie.Need-shared-slice-read-unit-length-3 Inv-loop μ-loop
 shared-slice-read-unit-length-3 c = omega arith
 
--- src/lib.rt:288:18
 unit-length-requires : tie.Need-unit-length-requires Inv-loop μ-loop
 unit-length-requires c κs = tt
 
--- src/lib.rt:288:9
 add-total : tie.Need-add-total Inv-loop μ-loop
 add-total c = omega arith
 
--- src/lib.rt:289:9
 add-j : tie.Need-add-j Inv-loop μ-loop
 add-j c = omega arith
 
--- src/lib.rt:287:5
 loop-less : tie.Need-loop-less Inv-loop μ-loop
 loop-less c = omega arith
 
--- src/lib.rt:287:5
 loop-again : tie.Need-loop-again Inv-loop μ-loop
 unfolding unitLineAt
 loop-again c =
@@ -91,7 +74,6 @@ loop-again c =
       measured-next (c .before .before .before .before .loop-test .taken) (rw (add-one (l .j)) at (c .unit-length .ensures .0)) (l .inv .2),
     )
 
--- src/lib.rt:281:1
 returns : tie.Need-returns Inv-loop μ-loop
 returns c = (measured-end (c .loop-test .left) (c .before .loop .inv .2), omega arith)
 

@@ -1,0 +1,50 @@
+use mathlib.Core.Path.{ap}
+use native.Mathlib.Omega.{arith}
+use denote.Ref.{now}
+use lib.ListN.{length}
+use Rattle.network.specs.Table.{entry}
+use Rattle.page.specs.Page.{digits}
+use Rattle.page.specs.PageLaws.{nonePage-length}
+use Rattle.page.proofs.none_length.Statement.{statement}
+use Rattle.page.proofs.none_length.Tie as tie
+
+steps-length-requires : tie.Need-steps-length-requires
+steps-length-requires c κs = c .before .pre
+
+shortfall-requires : tie.Need-shortfall-requires
+shortfall-requires c κs = c .before .before .pre
+
+digit-count-requires : tie.Need-digit-count-requires
+digit-count-requires c κs = tt
+
+add-result : tie.Need-add-result
+add-result c = omega arith
+
+add-result-2 : tie.Need-add-result-2
+add-result-2 c = omega arith
+
+add-result-3 : tie.Need-add-result-3
+add-result-3 c = omega arith
+
+returns : tie.Need-returns
+returns c =
+    let a = c .before .before .before .before .args in
+    omega (
+      arith,
+      nonePage-length (entry (a .w) (now (a .limits))) (now (a .ring)),
+      c .before .before .steps-length .ensures .0,
+      c .digit-count .ensures .0,
+      ap (λ k. length (digits k)) (c .before .shortfall .ensures),
+    )
+
+pub none-length-spec : {M : Type 1} → statement M
+none-length-spec =
+    tie.close
+    (tie.spec
+    steps-length-requires
+    shortfall-requires
+    digit-count-requires
+    add-result
+    add-result-2
+    add-result-3
+    returns)

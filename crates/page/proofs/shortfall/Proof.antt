@@ -1,0 +1,213 @@
+-- After i steps, what they rise and fall by and the weights of the steps that are left add up to the ring's sum.
+use mathlib.Core.Path.{_≡_, refl, sym, ap, ap₂, _∙_, subst}
+use mathlib.Core.List.{List}
+use Prim.Native.Nat.{ℕ, _+_, _-_, _*_, _≤_, _<_}
+use native.Mathlib.Omega.{arith}
+use denote.Ref.{now}
+use lib.ListN.{length, getD}
+use lib.IntN.{ℤ}
+use mir.Syntax.{w16}
+use mir.Val.{toZ, ofZ}
+use mir.Facts.{toZ-ofZ}
+use Rattle.integers.specs.Parts.{up, dn}
+use Rattle.network.specs.Network.{Weights}
+use Rattle.network.specs.Table.{entry}
+use Rattle.sheet.specs.Limits.{maxCount}
+use Rattle.page.specs.PageLaws.{Walked, walked-none, walked-next, walked-all}
+use Rattle.page.proofs.shortfall.Statement.{statement}
+use Rattle.page.proofs.shortfall.Tie as tie
+
+abbrev Inv-loop : tie.InvT-loop
+Inv-loop limits w ring last rise₀ fall₀ i₀ rise fall i =
+    (i ≤ last) × (rise ≤ i * maxCount) × (fall ≤ i * maxCount) × Walked (entry w limits) ring i rise fall
+
+abbrev μ-loop : tie.MeasureT-loop
+μ-loop limits w ring last rise₀ fall₀ i₀ rise fall i = last - i
+
+abbrev limits : tie.Start Inv-loop μ-loop → Weights
+limits c = entry (c .args .w) (now (c .args .limits))
+
+abbrev boundary : tie.Start Inv-loop μ-loop → ℕ → ℕ
+boundary c i = getD (now (c .args .ring)) i 0
+
+-- the limit of the step in hand
+abbrev step : tie.After-entry-at Inv-loop μ-loop → ℤ
+step c = limits (c .before .before .before .before .before .before) (boundary (c .before .before .before .before .before .before) (c .before .before .before .before .loop .i)) (boundary (c .before .before .before .before .before .before) (c .before .before .before .before .loop .i + 1))
+
+step-is : (c : tie.After-entry-at Inv-loop μ-loop) → toZ w16 (ofZ w16 (c .entry-at .result)) ≡ step c
+step-is c = toZ-ofZ {w = w16} (record { sfits = c .entry-at .ok }) ∙ c .entry-at .ensures
+
+step-small : (c : tie.After-entry-at Inv-loop μ-loop) → (up (step c) ≤ maxCount) × (dn (step c) ≤ maxCount)
+step-small c =
+    let f = c .before .before .before .before .before .before .pre in
+    let i = c .before .before .before .before .loop .i in
+    f .small (boundary (c .before .before .before .before .before .before) i) (boundary (c .before .before .before .before .before .before) (i + 1)) (f .inside i (omega (arith, f .some))) (f .inside (i + 1) (omega (arith, f .some)))
+
+-- the limit of the last step
+abbrev closing : tie.After-entry-at2 Inv-loop μ-loop → ℤ
+closing c = limits (c .before .before .before .before .before .before) (boundary (c .before .before .before .before .before .before) (length (now (c .before .before .before .before .before .before .args .ring)) - 1)) (boundary (c .before .before .before .before .before .before) 0)
+
+closing-is : (c : tie.After-entry-at2 Inv-loop μ-loop) → toZ w16 (ofZ w16 (c .entry-at2 .result)) ≡ closing c
+closing-is c = toZ-ofZ {w = w16} (record { sfits = c .entry-at2 .ok }) ∙ c .entry-at2 .ensures
+
+closing-small : (c : tie.After-entry-at2 Inv-loop μ-loop) → (up (closing c) ≤ maxCount) × (dn (closing c) ≤ maxCount)
+closing-small c =
+    let s = c .before .before .before .before .before .before in
+    let f = s .pre in
+    let last = length (now (s .args .ring)) - 1 in
+    f .small (boundary s last) (boundary s 0) (f .inside last (omega (arith, f .some))) (f .inside 0 (f .some))
+
+sub-last : tie.Need-sub-last Inv-loop μ-loop
+sub-last c = omega arith
+
+loop-holds : tie.Need-loop-holds Inv-loop μ-loop
+loop-holds c = (omega arith, omega arith, omega arith, walked-none (limits (c .before)) (now (c .before .args .ring)) (c .before .pre .some))
+
+mul-entry-at : tie.Need-mul-entry-at Inv-loop μ-loop
+mul-entry-at c = omega arith
+
+shared-slice-read-entry-at : tie.Need-shared-slice-read-entry-at Inv-loop μ-loop
+shared-slice-read-entry-at c = omega arith
+
+cast-entry-at : tie.Need-cast-entry-at Inv-loop μ-loop
+cast-entry-at c = omega (arith, c .shared-slice-known2 .given (c .before .before .loop .i))
+
+add-entry-at : tie.Need-add-entry-at Inv-loop μ-loop
+add-entry-at c = omega arith
+
+mul-entry-at-2 : tie.Need-mul-entry-at-2 Inv-loop μ-loop
+mul-entry-at-2 c = omega arith
+
+shared-slice-read-entry-at-2 : tie.Need-shared-slice-read-entry-at-2 Inv-loop μ-loop
+shared-slice-read-entry-at-2 c = omega arith
+
+cast-entry-at-2 : tie.Need-cast-entry-at-2 Inv-loop μ-loop
+cast-entry-at-2 c = omega (arith, c .shared-slice-known3 .given (c .before .before .before .loop .i + 1))
+
+entry-at-requires : tie.Need-entry-at-requires Inv-loop μ-loop
+entry-at-requires c κs =
+    let s = c .before .before .before .before .before in
+    let i = c .before .before .before .loop .i in
+    let f = s .pre in
+    (f .inside i (omega (arith, f .some)), f .inside (i + 1) (omega (arith, f .some)), f .boundaries, f .entries)
+
+above-requires : tie.Need-above-requires Inv-loop μ-loop
+above-requires c κs = tt
+
+add-rise : tie.Need-add-rise Inv-loop μ-loop
+add-rise c =
+    let l = c .before .before .before .before .before .loop in
+    omega (arith, l .inv .0, l .inv .1, c .above .ensures, ap up (step-is (c .before)), step-small (c .before) .0, c .before .before .before .before .before .before .before .pre .few)
+
+below-requires : tie.Need-below-requires Inv-loop μ-loop
+below-requires c κs = tt
+
+add-fall : tie.Need-add-fall Inv-loop μ-loop
+add-fall c =
+    let l = c .before .before .before .before .before .before .loop in
+    omega (arith, l .inv .0, l .inv .2, c .below .ensures, ap dn (step-is (c .before .before)), step-small (c .before .before) .1, c .before .before .before .before .before .before .before .before .pre .few)
+
+add-i : tie.Need-add-i Inv-loop μ-loop
+add-i c = omega arith
+
+loop-less : tie.Need-loop-less Inv-loop μ-loop
+loop-less c = omega arith
+
+loop-again : tie.Need-loop-again Inv-loop μ-loop
+loop-again c =
+    let l = c .before .before .before .before .before .before .loop in
+    let s = c .before .before .before .before .before .before .before .before in
+    let rise = c .before .above .ensures ∙ ap up (step-is (c .before .before)) in
+    let fall = c .below .ensures ∙ ap dn (step-is (c .before .before)) in
+    let small = step-small (c .before .before) in (
+      omega arith,
+      omega (arith, small .0),
+      omega (arith, small .1),
+      rw (rise, fall) (walked-next (limits s) (now (s .args .ring)) (l .i) (l .rise) (l .fall) (omega (arith, s .pre .some)) (l .inv .3)),
+    )
+
+mul-entry-at-3 : tie.Need-mul-entry-at-3 Inv-loop μ-loop
+mul-entry-at-3 c = omega arith
+
+shared-slice-read-entry-at-3 : tie.Need-shared-slice-read-entry-at-3 Inv-loop μ-loop
+shared-slice-read-entry-at-3 c = omega arith
+
+cast-entry-at-3 : tie.Need-cast-entry-at-3 Inv-loop μ-loop
+cast-entry-at-3 c = omega (arith, c .shared-slice-known4 .given (length (now (c .before .before .before .before .args .ring)) - 1))
+
+shared-slice-read-entry-at-4 : tie.Need-shared-slice-read-entry-at-4 Inv-loop μ-loop
+shared-slice-read-entry-at-4 c = omega arith
+
+cast-entry-at-4 : tie.Need-cast-entry-at-4 Inv-loop μ-loop
+cast-entry-at-4 c = omega (arith, c .shared-slice-known5 .given 0)
+
+entry-at-requires-2 : tie.Need-entry-at-requires-2 Inv-loop μ-loop
+entry-at-requires-2 c κs =
+    let s = c .before .before .before .before .before in
+    let f = s .pre in
+    (f .inside (length (now (s .args .ring)) - 1) (omega (arith, f .some)), f .inside 0 (f .some), f .boundaries, f .entries)
+
+below-requires-2 : tie.Need-below-requires-2 Inv-loop μ-loop
+below-requires-2 c κs = tt
+
+add-excess : tie.Need-add-excess Inv-loop μ-loop
+add-excess c =
+    let l = c .before .before .before .before .before .loop in
+    omega (arith, l .inv .0, l .inv .2, c .below2 .ensures, ap dn (closing-is (c .before)), closing-small (c .before) .1, c .before .before .before .before .before .before .before .pre .few)
+
+above-requires-2 : tie.Need-above-requires-2 Inv-loop μ-loop
+above-requires-2 c κs = tt
+
+add-excess-2 : tie.Need-add-excess-2 Inv-loop μ-loop
+add-excess-2 c =
+    let l = c .before .before .before .before .before .before .loop in
+    omega (arith, l .inv .0, l .inv .1, c .above2 .ensures, ap up (closing-is (c .before .before)), closing-small (c .before .before) .0, c .before .before .before .before .before .before .before .before .pre .few)
+
+excess-requires : tie.Need-excess-requires Inv-loop μ-loop
+excess-requires c κs = tt
+
+returns : tie.Need-returns Inv-loop μ-loop
+returns c =
+    let l = c .before .before .before .before .before .before .before .loop in
+    let s = c .before .before .before .before .before .before .before .before .before in
+    let e : l .i ≡ length (now (s .args .ring)) - 1 = omega arith in
+    let rise = c .before .above2 .ensures ∙ ap up (closing-is (c .before .before .before)) in
+    let fall = c .before .before .below2 .ensures ∙ ap dn (closing-is (c .before .before .before)) in
+    c .excess .ensures
+    ∙ rw (rise, fall) (rw e at (walked-all (limits s) (now (s .args .ring)) (l .i) (l .rise) (l .fall) (omega (arith, s .pre .some)) (l .inv .3)))
+
+pub shortfall-spec : {M : Type 1} → statement M
+shortfall-spec =
+    tie.close
+    (tie.spec
+    Inv-loop
+    μ-loop
+    sub-last
+    loop-holds
+    mul-entry-at
+    shared-slice-read-entry-at
+    cast-entry-at
+    add-entry-at
+    mul-entry-at-2
+    shared-slice-read-entry-at-2
+    cast-entry-at-2
+    entry-at-requires
+    above-requires
+    add-rise
+    below-requires
+    add-fall
+    add-i
+    loop-less
+    loop-again
+    mul-entry-at-3
+    shared-slice-read-entry-at-3
+    cast-entry-at-3
+    shared-slice-read-entry-at-4
+    cast-entry-at-4
+    entry-at-requires-2
+    below-requires-2
+    add-excess
+    above-requires-2
+    add-excess-2
+    excess-requires
+    returns)

@@ -1,0 +1,86 @@
+-- Forward the limit's positive part, backward its negative part.
+use mathlib.Core.Path.{_≡_, sym, ap, ap₂, _∙_}
+use Prim.Native.Nat.{ℕ, suc, _+_}
+use native.Mathlib.Omega.{arith}
+use native.Mathlib.Numerals.{add-one}
+use denote.Ref.{now}
+use lib.ListN.{length}
+use mir.Syntax.{w16}
+use mir.Facts.{toZ-ofZ}
+use Rattle.integers.specs.Parts.{up, dn}
+use Rattle.network.specs.Table.{entry}
+use Rattle.page.specs.Page.{text, digits, boundLine}
+use Rattle.page.specs.PageLaws.{step-forward, step-backward, boundLine-length}
+use Rattle.page.proofs.step_length.Statement.{statement}
+use Rattle.page.proofs.step_length.Tie as tie
+
+entry-at-requires : tie.Need-entry-at-requires
+entry-at-requires c κs = c .pre
+
+above-requires : tie.Need-above-requires
+above-requires c κs = tt
+
+add-bound-length : tie.Need-add-bound-length
+add-bound-length c = omega arith
+
+bound-length-requires : tie.Need-bound-length-requires
+bound-length-requires c κs = omega arith
+
+returns : tie.Need-returns
+unfolding text
+returns c =
+    let a = c .before .before .before .before .args in
+    let e = c .before .before .before .entry-at in
+    let d = entry (a .w) (now (a .limits)) in
+    let limit = c .before .above .ensures ∙ ap up (toZ-ofZ {w = w16} (record { sfits = e .ok }) ∙ e .ensures) in (
+      omega (
+        arith,
+        c .bound-length .ensures .0,
+        ap (λ k. length (digits k)) limit,
+        ap (λ k. length (digits k)) (add-one (a .a)),
+        ap length (step-forward d (a .a) (a .b) (c .before .before .if1 .taken)),
+        boundLine-length (text "(at-most ") (up (d (a .a) (a .b))) (suc (a .a)) (a .b),
+      ),
+      c .bound-length .ensures .1,
+    )
+
+below-requires : tie.Need-below-requires
+below-requires c κs = tt
+
+add-bound-length-2 : tie.Need-add-bound-length-2
+add-bound-length-2 c = omega arith
+
+bound-length-requires-2 : tie.Need-bound-length-requires-2
+bound-length-requires-2 c κs = omega arith
+
+returns-2 : tie.Need-returns-2
+unfolding text
+returns-2 c =
+    let a = c .before .before .before .before .args in
+    let e = c .before .before .before .entry-at in
+    let d = entry (a .w) (now (a .limits)) in
+    let limit = c .before .below .ensures ∙ ap dn (toZ-ofZ {w = w16} (record { sfits = e .ok }) ∙ e .ensures) in (
+      omega (
+        arith,
+        c .bound-length2 .ensures .0,
+        ap (λ k. length (digits k)) limit,
+        ap (λ k. length (digits k)) (add-one (a .b)),
+        ap length (step-backward d (a .a) (a .b) (c .before .before .if1 .left)),
+        boundLine-length (text "(at-least ") (dn (d (a .a) (a .b))) (suc (a .b)) (a .a),
+      ),
+      c .bound-length2 .ensures .1,
+    )
+
+pub step-length-spec : {M : Type 1} → statement M
+step-length-spec =
+    tie.close
+    (tie.spec
+    entry-at-requires
+    above-requires
+    add-bound-length
+    bound-length-requires
+    returns
+    below-requires
+    add-bound-length-2
+    bound-length-requires-2
+    returns-2)
