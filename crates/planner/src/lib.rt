@@ -4,12 +4,13 @@ ghost use mathlib.Core.Bool.{true, false};
 ghost use Prim.Native.Nat.{ℕ, _+_, _≤_};
 ghost use lib.ListN.{length, drop};
 ghost use Rattle.lists.specs.Lists.{within};
+ghost use Rattle.network.specs.Table.{stopped};
 ghost use Rattle.sheet.specs.Limits.{maxSlots};
 ghost use Rattle.sheet.specs.Sheet.{Sheet, printedPlan};
 ghost use Rattle.sheet.specs.Questions.{listsAgree, sheetOf};
-ghost use Rattle.sheet.specs.LimitTable.{Fillable};
-ghost use Rattle.planner.specs.Planning.{listed};
-ghost use Rattle.planner.specs.Deciding.{Decided};
+ghost use Rattle.sheet.specs.LimitTable.{boundaries, Fillable};
+ghost use Rattle.planner.specs.Planning.{listed, passed};
+ghost use Rattle.planner.specs.Deciding.{Decided, RingFound};
 ghost use Rattle.planner.specs.Filling.{Ready};
 ghost use Rattle.planner.specs.Asking.{rising, allRising, lengthsFit, askedNo};
 
@@ -184,4 +185,30 @@ pub fn seat_units(w: usize, first: &[u16], last: &[u16], table: &[i16], plan: &m
         → now (plan .exit) ≡ printedPlan s ++ drop (length (now (first .entry))) (now (plan .entry))) ⌝ }
 {
     seating::seat(first, last, &table[0..w], plan);
+}
+
+// A ring of the sheet's own limits, where the pass has stopped: its length. The table's places are 0 again after it.
+pub fn find_ring(
+    span: usize,
+    first: &[u16],
+    last: &[u16],
+    from: &[u16],
+    to: &[u16],
+    low: &[u16],
+    high: &[u16],
+    table: &mut [i16],
+    ring: &mut [u16],
+) -> usize
+    requires { let s = sheetOf span (now first) (now last) (now from) (now to) (now low) (now high) in
+        ⌜ Fillable span (now first) (now last) (now from) (now to) (now low) (now high) (length (now table))
+        × (boundaries s ≤ length (now ring)) × (passed s ≡ stopped) ⌝ }
+    ensures { λ r.
+        let s = sheetOf span (now (first .entry)) (now (last .entry)) (now (from .entry)) (now (to .entry)) (now (low .entry)) (now (high .entry)) in
+        ⌜ RingFound s (now (table .entry)) (now (ring .entry)) r (now (table .exit)) (now (ring .exit)) ⌝ }
+{
+    let w = span + 1;
+    sheet::fill::fill_limits(span, first, last, from, to, low, high, table);
+    let n = cycles::negative_cycle(table, w, ring);
+    network::clear(w * w, table);
+    n
 }
