@@ -9,3 +9,5 @@ mod FillLaws
 mod MarkLaws
 mod CutRowLaws
 mod CutWindowsLaws
+mod TurnLaws
+mod NarrowLaws

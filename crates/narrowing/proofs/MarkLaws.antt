@@ -8,10 +8,11 @@ use native.Mathlib.Nat.{mul-le-mul-right}
 use native.Mathlib.Decide.{ℕ-discrete, decLe}
 use lib.ListN.{length, getD, set}
 use lib.Seq.{getD-set-same, getD-set-other}
+use Rattle.lists.specs.Values.{Filled, filled-length, filled-new, filled-old}
 use Rattle.network.specs.TableLaws.{row-inside}
 use lib.IntN.{ℤ}
 use Rattle.narrowing.specs.Carry.{LeastCutAt}
-use Rattle.narrowing.specs.Windows.{Filled, slot, Units, Marked, KnownCut, KnownCuts, CutRows, Admitted, LeastCuts}
+use Rattle.narrowing.specs.Windows.{slot, Units, Marked, KnownCut, KnownCuts, CutRows, Admitted, LeastCuts}
 
 -- a place of the table is one pair of slots
 not-before : (w f l f′ l′ : ℕ) → l < w → f * w + l ≡ f′ * w + l′ → f′ ≤ f
@@ -65,17 +66,18 @@ module _ (w : ℕ) (first last plan : List ℕ) (units : Units w first last plan
         (subst (λ (y : ℕ). KnownCut w d m f y (getD plan j 0)) (x .3) (subst (λ (y : ℕ). KnownCut w d m y (getD last j 0) (getD plan j 0)) (x .2) k)))
         (marked .from f l hf hl)
 
-    pub cuts-least : (marks′ out out′ : List ℕ) → CutRows w d m w marks marks′ → length out′ ≡ length out
-        → Filled 0 (λ j. slot w marks′ (getD first j 0) (getD last j 0)) (length first) out′
-        → ((j : ℕ) → length first ≤ j → getD out′ j 0 ≡ getD out j 0) → LeastCuts w d m first last out out′
-    cuts-least marks′ out out′ cut n f p = record {
-      long = n;
-      least = λ j h.
-          let u = units .inside j h in
-          subst (λ (y : ℕ). LeastCutAt w d m (getD first j 0) (getD last j 0) y) (sym (f j h))
-          (cut (getD first j 0) (getD last j 0) (omega arith) (omega arith) .1 (marked .found j h));
-      past = p;
-    }
+    pub cuts-least : (marks′ out out′ : List ℕ) → length first ≤ length out → CutRows w d m w marks marks′
+        → Filled (λ j. slot w marks′ (getD first j 0) (getD last j 0)) (length first) out out′ → LeastCuts w d m first last out out′
+    cuts-least marks′ out out′ n cut f =
+        let g : ℕ → ℕ = λ j. slot w marks′ (getD first j 0) (getD last j 0) in
+        record {
+          long = filled-length g (length first) out out′ f n;
+          each = λ j h.
+              let u = units .inside j h in
+              subst (λ (y : ℕ). LeastCutAt w d m (getD first j 0) (getD last j 0) y) (sym (filled-new g (length first) out out′ f j 0 h))
+              (cut (getD first j 0) (getD last j 0) (omega arith) (omega arith) .1 (marked .found j h));
+          past = λ j h. filled-old g (length first) out out′ f j 0 h;
+        }
 
 -- at most 49 boundaries have at most 2401 entries
 pub square-most : (w : ℕ) → w ≤ 49 → w * w ≤ 2401

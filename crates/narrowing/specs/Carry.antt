@@ -25,6 +25,10 @@ into w m a b = entry w m b a
 abbrev pub Modest : List ℤ → Type 0
 Modest xs = (i : ℕ) → i < length xs → Within 1000 (at xs i)
 
+-- every entry of a table is
+abbrev pub ModestTable : ℕ → List ℤ → Type 0
+ModestTable w t = (a b : ℕ) → a < w → b < w → Within 1000 (entry w t a b)
+
 -- each of the first n places of z is the smaller of itself and k more than the row's
 pub record Carried (n : ℕ) (k : ℤ) (row z z′ : List ℤ) : Type 0 where
   pub long : length z′ ≡ length z

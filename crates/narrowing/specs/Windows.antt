@@ -6,11 +6,9 @@ use mathlib.Core.List.{List}
 use Prim.Native.Nat.{ℕ, suc, _+_, _-_, _*_, _≤_, _<_}
 use lib.ListN.{length, getD}
 use lib.IntN.{ℤ}
-use Rattle.narrowing.specs.Carry.{AdmitsAt, Barred, LeastCutAt}
-
--- the first n values are those of g
-abbrev pub Filled : {A : Type 0} → A → (ℕ → A) → ℕ → List A → Type 0
-Filled d g n xs = (j : ℕ) → j < n → getD xs j d ≡ g j
+use Rattle.network.specs.Table.{entry}
+use Rattle.narrowing.specs.Cut.{Admits, LeastCut, mirrored}
+use Rattle.narrowing.specs.Carry.{into, AdmitsAt, Barred, LeastCutAt}
 
 abbrev pub slot : ℕ → List ℕ → ℕ → ℕ → ℕ
 slot w marks f l = getD marks (f * w + l) 0
@@ -60,8 +58,36 @@ CutRows w d m k marks marks′ =
 abbrev pub Admitted : ℕ → List ℤ → List ℤ → List ℕ → List ℕ → List ℕ → Type 0
 Admitted w d m first last plan = (j : ℕ) → j < length first → AdmitsAt w d m (getD first j 0) (getD plan j 0) (getD last j 0)
 
--- each unit's least cut stands in front of what stood there before
-pub record LeastCuts (w : ℕ) (d m : List ℤ) (first last out out′ : List ℕ) : Type 0 where
-  pub long : length out′ ≡ length out
-  pub least : (j : ℕ) → j < length first → LeastCutAt w d m (getD first j 0) (getD last j 0) (getD out′ j 0)
-  pub past : (j : ℕ) → length first ≤ j → getD out′ j 0 ≡ getD out j 0
+-- the first n places of a list are as P says, and the others as they were
+pub record Prefixed (n : ℕ) (P : ℕ → ℕ → Type 0) (xs xs′ : List ℕ) : Type 0 where
+  pub long : length xs′ ≡ length xs
+  pub each : (j : ℕ) → j < n → P j (getD xs′ j 0)
+  pub past : (j : ℕ) → n ≤ j → getD xs′ j 0 ≡ getD xs j 0
+
+-- each unit's least cut
+abbrev pub LeastCuts : ℕ → List ℤ → List ℤ → List ℕ → List ℕ → List ℕ → List ℕ → Type 0
+LeastCuts w d m first last out out′ = Prefixed (length first) (λ j v. LeastCutAt w d m (getD first j 0) (getD last j 0) v) out out′
+
+-- ---- cuts from below, as cuts from above in the network seen from its end: slot x is w - x there
+
+-- d and m are seen from the end, and the windows and slots are not
+abbrev pub AdmittedTurned : ℕ → List ℤ → List ℤ → List ℕ → List ℕ → List ℕ → Type 0
+AdmittedTurned w d m first last plan =
+    (j : ℕ) → j < length first → AdmitsAt w d m (w - getD last j 0) (w - getD plan j 0) (w - getD first j 0)
+
+abbrev pub LeastCutsTurned : ℕ → List ℤ → List ℤ → List ℕ → List ℕ → List ℕ → List ℕ → Type 0
+LeastCutsTurned w d m first last out out′ =
+    Prefixed (length first) (λ j v. LeastCutAt w d m (w - getD last j 0) (w - getD first j 0) (w - v)) out out′
+
+-- v is the greatest cut from below of the window f..l that is admitted
+abbrev pub AdmitsLate : ℕ → List ℤ → List ℤ → ℕ → ℕ → ℕ → Type 0
+AdmitsLate w d m f v l = Admits (w - 1) (mirrored (w - 1) (entry w d)) (mirrored (w - 1) (into w m)) (w - l) (w - v) (w - f)
+
+abbrev pub GreatestCut : ℕ → List ℤ → List ℤ → ℕ → ℕ → ℕ → Type 0
+GreatestCut w d m f l v = LeastCut (w - 1) (mirrored (w - 1) (entry w d)) (mirrored (w - 1) (into w m)) (w - l) (w - f) (w - v)
+
+abbrev pub AdmittedLate : ℕ → List ℤ → List ℤ → List ℕ → List ℕ → List ℕ → Type 0
+AdmittedLate w d m first last plan = (j : ℕ) → j < length first → AdmitsLate w d m (getD first j 0) (getD plan j 0) (getD last j 0)
+
+abbrev pub GreatestCuts : ℕ → List ℤ → List ℤ → List ℕ → List ℕ → List ℕ → List ℕ → Type 0
+GreatestCuts w d m first last out out′ = Prefixed (length first) (λ j v. GreatestCut w d m (getD first j 0) (getD last j 0) v) out out′

@@ -1,15 +1,22 @@
 use integers::less;
 use integers::lesser;
+use sheet::inside::windows_inside;
 ghost use mathlib.Core.Path.{_≡_};
 ghost use Prim.Native.Nat.{ℕ, _+_, _-_, _*_, _<_, _≤_, max};
 ghost use mathlib.Core.List.{List, _++_};
 ghost use lib.ListN.{length, getD, drop};
 ghost use lib.IntN.{ℤ, pos, _+ℤ_};
-ghost use Rattle.network.specs.Table.{listOf, tableOf, entry};
+ghost use Rattle.sheet.specs.Sheet.{Sheet};
+ghost use Rattle.sheet.specs.Questions.{windowsOf};
+ghost use Rattle.sheet.specs.LimitTable.{WindowsFit, insideWeights};
+ghost use Rattle.sheet.specs.Limits.{maxUnits};
+ghost use Rattle.lists.specs.Values.{listOf, Filled};
+ghost use Rattle.network.specs.Table.{tableOf, entry};
 ghost use Rattle.narrowing.specs.Cut.{mirrored, oneLess};
 ghost use Rattle.narrowing.specs.Sink.{Within};
-ghost use Rattle.narrowing.specs.Carry.{at, Modest, Carried, LeastSum, Network, Cuts, SunkAt, AdmitsAt, Settling, Decides, Barred, LeastCutAt};
-ghost use Rattle.narrowing.specs.Windows.{Filled, slot, Units, Marked, KnownRow, CutRow, Floor, KnownCuts, CutRows, Admitted, LeastCuts};
+ghost use Rattle.narrowing.specs.Carry.{at, Modest, ModestTable, Carried, LeastSum, Network, Cuts, SunkAt, AdmitsAt, Settling, Decides, Barred, LeastCutAt};
+ghost use Rattle.narrowing.specs.Windows.{slot, Units, Marked, KnownRow, CutRow, Floor, KnownCuts, CutRows, Prefixed, Admitted, LeastCuts, AdmittedTurned, LeastCutsTurned, AdmittedLate, GreatestCuts};
+ghost use Rattle.narrowing.specs.Narrowing.{Narrowable, earliestRoom, latestRoom};
 
 // What lowering a potential to the arcs of a cut comes to: it keeps them, it fell, or no potential keeps them.
 enum Settled {
@@ -161,7 +168,7 @@ fn mirror(t: &[i16], w: usize, out: &mut [i16])
 
 // The arcs into boundary b that a cut may add.
 fn arcs_row(inside: &[i16], w: usize, b: usize, row: &mut [i16])
-    requires { ⌜ (b < w) × (w * w ≤ length (now inside)) × (length (now row) ≡ w) × Modest (now inside) ⌝ }
+    requires { ⌜ (b < w) × (w * w ≤ length (now inside)) × (length (now row) ≡ w) × ModestTable w (now inside) ⌝ }
     ensures { λ _. ⌜ now (row .exit) ≡ listOf w (oneLess (entry w (now (inside .entry))) b) ⌝ }
 {
     for a in 0..w {
@@ -170,7 +177,7 @@ fn arcs_row(inside: &[i16], w: usize, b: usize, row: &mut [i16])
 }
 
 fn arcs(inside: &[i16], w: usize, out: &mut [i16])
-    requires { ⌜ (w * w ≤ length (now inside)) × (w * w ≤ length (now out)) × Modest (now inside) ⌝ }
+    requires { ⌜ (w * w ≤ length (now inside)) × (w * w ≤ length (now out)) × ModestTable w (now inside) ⌝ }
     ensures { λ _. ⌜ now (out .exit) ≡ tableOf w (oneLess (entry w (now (inside .entry)))) ++ drop (w * w) (now (out .entry)) ⌝ }
 {
     for b in 0..w {
@@ -224,8 +231,7 @@ fn cut_row(d: &[i16], m: &[i16], w: usize, f: usize, row: &mut [u16], floor: &mu
 fn read_marks(first: &[u16], last: &[u16], w: usize, marks: &[u16], out: &mut [u16])
     requires { ⌜ (length (now last) ≡ length (now first)) × (length (now first) ≤ length (now out)) × (w * w ≤ length (now marks)) ⌝ }
     requires { ⌜ ((j : ℕ) → j < length (now first) → (getD (now first) j 0 < w) × (getD (now last) j 0 < w)) ⌝ }
-    ensures { λ _. ⌜ Filled 0 (λ j. slot w (now (marks .entry)) (getD (now (first .entry)) j 0) (getD (now (last .entry)) j 0)) (length (now (first .entry))) (now (out .exit)) ⌝ }
-    ensures { λ _. ⌜ ((j : ℕ) → length (now (first .entry)) ≤ j → getD (now (out .exit)) j 0 ≡ getD (now (out .entry)) j 0) ⌝ }
+    ensures { λ _. ⌜ Filled (λ j. slot w (now (marks .entry)) (getD (now (first .entry)) j 0) (getD (now (last .entry)) j 0)) (length (now (first .entry))) (now (out .entry)) (now (out .exit)) ⌝ }
 {
     for j in 0..first.len() {
         let f = first[j] as usize;
@@ -251,8 +257,7 @@ fn cut_windows(d: &[i16], m: &[i16], w: usize, marks: &mut [u16])
 // Every x becomes w - x: slots, seen from the end.
 fn reflect(xs: &[u16], w: usize, out: &mut [u16])
     requires { ⌜ (w ≤ 49) × (length (now xs) ≤ length (now out)) × ((j : ℕ) → j < length (now xs) → getD (now xs) j 0 ≤ w) ⌝ }
-    ensures { λ _. ⌜ Filled 0 (λ j. w - getD (now (xs .entry)) j 0) (length (now (xs .entry))) (now (out .exit)) ⌝ }
-    ensures { λ _. ⌜ ((j : ℕ) → length (now (xs .entry)) ≤ j → getD (now (out .exit)) j 0 ≡ getD (now (out .entry)) j 0) ⌝ }
+    ensures { λ _. ⌜ Filled (λ j. w - getD (now (xs .entry)) j 0) (length (now (xs .entry))) (now (out .entry)) (now (out .exit)) ⌝ }
 {
     let top = w as u16;
     for j in 0..xs.len() {
@@ -278,4 +283,82 @@ fn least_cuts(
     mark(first, last, plan, w, &mut marks);
     cut_windows(d, m, w, &mut marks);
     read_marks(first, last, w, &marks, out);
+}
+
+// Each unit's least cut in a network seen from its end, as a slot seen from the front again.
+fn least_cuts_turned(
+    d: &[i16],
+    m: &[i16],
+    w: usize,
+    first: &[u16],
+    last: &[u16],
+    plan: &[u16],
+    out: &mut [u16],
+)
+    requires { ⌜ Network w (now d) (now m) × Units w (now first) (now last) (now plan) × (length (now first) ≤ length (now out)) ⌝ }
+    requires { ⌜ (length (now first) ≤ maxUnits) × AdmittedTurned w (now d) (now m) (now first) (now last) (now plan) ⌝ }
+    ensures { λ _. ⌜ LeastCutsTurned w (now (d .entry)) (now (m .entry)) (now (first .entry)) (now (last .entry)) (now (out .entry)) (now (out .exit)) ⌝ }
+{
+    let n = first.len();
+    let mut opens = [0u16; 300];
+    reflect(last, w, &mut opens);
+    let mut closes = [0u16; 300];
+    reflect(first, w, &mut closes);
+    let mut seats = [0u16; 300];
+    reflect(&plan[..n], w, &mut seats);
+    let mut cuts = [0u16; 300];
+    least_cuts(d, m, w, &opens[..n], &closes[..n], &seats[..n], &mut cuts);
+    reflect(&cuts[..n], w, out);
+}
+
+// Each unit's greatest cut from below.
+fn greatest_cuts(
+    d: &[i16],
+    m: &[i16],
+    w: usize,
+    first: &[u16],
+    last: &[u16],
+    plan: &[u16],
+    out: &mut [u16],
+)
+    requires { ⌜ Network w (now d) (now m) × Units w (now first) (now last) (now plan) × (length (now first) ≤ length (now out)) ⌝ }
+    requires { ⌜ (length (now first) ≤ maxUnits) × AdmittedLate w (now d) (now m) (now first) (now last) (now plan) ⌝ }
+    ensures { λ _. ⌜ GreatestCuts w (now (d .entry)) (now (m .entry)) (now (first .entry)) (now (last .entry)) (now (out .entry)) (now (out .exit)) ⌝ }
+{
+    let mut table = [0i16; 2401];
+    mirror(d, w, &mut table);
+    let mut added = [0i16; 2401];
+    mirror(m, w, &mut added);
+    least_cuts_turned(&table, &added, w, first, last, plan, out);
+}
+
+// The arcs that cuts may add, from the units' windows.
+fn cut_arcs(first: &[u16], last: &[u16], w: usize, out: &mut [i16])
+    requires { ⌜ WindowsFit w (now first) (now last) × (w ≤ 49) × (w * w ≤ length (now out)) ⌝ }
+    ensures { λ _. ⌜ now (out .exit) ≡ tableOf w (oneLess (insideWeights (windowsOf (now (first .entry)) (now (last .entry))))) ++ drop (w * w) (now (out .entry)) ⌝ }
+{
+    let mut inside = [0i16; 2401];
+    windows_inside(first, last, w, &mut inside);
+    arcs(&inside, w, out);
+}
+
+// Every unit's earliest and latest slot over all lawful plans.
+pub fn narrow(
+    first: &[u16],
+    last: &[u16],
+    plan: &[u16],
+    table: &[i16],
+    w: usize,
+    earliest: &mut [u16],
+    latest: &mut [u16],
+)
+    requires { ⌜ ((s : Sheet) × Narrowable s (now first) (now last) (now plan) (now table) w) ⌝ }
+    requires rooms { ⌜ (length (now first) ≤ length (now earliest)) × (length (now first) ≤ length (now latest)) ⌝ }
+    ensures early { λ _. ⌜ ((s : Sheet) → Narrowable s (now (first .entry)) (now (last .entry)) (now (plan .entry)) (now (table .entry)) w → now (earliest .exit) ≡ earliestRoom s (now (earliest .entry))) ⌝ }
+    ensures late { λ _. ⌜ ((s : Sheet) → Narrowable s (now (first .entry)) (now (last .entry)) (now (plan .entry)) (now (table .entry)) w → now (latest .exit) ≡ latestRoom s (now (latest .entry))) ⌝ }
+{
+    let mut added = [0i16; 2401];
+    cut_arcs(first, last, w, &mut added);
+    least_cuts(table, &added, w, first, last, plan, earliest);
+    greatest_cuts(table, &added, w, first, last, plan, latest);
 }

@@ -1,9 +1,8 @@
 -- The pass over the limits in a longer room is the pass over the table of the limits, with the room's other places behind it.
 use mathlib.Core.Path.{_≡_, refl, sym, ap, _∙_, subst}
 use mathlib.Core.List.{List, _++_}
-use Prim.Native.Nat.{ℕ, _*_, _≤_}
-use native.Mathlib.Omega.{arith}
-use lib.ListN.{length, drop, replicate, length-append, length-drop}
+use Prim.Native.Nat.{ℕ, _*_}
+use lib.ListN.{drop, replicate}
 use lib.Seq.{drop-at}
 use lib.IntN.{ℤ, pos}
 use Rattle.network.specs.Table.{Passed, finished, stopped, outOfRange, tableOf, passOf, outcomeOf, cleared, tableAfter, After}
@@ -39,11 +38,6 @@ decided-here s room r after h =
       outcome = h .outcome ∙ ap outcomeOf e ∙ outcome-front (drop (places s) room) (passed s);
       table = h .table ∙ ap (tableAfter (boundaries s) (limitTable s room)) e ∙ table-front s room (passed s);
     }
-
-pub length-limits : (s : Sheet) (room : List ℤ) → places s ≤ length room → length (limitTable s room) ≡ length room
-length-limits s room h =
-    length-append (tableOf (boundaries s) (limit s)) (drop (places s) room)
-    ∙ (omega (arith, length-tableOf (boundaries s) (limit s), length-drop (places s) room))
 
 pub decided : (s : Sheet) (room filled : List ℤ) (r : Outcome) (after : List ℤ) (w : ℕ) → boundaries s ≡ w → filled ≡ limitTable s room
     → After w filled (passOf w filled) r after → Decided s room r after

@@ -1,4 +1,3 @@
-use Rattle.narrowing.proofs.FillLaws.{filled-more, filled-list}
 use Rattle.narrowing.proofs.CarryLaws.{sum-fits}
 use Rattle.narrowing.specs.Cut.{oneLess}
 use Rattle.network.specs.TableLaws.{row-inside}
@@ -11,7 +10,7 @@ use lib.ListN.{length, getD, set, length-set}
 use mathlib.Core.Path.{_≡_, refl, sym, ap, subst, _∙_}
 use Prim.Native.Nat.{ℕ, suc, _≤_, _<_, _-_, _+_, _*_}
 use native.Mathlib.Omega.{arith}
-use Rattle.narrowing.specs.Windows.{Filled}
+use Rattle.lists.specs.Values.{listOf, Filled, filled-length, filled-all, filled-store}
 use borrow.Author.Needs.{needs}
 use Rattle.narrowing.proofs.arcs_row.Statement.{statement}
 use Rattle.narrowing.proofs.arcs_row.Tie as tie
@@ -19,13 +18,13 @@ use Rattle.narrowing.proofs.arcs_row.Reads as reads
 use Rattle.narrowing.proofs.arcs_row.Lts as lts
 
 abbrev Inv-loop : tie.InvT-loop
-Inv-loop inside w b row₀ a₀ row a = (a ≤ w) × (length row ≡ w) × Filled (pos 0) (oneLess (entry w inside) b) a row
+Inv-loop inside w b row₀ a₀ row a = (a ≤ w) × Filled (oneLess (entry w inside) b) a row₀ row
 
 abbrev μ-loop : tie.MeasureT-loop
 μ-loop inside w b row₀ a₀ row a = w - a
 
 loop-holds : tie.Need-loop-holds Inv-loop μ-loop
-loop-holds c = (omega arith, c .pre .2, λ j h. absurd (omega arith))
+loop-holds c = (omega arith, refl)
 
 mul-row : tie.Need-mul-row Inv-loop μ-loop
 mul-row c =
@@ -53,14 +52,17 @@ sub-row c =
     let a = st .args in
     let i = c .before .before .loop .a * a .w + a .b in
     let f : SFits w16 (getD (a .inside .now) i (pos 0)) = search needs in
-    let n = row-inside (c .before .before .loop .a) (a .w) (omega arith) in
-    rw (toZ-ofZ f) (sum-fits (getD (a .inside .now) i (pos 0)) (negsuc 0) (st .pre .3 i (omega arith)) (omega arith))
+    rw (toZ-ofZ f) (sum-fits (getD (a .inside .now) i (pos 0)) (negsuc 0) (st .pre .3 (c .before .before .loop .a) (a .b) (omega arith) (st .pre .0)) (omega arith))
 
 mul-t13 : tie.Need-mul-t13 Inv-loop μ-loop
 mul-t13 c = omega arith
 
 slice-set-from-row : tie.Need-slice-set-from-row Inv-loop μ-loop
-slice-set-from-row c = omega arith
+slice-set-from-row c =
+    let st = c .before .before .before in
+    let a = st .args in
+    let l = c .before .before .loop in
+    omega (arith, filled-length (oneLess (entry (a .w) (a .inside .now)) (a .b)) (l .a) (a .row .now) (l .row) (l .inv .1) (omega arith))
 
 add-a : tie.Need-add-a Inv-loop μ-loop
 add-a c = omega arith
@@ -77,18 +79,22 @@ loop-again c =
     let x = getD (a .inside .now) i (pos 0) in
     let f : SFits w16 x = search needs in
     let n = row-inside (l .a) (a .w) (omega arith) in
-    let g = sum-fits x (negsuc 0) (st .pre .3 i (omega arith)) (omega arith) in
-    (omega arith, simp length-set (l .inv .1), simp (toZ-ofZ f, toZ-ofZ g) (filled-more (pos 0) (oneLess (entry (a .w) (a .inside .now)) (a .b)) (l .a) (x +ℤ negsuc 0) (l .row) (omega arith) refl (l .inv .2)))
+    let g = sum-fits x (negsuc 0) (st .pre .3 (l .a) (a .b) (omega arith) (st .pre .0)) (omega arith) in
+    (omega arith, simp (toZ-ofZ f, toZ-ofZ g) (filled-store (oneLess (entry (a .w) (a .inside .now)) (a .b)) (l .a) (a .row .now) (l .row) (l .inv .1) (x +ℤ negsuc 0) (omega arith) refl))
 
 same-length : tie.Need-same-length Inv-loop μ-loop
-same-length c = c .before .loop .inv .1 ∙ sym (c .before .before .pre .2)
+same-length c =
+    let a = c .before .before .args in
+    let l = c .before .loop in
+    filled-length (oneLess (entry (a .w) (a .inside .now)) (a .b)) (l .a) (a .row .now) (l .row) (l .inv .1) (omega arith)
 
 returns : tie.Need-returns Inv-loop μ-loop
 returns c =
     let a = c .before .before .args in
     let l = c .before .loop in
     let e : l .a ≡ a .w = omega arith in
-    filled-list (oneLess (entry (a .w) (a .inside .now)) (a .b)) (a .w) (l .row) (l .inv .1) (λ j h. l .inv .2 j (omega arith))
+    let g = oneLess (entry (a .w) (a .inside .now)) (a .b) in
+    filled-all g (l .a) (a .row .now) (l .row) (l .inv .1) (omega arith) ∙ ap (λ (n : ℕ). listOf n g) e
 
 pub arcs-row-spec : {M : Type 1} → statement M
 arcs-row-spec =

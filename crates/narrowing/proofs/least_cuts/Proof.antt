@@ -60,8 +60,7 @@ returns c =
     let st = mk .before .before .before .before .before .before in
     let a = st .args in
     cuts-least (a .w) (a .first .now) (a .last .now) (a .plan .now) (st .pre .0 .1) (a .d .now) (a .m .now) (st .pre .1) (mk .mark .last .1 .1 .1 .1 .0) (mk .mark .ensures)
-    (cut .cut-windows .last .1 .1 .1 .0) (a .out .now) (rd .read-marks .last .1 .1 .1 .1 .0) (cut .cut-windows .ensures) (rd .read-marks .kept .1 .1 .1 .1 .0)
-    (rd .read-marks .ensures .0) (rd .read-marks .ensures .1)
+    (cut .cut-windows .last .1 .1 .1 .0) (a .out .now) (rd .read-marks .last .1 .1 .1 .1 .0) (st .pre .0 .2) (cut .cut-windows .ensures) (rd .read-marks .ensures)
 
 pub least-cuts-spec : {M : Type 1} → statement M
 least-cuts-spec =

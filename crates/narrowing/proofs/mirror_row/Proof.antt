@@ -1,4 +1,3 @@
-use Rattle.narrowing.proofs.FillLaws.{filled-more, filled-list}
 use Rattle.narrowing.specs.Cut.{mirrored}
 use Rattle.network.specs.TableLaws.{row-inside}
 use Rattle.network.specs.Table.{entry}
@@ -10,7 +9,7 @@ use lib.ListN.{length, getD, set, length-set}
 use mathlib.Core.Path.{_≡_, refl, sym, ap, subst, _∙_}
 use Prim.Native.Nat.{ℕ, suc, _≤_, _<_, _-_, _+_, _*_}
 use native.Mathlib.Omega.{arith}
-use Rattle.narrowing.specs.Windows.{Filled}
+use Rattle.lists.specs.Values.{listOf, Filled, filled-length, filled-all, filled-store}
 use borrow.Author.Needs.{needs}
 use Rattle.narrowing.proofs.mirror_row.Statement.{statement}
 use Rattle.narrowing.proofs.mirror_row.Tie as tie
@@ -18,7 +17,7 @@ use Rattle.narrowing.proofs.mirror_row.Reads as reads
 use Rattle.narrowing.proofs.mirror_row.Lts as lts
 
 abbrev Inv-loop : tie.InvT-loop
-Inv-loop t w a row₀ column b₀ row b = (b ≤ w) × (column ≡ w - 1 - a) × (length row ≡ w) × Filled (pos 0) (mirrored (w - 1) (entry w t) a) b row
+Inv-loop t w a row₀ column b₀ row b = (b ≤ w) × (column ≡ w - 1 - a) × Filled (mirrored (w - 1) (entry w t) a) b row₀ row
 
 abbrev μ-loop : tie.MeasureT-loop
 μ-loop t w a row₀ column b₀ row b = w - b
@@ -30,7 +29,7 @@ sub-column-2 : tie.Need-sub-column-2 Inv-loop μ-loop
 sub-column-2 c = omega arith
 
 loop-holds : tie.Need-loop-holds Inv-loop μ-loop
-loop-holds c = (omega arith, refl, c .pre .2, λ j h. absurd (omega arith))
+loop-holds c = (omega arith, refl, refl)
 
 sub-row : tie.Need-sub-row Inv-loop μ-loop
 sub-row c = omega arith
@@ -62,7 +61,11 @@ mul-t16 : tie.Need-mul-t16 Inv-loop μ-loop
 mul-t16 c = omega arith
 
 slice-set-from-row : tie.Need-slice-set-from-row Inv-loop μ-loop
-slice-set-from-row c = omega arith
+slice-set-from-row c =
+    let st = c .before .before .before in
+    let a = st .args in
+    let l = c .before .before .loop in
+    omega (arith, filled-length (mirrored (a .w - 1) (entry (a .w) (a .t .now)) (a .a)) (l .b) (a .row .now) (l .row) (l .inv .2) (omega arith))
 
 add-b : tie.Need-add-b Inv-loop μ-loop
 add-b c = omega arith
@@ -78,17 +81,21 @@ loop-again c =
     let t = a .t .now in
     let i = (a .w - 1 - l .b) * a .w + (a .w - 1 - a .a) in
     let f : SFits w16 (getD t i (pos 0)) = search needs in
-    (omega arith, refl, simp length-set (l .inv .2), simp (toZ-ofZ f) (filled-more (pos 0) (mirrored (a .w - 1) (entry (a .w) t) (a .a)) (l .b) (getD t i (pos 0)) (l .row) (omega arith) refl (l .inv .3)))
+    (omega arith, refl, simp (toZ-ofZ f) (filled-store (mirrored (a .w - 1) (entry (a .w) t) (a .a)) (l .b) (a .row .now) (l .row) (l .inv .2) (getD t i (pos 0)) (omega arith) refl))
 
 same-length : tie.Need-same-length Inv-loop μ-loop
-same-length c = c .before .loop .inv .2 ∙ sym (c .before .before .pre .2)
+same-length c =
+    let a = c .before .before .args in
+    let l = c .before .loop in
+    filled-length (mirrored (a .w - 1) (entry (a .w) (a .t .now)) (a .a)) (l .b) (a .row .now) (l .row) (l .inv .2) (omega arith)
 
 returns : tie.Need-returns Inv-loop μ-loop
 returns c =
     let a = c .before .before .args in
     let l = c .before .loop in
     let e : l .b ≡ a .w = omega arith in
-    filled-list (mirrored (a .w - 1) (entry (a .w) (a .t .now)) (a .a)) (a .w) (l .row) (l .inv .2) (λ j h. l .inv .3 j (omega arith))
+    let g = mirrored (a .w - 1) (entry (a .w) (a .t .now)) (a .a) in
+    filled-all g (l .b) (a .row .now) (l .row) (l .inv .2) (omega arith) ∙ ap (λ (n : ℕ). listOf n g) e
 
 pub mirror-row-spec : {M : Type 1} → statement M
 mirror-row-spec =

@@ -1,7 +1,6 @@
-use Rattle.narrowing.proofs.FillLaws.{filled-more}
-use Rattle.narrowing.specs.Windows.{Filled, slot}
+use Rattle.lists.specs.Values.{Filled, filled-length, filled-store}
+use Rattle.narrowing.specs.Windows.{slot}
 use Rattle.network.specs.TableLaws.{row-inside}
-use lib.Seq.{getD-set-other}
 use lib.ListN.{length, getD, set, length-set}
 use mathlib.Core.Path.{_≡_, refl, sym, ap, subst, _∙_}
 use Prim.Native.Nat.{ℕ, suc, _≤_, _<_, _-_, _+_, _*_}
@@ -13,13 +12,13 @@ use Rattle.narrowing.proofs.read_marks.Reads as reads
 use Rattle.narrowing.proofs.read_marks.Lts as lts
 
 abbrev Inv-loop : tie.InvT-loop
-Inv-loop first last w marks out₀ j₀ j-end out j = (j ≤ length first) × (j-end ≡ length first) × (length out ≡ length out₀) × Filled 0 (λ i. slot w marks (getD first i 0) (getD last i 0)) j out × ((i : ℕ) → j ≤ i → getD out i 0 ≡ getD out₀ i 0)
+Inv-loop first last w marks out₀ j₀ j-end out j = (j ≤ length first) × (j-end ≡ length first) × Filled (λ i. slot w marks (getD first i 0) (getD last i 0)) j out₀ out
 
 abbrev μ-loop : tie.MeasureT-loop
 μ-loop first last w marks out₀ j₀ j-end out j = length first - j
 
 loop-holds : tie.Need-loop-holds Inv-loop μ-loop
-loop-holds c = (omega arith, refl, refl, λ i h. absurd (omega arith), λ i h. refl)
+loop-holds c = (omega arith, refl, refl)
 
 mul-f : tie.Need-mul-f Inv-loop μ-loop
 mul-f c = omega arith
@@ -72,10 +71,14 @@ shared-slice-read-out c =
     omega (arith, row-inside (getD (a .first .now) j 0) (a .w) (q .0), q, st .pre .0)
 
 mul-out-2 : tie.Need-mul-out-2 Inv-loop μ-loop
-mul-out-2 c = omega (arith, c .before .before .before .before .before .pre .0, c .before .before .before .before .loop .inv .2)
+mul-out-2 c = omega (arith, c .before .before .before .before .before .pre .0)
 
 slice-write-out : tie.Need-slice-write-out Inv-loop μ-loop
-slice-write-out c = omega (arith, c .before .before .before .before .before .pre .0, c .before .before .before .before .loop .inv .2)
+slice-write-out c =
+    let st = c .before .before .before .before .before in
+    let a = st .args in
+    let l = c .before .before .before .before .loop in
+    omega (arith, filled-length (λ i. slot (a .w) (a .marks .now) (getD (a .first .now) i 0) (getD (a .last .now) i 0)) (l .j) (a .out .now) (l .out) (l .inv .2) (omega (arith, st .pre .0)), st .pre .0)
 
 add-j : tie.Need-add-j Inv-loop μ-loop
 add-j c = omega arith
@@ -88,19 +91,21 @@ loop-again c =
     let st = c .before .before .before .before .before in
     let a = st .args in
     let l = c .before .before .before .before .loop in
-    let v = slot (a .w) (a .marks .now) (getD (a .first .now) (l .j) 0) (getD (a .last .now) (l .j) 0) in (
-      omega arith,
-      refl,
-      length-set (l .out) (l .j) v ∙ l .inv .2,
-      filled-more 0 (λ i. slot (a .w) (a .marks .now) (getD (a .first .now) i 0) (getD (a .last .now) i 0)) (l .j) v (l .out) (omega (arith, st .pre .0, l .inv .2)) refl (l .inv .3),
-      λ i h. getD-set-other (l .out) (l .j) i v 0 (λ e. omega arith) ∙ l .inv .4 i (omega arith),
-    )
+    let g : ℕ → ℕ = λ i. slot (a .w) (a .marks .now) (getD (a .first .now) i 0) (getD (a .last .now) i 0) in
+    (omega arith, refl, filled-store g (l .j) (a .out .now) (l .out) (l .inv .2) (g (l .j)) (omega (arith, st .pre .0)) refl)
 
 same-length : tie.Need-same-length Inv-loop μ-loop
-same-length c = c .before .loop .inv .2
+same-length c =
+    let a = c .before .before .args in
+    let l = c .before .loop in
+    filled-length (λ i. slot (a .w) (a .marks .now) (getD (a .first .now) i 0) (getD (a .last .now) i 0)) (l .j) (a .out .now) (l .out) (l .inv .2) (omega (arith, c .before .before .pre .0))
 
 returns : tie.Need-returns Inv-loop μ-loop
-returns c = (λ j h. c .before .loop .inv .3 j (omega arith), λ j h. c .before .loop .inv .4 j (omega arith))
+returns c =
+    let a = c .before .before .args in
+    let l = c .before .loop in
+    let e : l .j ≡ length (a .first .now) = omega arith in
+    subst (λ (n : ℕ). Filled (λ i. slot (a .w) (a .marks .now) (getD (a .first .now) i 0) (getD (a .last .now) i 0)) n (a .out .now) (l .out)) e (l .inv .2)
 
 pub read-marks-spec : {M : Type 1} → statement M
 read-marks-spec =

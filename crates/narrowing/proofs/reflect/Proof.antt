@@ -1,6 +1,4 @@
-use Rattle.narrowing.proofs.FillLaws.{filled-more}
-use Rattle.narrowing.specs.Windows.{Filled}
-use lib.Seq.{getD-set-other}
+use Rattle.lists.specs.Values.{Filled, filled-length, filled-store}
 use lib.ListN.{length, getD, set, length-set}
 use mathlib.Core.Path.{_≡_, refl, sym, ap, subst, _∙_}
 use Prim.Native.Nat.{ℕ, suc, _≤_, _<_, _-_, _+_, _*_}
@@ -12,7 +10,7 @@ use Rattle.narrowing.proofs.reflect.Reads as reads
 use Rattle.narrowing.proofs.reflect.Lts as lts
 
 abbrev Inv-loop : tie.InvT-loop
-Inv-loop xs w out₀ top j₀ j-end out j = (j ≤ length xs) × (j-end ≡ length xs) × (top ≡ w) × (length out ≡ length out₀) × Filled 0 (λ i. w - getD xs i 0) j out × ((i : ℕ) → j ≤ i → getD out i 0 ≡ getD out₀ i 0)
+Inv-loop xs w out₀ top j₀ j-end out j = (j ≤ length xs) × (j-end ≡ length xs) × (top ≡ w) × Filled (λ i. w - getD xs i 0) j out₀ out
 
 abbrev μ-loop : tie.MeasureT-loop
 μ-loop xs w out₀ top j₀ j-end out j = length xs - j
@@ -21,7 +19,7 @@ cast-top : tie.Need-cast-top Inv-loop μ-loop
 cast-top c = omega arith
 
 loop-holds : tie.Need-loop-holds Inv-loop μ-loop
-loop-holds c = (omega arith, refl, refl, refl, λ i h. absurd (omega arith), λ i h. refl)
+loop-holds c = (omega arith, refl, refl, refl)
 
 mul-out : tie.Need-mul-out Inv-loop μ-loop
 mul-out c = omega arith
@@ -36,7 +34,11 @@ mul-out-2 : tie.Need-mul-out-2 Inv-loop μ-loop
 mul-out-2 c = omega arith
 
 slice-write-out : tie.Need-slice-write-out Inv-loop μ-loop
-slice-write-out c = omega arith
+slice-write-out c =
+    let st = c .before .before .before in
+    let a = st .args in
+    let l = c .before .before .loop in
+    omega (arith, filled-length (λ i. a .w - getD (a .xs .now) i 0) (l .j) (a .out .now) (l .out) (l .inv .3) (omega arith))
 
 add-j : tie.Need-add-j Inv-loop μ-loop
 add-j c = omega arith
@@ -49,20 +51,20 @@ loop-again c =
     let st = c .before .before .before in
     let a = st .args in
     let l = c .before .before .loop in
-    let v = a .w - getD (a .xs .now) (l .j) 0 in (
-      omega arith,
-      refl,
-      refl,
-      length-set (l .out) (l .j) v ∙ l .inv .3,
-      filled-more 0 (λ i. a .w - getD (a .xs .now) i 0) (l .j) v (l .out) (omega arith) refl (l .inv .4),
-      λ i h. getD-set-other (l .out) (l .j) i v 0 (λ e. omega arith) ∙ l .inv .5 i (omega arith),
-    )
+    (omega arith, refl, refl, filled-store (λ i. a .w - getD (a .xs .now) i 0) (l .j) (a .out .now) (l .out) (l .inv .3) (a .w - getD (a .xs .now) (l .j) 0) (omega arith) refl)
 
 same-length : tie.Need-same-length Inv-loop μ-loop
-same-length c = c .before .loop .inv .3
+same-length c =
+    let a = c .before .before .args in
+    let l = c .before .loop in
+    filled-length (λ i. a .w - getD (a .xs .now) i 0) (l .j) (a .out .now) (l .out) (l .inv .3) (omega arith)
 
 returns : tie.Need-returns Inv-loop μ-loop
-returns c = (λ j h. c .before .loop .inv .4 j (omega arith), λ j h. c .before .loop .inv .5 j (omega arith))
+returns c =
+    let a = c .before .before .args in
+    let l = c .before .loop in
+    let e : l .j ≡ length (a .xs .now) = omega arith in
+    subst (λ (n : ℕ). Filled (λ i. a .w - getD (a .xs .now) i 0) n (a .out .now) (l .out)) e (l .inv .3)
 
 pub reflect-spec : {M : Type 1} → statement M
 reflect-spec =

@@ -4,8 +4,8 @@ use Prim.Native.Nat.{ℕ, _+_, _*_, _≤_}
 use native.Mathlib.Omega.{arith}
 use lib.ListN.{length}
 use Rattle.sheet.specs.Questions.{sheetOf}
-use Rattle.sheet.specs.LimitTableLaws.{accepted-span, boundaries-are}
-use Rattle.planner.specs.DecidingLaws.{decided, length-limits}
+use Rattle.sheet.specs.LimitTableLaws.{accepted-span, boundaries-are, length-limitTable}
+use Rattle.planner.specs.DecidingLaws.{decided}
 use Rattle.planner.proofs.decide.Statement.{statement}
 use Rattle.planner.proofs.decide.Tie as tie
 
@@ -28,7 +28,7 @@ pass-requires c κs =
     let p = c .before .before .before .before .before .before .before .before .before .before .pre in
     let h = accepted-span (a .span) (a .first .now) (a .last .now) (a .from .now) (a .to .now) (a .low .now) (a .high .now) (p .ok) (p .agree) in
     let f = p .fits in
-    let l = length-limits s (a .table .now) f in
+    let l = length-limitTable s (a .table .now) f in
     let e = ap length (c .before .before .fill-limits .ensures) in
     (omega arith, omega arith, omega (arith, ap (λ (n : ℕ). n * n) w, e, l))
 

@@ -1,0 +1,58 @@
+use Rattle.narrowing.proofs.NarrowLaws.{inside-modest, arcs-table}
+use Rattle.narrowing.proofs.MarkLaws.{square-most}
+use Rattle.sheet.specs.QuestionLaws.{windowsOf-length}
+use Rattle.sheet.specs.Questions.{windowsOf}
+use lib.IntN.{ℤ, pos}
+use lib.ListN.{length, getD, drop, replicate}
+use mathlib.Core.Path.{_≡_, refl, sym, ap, subst, _∙_}
+use Prim.Native.Nat.{ℕ, suc, _≤_, _<_, _-_, _+_, _*_}
+use native.Mathlib.Omega.{arith}
+use borrow.Author.Needs.{needs}
+use Rattle.narrowing.proofs.cut_arcs.Statement.{statement}
+use Rattle.narrowing.proofs.cut_arcs.Tie as tie
+use Rattle.narrowing.proofs.cut_arcs.Reads as reads
+use Rattle.narrowing.proofs.cut_arcs.Lts as lts
+use Rattle.narrowing.proofs.arcs.Reads as arcs-reads
+use Rattle.sheet.proofs.inside.windows_inside.Reads as windows-inside-reads
+
+slice-aggregate-windows-inside : tie.Need-slice-aggregate-windows-inside
+slice-aggregate-windows-inside c = search needs
+
+windows-inside-requires : tie.Need-windows-inside-requires
+windows-inside-requires c κs = let st = c .before .before .before in (square-most (st .args .w) (st .pre .1), st .pre .0)
+
+slice-aggregate-arcs : tie.Need-slice-aggregate-arcs
+slice-aggregate-arcs c = search needs
+
+arcs-requires : tie.Need-arcs-requires
+arcs-requires c κs =
+    let i = c .before .before .before .windows-inside in
+    let st = c .before .before .before .before .before .before .before in
+    let a = st .args in
+    let n : length (i .last .1 .1 .1 .0) ≡ 2401 = i .kept .1 .1 .1 .0 in
+    let k = windowsOf-length (a .first .now) (a .last .now) (st .pre .0 .paired) in (
+      omega (arith, square-most (a .w) (st .pre .1)),
+      st .pre .2,
+      inside-modest (a .w) (windowsOf (a .first .now) (a .last .now)) (i .last .1 .1 .1 .0) (drop (a .w * a .w) (replicate 2401 (pos 0))) (omega (arith, st .pre .0 .few)) (i .ensures),
+    )
+
+same-length : tie.Need-same-length
+same-length c = search needs
+
+returns : tie.Need-returns
+returns c =
+    let i = c .before .before .before .before .before .windows-inside in
+    let a = c .before .before .before .before .before .before .before .before .before .args in
+    arcs-table (a .w) (windowsOf (a .first .now) (a .last .now)) (i .last .1 .1 .1 .0) (drop (a .w * a .w) (replicate 2401 (pos 0)))
+    (c .before .arcs .last .1 .1 .0) (drop (a .w * a .w) (a .out .now)) (i .ensures) (c .before .arcs .ensures)
+
+pub cut-arcs-spec : {M : Type 1} → statement M
+cut-arcs-spec =
+    tie.close
+    (tie.spec
+    slice-aggregate-windows-inside
+    windows-inside-requires
+    slice-aggregate-arcs
+    arcs-requires
+    same-length
+    returns)
