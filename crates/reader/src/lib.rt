@@ -6,13 +6,18 @@ ghost use lib.ListN.{length, drop};
 ghost use lib.Seq.{sets};
 ghost use Rattle.sheet.specs.Limits.{maxUnits, maxRules};
 ghost use Rattle.form.specs.Grid.{Tables};
-ghost use Rattle.reader.specs.Reading.{isStretch, isCount, answerOf, reading, rooms, sizesOf, roomsFit, roomsAfter, onto};
+ghost use Rattle.reader.specs.Reading.{isStretch, isCount, answerOf, reading, numbers, numbersOf, rooms, sizesOf, roomsFit, roomsAfter, onto};
 ghost use Rattle.reader.specs.Reader.{stepOf, unitPart, rulePart, keptBy, passAnswer, Kept, strided, Reach, Filling, filled};
 use line::Line;
 use sheet::Sheet;
 
 // The longest text that is read.
 const MAX_BYTES: usize = 16000;
+
+// Two numbers a unit and four a rule are kept on the way.
+const UNIT_NUMBERS: usize = 2 * Sheet::MAX_UNITS;
+
+const RULE_NUMBERS: usize = 4 * Sheet::MAX_RULES;
 
 // Document 01's number of the question that was answered no, and the line; 0 where no line is to blame.
 pub struct Refusal {
@@ -242,8 +247,11 @@ fn fill(
     low: &mut [u16],
     high: &mut [u16],
 )
-    requires { ⌜ Filling s (length (now units)) (length (now rules)) (rooms (length (now first)) (length (now last)) (length (now from)) (length (now to)) (length (now low)) (length (now high))) ⌝ }
-    ensures { λ _. ⌜ rooms (now (first .exit)) (now (last .exit)) (now (from .exit)) (now (to .exit)) (now (low .exit)) (now (high .exit)) ≡ filled s (now (units .entry)) (now (rules .entry)) (rooms (now (first .entry)) (now (last .entry)) (now (from .entry)) (now (to .entry)) (now (low .entry)) (now (high .entry))) ⌝ }
+    requires { ⌜ Filling s (length (now units)) (length (now rules))
+        (rooms (length (now first)) (length (now last)) (length (now from)) (length (now to)) (length (now low)) (length (now high))) ⌝ }
+    ensures { λ _. ⌜ rooms (now (first .exit)) (now (last .exit)) (now (from .exit)) (now (to .exit)) (now (low .exit)) (now (high .exit))
+        ≡ filled s (now (units .entry)) (now (rules .entry))
+        (rooms (now (first .entry)) (now (last .entry)) (now (from .entry)) (now (to .entry)) (now (low .entry)) (now (high .entry))) ⌝ }
 {
     let n = s.units;
     let r = s.rules;
@@ -265,14 +273,18 @@ pub fn read(
     low: &mut [u16],
     high: &mut [u16],
 ) -> Reading
-    ensures { λ r. ⌜ answerOf r ≡ reading (now (text .entry)) (sizesOf (rooms (now (first .entry)) (now (last .entry)) (now (from .entry)) (now (to .entry)) (now (low .entry)) (now (high .entry)))) ⌝ }
-    ensures { λ _. ⌜ rooms (now (first .exit)) (now (last .exit)) (now (from .exit)) (now (to .exit)) (now (low .exit)) (now (high .exit)) ≡ roomsAfter (now (text .entry)) (rooms (now (first .entry)) (now (last .entry)) (now (from .entry)) (now (to .entry)) (now (low .entry)) (now (high .entry))) ⌝ }
+    ensures { λ r. ⌜ answerOf r
+        ≡ reading (now (text .entry))
+        (sizesOf (rooms (now (first .entry)) (now (last .entry)) (now (from .entry)) (now (to .entry)) (now (low .entry)) (now (high .entry)))) ⌝ }
+    ensures { λ _. ⌜ rooms (now (first .exit)) (now (last .exit)) (now (from .exit)) (now (to .exit)) (now (low .exit)) (now (high .exit))
+        ≡ roomsAfter (now (text .entry))
+        (rooms (now (first .entry)) (now (last .entry)) (now (from .entry)) (now (to .entry)) (now (low .entry)) (now (high .entry))) ⌝ }
 {
     if MAX_BYTES < text.len() {
         return Reading::Refused(Refusal { number: 1, line: 0 });
     }
-    let mut units = [0u16; 600];
-    let mut rules = [0u16; 240];
+    let mut units = [0u16; UNIT_NUMBERS];
+    let mut rules = [0u16; RULE_NUMBERS];
     let asked = ask(text, &mut units, &mut rules);
     match asked {
         Reading::Refused(refusal) => Reading::Refused(refusal),
@@ -293,6 +305,48 @@ pub fn read(
             }
             fill(s, &units, &rules, first, last, from, to, low, high);
             Reading::Sheet(s)
+        }
+    }
+}
+
+// The open entry for callers in other languages: the reply as numbers. The result is the number of the question that was answered no, and 0 for a
+// sheet that was read; what a reply does not have is 0.
+#[no_mangle]
+pub extern "C" fn tugrokt_read(
+    text: &[u8],
+    first: &mut [u16],
+    last: &mut [u16],
+    from: &mut [u16],
+    to: &mut [u16],
+    low: &mut [u16],
+    high: &mut [u16],
+    line: &mut usize,
+    span: &mut usize,
+    units: &mut usize,
+    rules: &mut usize,
+) -> usize
+    ensures { λ r. ⌜ numbers r (now (line .exit)) (now (span .exit)) (now (units .exit)) (now (rules .exit))
+        ≡ numbersOf (reading (now (text .entry))
+        (sizesOf (rooms (now (first .entry)) (now (last .entry)) (now (from .entry)) (now (to .entry)) (now (low .entry)) (now (high .entry))))) ⌝ }
+    ensures { λ _. ⌜ rooms (now (first .exit)) (now (last .exit)) (now (from .exit)) (now (to .exit)) (now (low .exit)) (now (high .exit))
+        ≡ roomsAfter (now (text .entry))
+        (rooms (now (first .entry)) (now (last .entry)) (now (from .entry)) (now (to .entry)) (now (low .entry)) (now (high .entry))) ⌝ }
+{
+    let reply = read(text, first, last, from, to, low, high);
+    match reply {
+        Reading::Refused(refusal) => {
+            *line = refusal.line;
+            *span = 0;
+            *units = 0;
+            *rules = 0;
+            refusal.number
+        }
+        Reading::Sheet(s) => {
+            *line = 0;
+            *span = s.span;
+            *units = s.units;
+            *rules = s.rules;
+            0
         }
     }
 }
