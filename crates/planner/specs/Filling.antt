@@ -1,12 +1,12 @@
 -- What seating and narrowing are given: a sheet's units, and its finished table in a room. Definitions only.
 use mathlib.Core.Path.{_≡_}
-use mathlib.Core.List.{List}
+use mathlib.Core.List.{List, _++_}
 use Prim.Native.Nat.{ℕ, _*_, _≤_}
 use lib.Dec.{T}
-use lib.ListN.{length}
+use lib.ListN.{length, drop}
 use lib.IntN.{ℤ}
 use Rattle.network.specs.Table.{entry}
-use Rattle.sheet.specs.Sheet.{Sheet}
+use Rattle.sheet.specs.Sheet.{Sheet, printedPlan, earliestSlots, latestSlots}
 use Rattle.sheet.specs.LimitTable.{boundaries}
 use Rattle.sheet.specs.Questions.{windowsOf, accepted}
 use Rattle.sheet.specs.Solved.{Solved}
@@ -18,3 +18,9 @@ pub record Ready (s : Sheet) (w : ℕ) (first last : List ℕ) (table : List ℤ
   pub size : boundaries s ≡ w
   pub room : w * w ≤ length table
   pub solved : Solved s (entry w table)
+
+-- what seating and narrowing leave
+pub record Filled (s : Sheet) (plan earliest latest planAfter earliestAfter latestAfter : List ℕ) : Type 0 where
+  pub seats : planAfter ≡ printedPlan s ++ drop (length (s .units)) plan
+  pub early : earliestAfter ≡ earliestSlots s ++ drop (length (s .units)) earliest
+  pub late : latestAfter ≡ latestSlots s ++ drop (length (s .units)) latest

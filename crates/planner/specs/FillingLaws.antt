@@ -5,7 +5,7 @@ use Prim.Native.Nat.{ℕ, suc, _+_, _*_, _-_, _≤_, _<_}
 use native.Mathlib.Omega.{arith}
 use lib.Dec.{T}
 use lib.ListN.{length, getD, take, drop, List·getD-append}
-use lib.Seq.{getD-take, length-take-le}
+use lib.Seq.{getD-take, length-take-le, take-at}
 use lib.IntN.{ℤ, pos, _+ℤ_}
 use lib.Signed.{_≤ℤ_}
 use Rattle.integers.specs.Parts.{ints, sum}
@@ -14,13 +14,16 @@ use Rattle.network.specs.Closure.{Finished}
 use Rattle.network.specs.Table.{entry}
 use Rattle.network.specs.TableLaws.{row-inside}
 use Rattle.sheet.specs.Limits.{maxSlots, maxUnits}
-use Rattle.sheet.specs.Sheet.{Sheet, top, limit}
+use Rattle.sheet.specs.Sheet.{Sheet, top, limit, lawful, printedPlan}
+use Rattle.sheet.specs.PlanLaws.{lawful-iff}
 use Rattle.sheet.specs.LimitTable.{boundaries}
 use Rattle.sheet.specs.Questions.{windowsOf, accepted}
 use Rattle.sheet.specs.QuestionLaws.{windowsOf-length, accepted-sized}
 use Rattle.sheet.specs.Solved.{Solved}
 use Rattle.seating.specs.Row.{Seatable, RowOf}
 use Rattle.seating.specs.RowLaws.{row-seatable}
+use Rattle.seating.specs.PrintedLaws.{Printed, some-printed}
+use Rattle.narrowing.specs.Narrowing.{Narrowable}
 use Rattle.planner.specs.Filling.{Ready}
 
 -- ---- the numbers of units and slots that an accepted sheet has
@@ -47,6 +50,28 @@ module _ (s : Sheet) (w : ℕ) (first last : List ℕ) (table : List ℤ) (R : R
 
   pub seatable : (k : ℕ) → k ≡ w → (plan : List ℕ) → length first ≤ length plan → Seatable first last (take k table) plan
   seatable k e plan room = row-seatable s (entry w table) first last (take k table) (row-of k e) (R .lists) plan units-few slots-few room
+
+  units-length : length (s .units) ≡ length first
+  units-length = ap length (R .units) ∙ windowsOf-length first last (R .lists)
+
+  pub seats-are : (plan after : List ℕ) → after ≡ printedPlan s ++ drop (length first) plan → after ≡ printedPlan s ++ drop (length (s .units)) plan
+  seats-are plan after e = e ∙ ap (λ (n : ℕ). printedPlan s ++ drop n plan) (sym units-length)
+
+  pub narrowable : (plan after : List ℕ) → after ≡ printedPlan s ++ drop (length first) plan → Narrowable s first last after table w
+  narrowable plan after e =
+      let P = some-printed s (entry w table) (R .solved) in
+      let size : length (printedPlan s) ≡ length first = lawful-iff s (printedPlan s) .0 (P .legal) .seated .size ∙ units-length in
+      record {
+        units = R .units;
+        paired = R .lists;
+        few = units-few;
+        boundaries = sym (R .size);
+        most = omega (arith, R .size, slots-few);
+        size = R .room;
+        solved = R .solved;
+        lawfully = subst (λ (x : List ℕ). T (lawful s x))
+            (sym (ap (take (length first)) e ∙ take-at (printedPlan s) (drop (length first) plan) (length first) size)) (P .legal);
+      }
 
 -- ---- a finished table at the front of a longer room
 module _ (s : Sheet) (D E : Weights) (same : (a b : ℕ) → a ≤ top s → b ≤ top s → E a b ≡ D a b) where

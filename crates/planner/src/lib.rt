@@ -11,7 +11,7 @@ ghost use Rattle.sheet.specs.Questions.{listsAgree, sheetOf};
 ghost use Rattle.sheet.specs.LimitTable.{boundaries, Fillable};
 ghost use Rattle.planner.specs.Planning.{listed, passed};
 ghost use Rattle.planner.specs.Deciding.{Decided, RingFound};
-ghost use Rattle.planner.specs.Filling.{Ready};
+ghost use Rattle.planner.specs.Filling.{Ready, Filled};
 ghost use Rattle.planner.specs.Asking.{rising, allRising, lengthsFit, askedNo};
 
 // What a call answers: the number of the refusal, a plan in the rooms, or none with the length of the ring.
@@ -211,4 +211,15 @@ pub fn find_ring(
     let n = cycles::negative_cycle(table, w, ring);
     network::clear(w * w, table);
     n
+}
+
+// Seats and narrowed windows, from the finished table.
+pub fn fill_plan(w: usize, first: &[u16], last: &[u16], table: &[i16], plan: &mut [u16], earliest: &mut [u16], latest: &mut [u16])
+    requires { ⌜ ((s : Sheet) × Ready s w (now first) (now last) (now table)) ⌝ }
+    requires rooms { ⌜ (length (now first) ≤ length (now plan)) × (length (now first) ≤ length (now earliest)) × (length (now first) ≤ length (now latest)) ⌝ }
+    ensures { λ _. ⌜ ((s : Sheet) → Ready s w (now (first .entry)) (now (last .entry)) (now (table .entry))
+        → Filled s (now (plan .entry)) (now (earliest .entry)) (now (latest .entry)) (now (plan .exit)) (now (earliest .exit)) (now (latest .exit))) ⌝ }
+{
+    seat_units(w, first, last, table, plan);
+    narrowing::narrow(first, last, plan, table, w, earliest, latest);
 }

@@ -28,7 +28,7 @@ negative-cycle-requires c κs =
     let s = sheetOf (a .span) (a .first .now) (a .last .now) (a .from .now) (a .to .now) (a .low .now) (a .high .now) in
     let w = boundaries-are (a .span) (a .first .now) (a .last .now) (a .from .now) (a .to .now) (a .low .now) (a .high .now) in
     let f = c .before .before .before .fill-limits .ensures in
-    (weighed s (p .0 .ok) (a .table .now) _ (p .0 .fits) f (a .span + 1) w, omega (arith, p .1, w), no-potential s (p .0 .ok) (a .table .now) _ (p .0 .fits) f (a .span + 1) w (p .2))
+    (weighed s (p .0 .ok) (a .table .now) _ (p .0 .fits) f (a .span + 1) w, no-potential s (p .0 .ok) (a .table .now) _ (p .0 .fits) f (a .span + 1) w (p .2), omega (arith, p .1, w))
 
 mul-clear : tie.Need-mul-clear
 mul-clear c =
