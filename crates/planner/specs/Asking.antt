@@ -2,11 +2,11 @@
 use mathlib.Core.Bool.{Bool, true, _&&_}
 use mathlib.Core.List.{List, [], _∷_}
 use Prim.Native.Nat.{ℕ, _*_}
-use lib.Dec.{leb}
+use lib.Dec.{T, leb}
 use Rattle.lists.specs.Lists.{every}
-use Rattle.sheet.specs.Questions.{windowsOf}
+use Rattle.sheet.specs.Questions.{windowsOf, accepted}
 use Rattle.planner.specs.declared.Lengths.{Lengths}
-use Rattle.planner.specs.Planning.{Lists, given, agree, roomsFit, asked, firstNo}
+use Rattle.planner.specs.Planning.{Lists, Rooms, given, fitsRooms, agree, roomsFit, asked, firstNo}
 
 abbrev pub rising : ℕ → ℕ → ℕ → ℕ → Bool
 rising least most f l = leb least f && (leb f l && leb l most)
@@ -22,3 +22,9 @@ unfoldable pub askedNo : Lists → Lengths → ℕ
 askedNo l r =
     let s = given l in
     firstNo (asked (agree l) s (roomsFit s (r .table) (r .plan) (r .earliest) (r .latest) (r .ring)))
+
+-- every question before the pass is answered yes
+pub record Solvable (l : Lists) (r : Rooms) : Type 0 where
+  pub lists : T (agree l)
+  pub sheet : T (accepted (given l))
+  pub rooms : T (fitsRooms (given l) r)

@@ -42,6 +42,9 @@ pub record Rooms : Type 0 where
   pub latest : List Slot
   pub ring : List ℕ
 
+abbrev pub lent : List ℤ → List Slot → List Slot → List Slot → List ℕ → Rooms
+lent t p e l r = record { table = t; plan = p; earliest = e; latest = l; ring = r }
+
 abbrev pub places : Sheet → ℕ
 places s = boundaries s * boundaries s
 

@@ -9,10 +9,10 @@ ghost use Rattle.sheet.specs.Limits.{maxSlots};
 ghost use Rattle.sheet.specs.Sheet.{Sheet, printedPlan};
 ghost use Rattle.sheet.specs.Questions.{listsAgree, sheetOf};
 ghost use Rattle.sheet.specs.LimitTable.{boundaries, Fillable};
-ghost use Rattle.planner.specs.Planning.{listed, passed};
+ghost use Rattle.planner.specs.Planning.{listed, lent, passed, byPass, Left};
 ghost use Rattle.planner.specs.Deciding.{Decided, RingFound};
 ghost use Rattle.planner.specs.Filling.{Ready, Filled};
-ghost use Rattle.planner.specs.Asking.{rising, allRising, lengthsFit, askedNo};
+ghost use Rattle.planner.specs.Asking.{rising, allRising, lengthsFit, askedNo, Solvable};
 
 // What a call answers: the number of the refusal, a plan in the rooms, or none with the length of the ring.
 pub enum Answer {
@@ -222,4 +222,41 @@ pub fn fill_plan(w: usize, first: &[u16], last: &[u16], table: &[i16], plan: &mu
 {
     seat_units(w, first, last, table, plan);
     narrowing::narrow(first, last, plan, table, w, earliest, latest);
+}
+
+// A sheet of which every question before the pass is answered yes.
+pub fn solve(
+    span: usize,
+    first: &[u16],
+    last: &[u16],
+    from: &[u16],
+    to: &[u16],
+    low: &[u16],
+    high: &[u16],
+    table: &mut [i16],
+    plan: &mut [u16],
+    earliest: &mut [u16],
+    latest: &mut [u16],
+    ring: &mut [u16],
+) -> Answer
+    requires { ⌜ Solvable (listed span (now first) (now last) (now from) (now to) (now low) (now high))
+        (lent (now table) (now plan) (now earliest) (now latest) (now ring)) ⌝ }
+    ensures { λ r.
+        let s = sheetOf span (now (first .entry)) (now (last .entry)) (now (from .entry)) (now (to .entry)) (now (low .entry)) (now (high .entry)) in
+        ⌜ Left (byPass (passed s)) s
+        (lent (now (table .entry)) (now (plan .entry)) (now (earliest .entry)) (now (latest .entry)) (now (ring .entry))) r
+        (lent (now (table .exit)) (now (plan .exit)) (now (earliest .exit)) (now (latest .exit)) (now (ring .exit))) ⌝ }
+{
+    let outcome = decide(span, first, last, from, to, low, high, table);
+    match outcome {
+        network::Outcome::OutOfRange => Answer::Refused(14),
+        network::Outcome::Stopped => {
+            let n = find_ring(span, first, last, from, to, low, high, table, ring);
+            Answer::None(n)
+        }
+        network::Outcome::Finished => {
+            fill_plan(span + 1, first, last, table, plan, earliest, latest);
+            Answer::Plan
+        }
+    }
 }
