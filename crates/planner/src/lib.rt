@@ -214,7 +214,15 @@ pub fn find_ring(
 }
 
 // Seats and narrowed windows, from the finished table.
-pub fn fill_plan(w: usize, first: &[u16], last: &[u16], table: &[i16], plan: &mut [u16], earliest: &mut [u16], latest: &mut [u16])
+pub fn fill_plan(
+    w: usize,
+    first: &[u16],
+    last: &[u16],
+    table: &[i16],
+    plan: &mut [u16],
+    earliest: &mut [u16],
+    latest: &mut [u16],
+)
     requires { ⌜ ((s : Sheet) × Ready s w (now first) (now last) (now table)) ⌝ }
     requires rooms { ⌜ (length (now first) ≤ length (now plan)) × (length (now first) ≤ length (now earliest)) × (length (now first) ≤ length (now latest)) ⌝ }
     ensures { λ _. ⌜ ((s : Sheet) → Ready s w (now (first .entry)) (now (last .entry)) (now (table .entry))

@@ -1,79 +1,106 @@
 use borrow.Author.Needs.{needs}
+use Prim.Native.Nat.{_+_}
+use native.Mathlib.Omega.{arith}
+use Rattle.planner.specs.Planning.{listed, lent, given}
+use Rattle.planner.specs.SolvingLaws.{limits-asked, span-few, range-left, ring-asked, ring-left, plan-asked, plan-rooms, plan-left}
 use Rattle.planner.proofs.solve.Statement.{statement}
 use Rattle.planner.proofs.solve.Tie as tie
-use Rattle.planner.proofs.solve.Reads as reads
-use Rattle.planner.proofs.solve.Lts as lts
-use Rattle.planner.proofs.decide.Reads as decide-reads
-use Rattle.planner.proofs.fill_plan.Reads as fill-plan-reads
-use Rattle.planner.proofs.find_ring.Reads as find-ring-reads
 
--- src/lib.rt:250:9
 decide-requires : tie.Need-decide-requires
-decide-requires c κs = ?
+decide-requires c κs =
+    let a = c .before .before .before .before .before .before .before .before .before .before .before .args in
+    let p = c .before .before .before .before .before .before .before .before .before .before .before .pre in
+    let l = listed (a .span) (a .first .now) (a .last .now) (a .from .now) (a .to .now) (a .low .now) (a .high .now) in
+    let before = lent (a .table .now) (a .plan .now) (a .earliest .now) (a .latest .now) (a .ring .now) in
+    limits-asked l before p
 
--- src/lib.rt:252:41
 enum-told : tie.Need-enum-told
 enum-told c = search needs
 
--- src/lib.rt:254:71
 enum-told-2 : tie.Need-enum-told-2
 enum-told-2 c = search needs
 
--- src/lib.rt:254:17
 find-ring-requires : tie.Need-find-ring-requires
-find-ring-requires c κs = ?
+find-ring-requires c κs =
+    let a = c .before .before .before .before .before .before .before .before .before .before .before .before .before .before .before .before .before .args in
+    let p = c .before .before .before .before .before .before .before .before .before .before .before .before .before .before .before .before .before .pre in
+    let l = listed (a .span) (a .first .now) (a .last .now) (a .from .now) (a .to .now) (a .low .now) (a .high .now) in
+    let before = lent (a .table .now) (a .plan .now) (a .earliest .now) (a .latest .now) (a .ring .now) in
+    let d = c .before .before .before .before .before .decide in
+    ring-asked l before p (d .result) (d .last .1 .1 .1 .1 .1 .1 .1 .0) (d .ensures) (c .before .before .enum-told2 .given .1)
 
--- src/lib.rt:258:23
 enum-told-3 : tie.Need-enum-told-3
 enum-told-3 c = search needs
 
--- src/lib.rt:258:23
 add-fill-plan : tie.Need-add-fill-plan
-add-fill-plan c = ?
+add-fill-plan c =
+    let a = c .before .before .before .before .before .before .before .before .before .before .before .before .before .before .before .args in
+    let p = c .before .before .before .before .before .before .before .before .before .before .before .before .before .before .before .pre in
+    let l = listed (a .span) (a .first .now) (a .last .now) (a .from .now) (a .to .now) (a .low .now) (a .high .now) in
+    let before = lent (a .table .now) (a .plan .now) (a .earliest .now) (a .latest .now) (a .ring .now) in
+    omega (arith, span-few l before p)
 
--- src/lib.rt:258:13
 fill-plan-requires : tie.Need-fill-plan-requires
-fill-plan-requires c κs = ?
+fill-plan-requires c κs =
+    let a = c .before .before .before .before .before .before .before .before .before .before .before .before .before .before .before .before .before .before .before .args in
+    let p = c .before .before .before .before .before .before .before .before .before .before .before .before .before .before .before .before .before .before .before .pre in
+    let l = listed (a .span) (a .first .now) (a .last .now) (a .from .now) (a .to .now) (a .low .now) (a .high .now) in
+    let before = lent (a .table .now) (a .plan .now) (a .earliest .now) (a .latest .now) (a .ring .now) in
+    let d = c .before .before .before .before .before .before .before .decide in
+    let e = c .before .before .before .before .enum-told3 .given .1 in
+    ((given l, plan-asked l before p (d .result) (d .last .1 .1 .1 .1 .1 .1 .1 .0) (d .ensures) e), plan-rooms l before p (d .result) (d .last .1 .1 .1 .1 .1 .1 .1 .0) (d .ensures) e)
 
--- src/lib.rt:228:1
 same-length : tie.Need-same-length
 same-length c = search needs
 
--- src/lib.rt:228:1
 returns : tie.Need-returns
-returns c = ?
+returns c =
+    let a = c .before .before .before .before .before .before .before .before .before .before .before .before .before .before .before .args in
+    let p = c .before .before .before .before .before .before .before .before .before .before .before .before .before .before .before .pre in
+    let l = listed (a .span) (a .first .now) (a .last .now) (a .from .now) (a .to .now) (a .low .now) (a .high .now) in
+    let before = lent (a .table .now) (a .plan .now) (a .earliest .now) (a .latest .now) (a .ring .now) in
+    let d = c .before .before .before .decide in
+    range-left l before p (d .result) (d .last .1 .1 .1 .1 .1 .1 .1 .0) (d .ensures) (c .enum-told .given .1)
 
--- src/lib.rt:228:1
 same-length-2 : tie.Need-same-length-2
 same-length-2 c = search needs
 
--- src/lib.rt:228:1
 same-length-3 : tie.Need-same-length-3
 same-length-3 c = search needs
 
--- src/lib.rt:228:1
 returns-2 : tie.Need-returns-2
-returns-2 c = ?
+returns-2 c =
+    let a = c .before .before .before .before .before .before .before .before .before .before .before .before .before .before .before .before .before .before .before .before .before .args in
+    let p = c .before .before .before .before .before .before .before .before .before .before .before .before .before .before .before .before .before .before .before .before .before .pre in
+    let l = listed (a .span) (a .first .now) (a .last .now) (a .from .now) (a .to .now) (a .low .now) (a .high .now) in
+    let before = lent (a .table .now) (a .plan .now) (a .earliest .now) (a .latest .now) (a .ring .now) in
+    let d = c .before .before .before .before .before .before .before .before .before .decide in
+    let f = c .before .before .before .find-ring in
+    ring-left l before p (d .result) (d .last .1 .1 .1 .1 .1 .1 .1 .0) (d .ensures) (c .before .before .before .before .before .before .enum-told2 .given .1) (f .result) (f .last .1 .1 .1 .1 .1 .1 .1 .0) (f .last .1 .1 .1 .1 .1 .1 .1 .1 .0) (f .ensures)
 
--- src/lib.rt:228:1
 same-length-4 : tie.Need-same-length-4
 same-length-4 c = search needs
 
--- src/lib.rt:228:1
 same-length-5 : tie.Need-same-length-5
 same-length-5 c = search needs
 
--- src/lib.rt:228:1
 same-length-6 : tie.Need-same-length-6
 same-length-6 c = search needs
 
--- src/lib.rt:228:1
 same-length-7 : tie.Need-same-length-7
 same-length-7 c = search needs
 
--- src/lib.rt:228:1
 returns-3 : tie.Need-returns-3
-returns-3 c = ?
+returns-3 c =
+    let a = c .before .before .before .before .before .before .before .before .before .before .before .before .before .before .before .before .before .before .before .before .before .before .before .before .before .before .args in
+    let p = c .before .before .before .before .before .before .before .before .before .before .before .before .before .before .before .before .before .before .before .before .before .before .before .before .before .before .pre in
+    let l = listed (a .span) (a .first .now) (a .last .now) (a .from .now) (a .to .now) (a .low .now) (a .high .now) in
+    let before = lent (a .table .now) (a .plan .now) (a .earliest .now) (a .latest .now) (a .ring .now) in
+    let d = c .before .before .before .before .before .before .before .before .before .before .before .before .before .before .decide in
+    let e = c .before .before .before .before .before .before .before .before .before .before .before .enum-told3 .given .1 in
+    let f = c .before .before .before .before .before .before .fill-plan in
+    plan-left l before p (d .result) (d .last .1 .1 .1 .1 .1 .1 .1 .0) (d .ensures) e (f .last .1 .1 .1 .1 .0) (f .last .1 .1 .1 .1 .1 .0) (f .last .1 .1 .1 .1 .1 .1 .0)
+    (f .ensures (given l) (plan-asked l before p (d .result) (d .last .1 .1 .1 .1 .1 .1 .1 .0) (d .ensures) e))
 
 pub solve-spec : {M : Type 1} → statement M
 solve-spec =
