@@ -8,5 +8,6 @@ pub mod Deciding
 pub mod DecidingLaws
 pub mod Filling
 pub mod FillingLaws
-pub mod SolvingLaws
 pub mod RingLaws
+pub mod SolvingLaws
+pub mod EntryLaws

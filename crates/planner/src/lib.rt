@@ -9,7 +9,7 @@ ghost use Rattle.sheet.specs.Limits.{maxSlots};
 ghost use Rattle.sheet.specs.Sheet.{Sheet, printedPlan};
 ghost use Rattle.sheet.specs.Questions.{listsAgree, sheetOf};
 ghost use Rattle.sheet.specs.LimitTable.{boundaries, Fillable};
-ghost use Rattle.planner.specs.Planning.{listed, lent, passed, byPass, Left};
+ghost use Rattle.planner.specs.Planning.{listed, lent, given, passed, byPass, verdict, Left};
 ghost use Rattle.planner.specs.Deciding.{Decided, RingFound};
 ghost use Rattle.planner.specs.Filling.{Ready, Filled};
 ghost use Rattle.planner.specs.Asking.{rising, allRising, lengthsFit, askedNo, Solvable};
@@ -266,5 +266,53 @@ pub fn solve(
             fill_plan(span + 1, first, last, table, plan, earliest, latest);
             Answer::Plan
         }
+    }
+}
+
+// Plans from lists. The questions come first; then the sheet gets a plan, or none and a ring.
+pub fn plan(
+    span: usize,
+    first: &[u16],
+    last: &[u16],
+    from: &[u16],
+    to: &[u16],
+    low: &[u16],
+    high: &[u16],
+    table: &mut [i16],
+    plan: &mut [u16],
+    earliest: &mut [u16],
+    latest: &mut [u16],
+    ring: &mut [u16],
+) -> Answer
+    ensures { λ r.
+        let l = listed span (now (first .entry)) (now (last .entry)) (now (from .entry)) (now (to .entry)) (now (low .entry)) (now (high .entry)) in
+        let before = lent (now (table .entry)) (now (plan .entry)) (now (earliest .entry)) (now (latest .entry)) (now (ring .entry)) in
+        ⌜ Left (verdict l before) (given l) before r (lent (now (table .exit)) (now (plan .exit)) (now (earliest .exit)) (now (latest .exit)) (now (ring .exit))) ⌝ }
+{
+    let rooms = Lengths {
+        table: table.len(),
+        plan: plan.len(),
+        earliest: earliest.len(),
+        latest: latest.len(),
+        ring: ring.len(),
+    };
+    let no = ask(span, first, last, from, to, low, high, rooms);
+    if no == 0 {
+        solve(
+            span,
+            first,
+            last,
+            from,
+            to,
+            low,
+            high,
+            table,
+            plan,
+            earliest,
+            latest,
+            ring,
+        )
+    } else {
+        Answer::Refused(no)
     }
 }
