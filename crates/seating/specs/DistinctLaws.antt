@@ -1,10 +1,10 @@
 -- No lawful plan is listed twice, so where some plan is lawful the list of printed plans has one entry.
 -- Key idea: plans that give the first unit different slots differ there, and those that give it the same slot differ in the rest.
-use mathlib.Core.Path.{_≡_, refl, sym, ap, ap₂, _∙_, subst}
+use mathlib.Core.Path.{_≡_, refl, sym, ap, _∙_, subst}
 use mathlib.Core.Logic.{⊎-elim}
 use mathlib.Core.Bool.{Bool, true, false, _&&_}
-use mathlib.Core.List.{List, [], _∷_, _++_, map, List·Memᴰ·head, List·Memᴰ·tail, List·Memᴰ·not-nil, List·Memᴰ·cases-cons, List·Memᴰ·append-cases}
-use Prim.Native.Nat.{ℕ, zero, suc, _+_, _-_, _≤_, _<_}
+use mathlib.Core.List.{List, [], _∷_, _++_, map, List·Memᴰ·head, List·Memᴰ·tail, List·Memᴰ·not-nil, List·Memᴰ·append-cases}
+use Prim.Native.Nat.{ℕ, zero, suc, _-_}
 use native.Mathlib.Omega.{arith}
 use lib.Dec.{T}
 use Rattle.lists.specs.Lists.{run, fromTo, keep, consIf, joined}
@@ -12,7 +12,7 @@ use Rattle.lists.specs.Members.{In, in-keep, in-joined, in-map, in-run}
 use Rattle.sheet.specs.Sheet.{Sheet, Window, assignments, lawful, lawfulPlans, soonest, fair, printedPlans, printedPlan}
 use Rattle.sheet.specs.PotentialLaws.{Valid}
 use Rattle.seating.specs.RangeLaws.{lawful-solved}
-use Rattle.seating.specs.PrintedLaws.{Printed, in-printedPlans, printedPlans-in, printed-unique, some-printed}
+use Rattle.seating.specs.PrintedLaws.{in-printedPlans, printedPlans-in, printed-unique, some-printed}
 
 -- no entry stands twice
 abbrev Distinct : {A : Type 0} → List A → Type 0

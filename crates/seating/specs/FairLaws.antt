@@ -1,12 +1,11 @@
 -- The seat property of a sheet's plan, as the order of its units.
-use mathlib.Core.Path.{_≡_, refl, sym, ap, _∙_, subst}
 use mathlib.Core.Bool.{Bool, true, false, not, _&&_, _||_}
 use mathlib.Core.List.{List}
-use Prim.Native.Nat.{ℕ, zero, suc, _+_, _≤_, _<_}
+use Prim.Native.Nat.{ℕ, _≤_, _<_}
 use native.Mathlib.Omega.{arith}
 use lib.Dec.{T, leb, ltb, leb→le, le→leb, ltb→lt, lt→ltb}
 use lib.ListN.{length, getD}
-use Rattle.lists.specs.Lists.{run, every}
+use Rattle.lists.specs.Lists.{every}
 use Rattle.lists.specs.Members.{both, left, right, in-run, run-in, every-in, in-every}
 use Rattle.sheet.specs.Sheet.{Sheet, noWindow, lines, seatFair, fair}
 use Rattle.seating.specs.Seating.{at, Before, sooner}

@@ -2,18 +2,18 @@
 -- Key idea: the limits say that the potential's rise over a stretch is at least the number of windows inside it and from low to high of each rule on it. The
 -- first makes the rises a seating problem, so every unit finds a seat in its window; the second makes the plan obey each rule.
 use mathlib.Core.Path.{_≡_, refl, sym, ap, _∙_, subst}
-use mathlib.Core.Logic.{_⊎_, inl, inr, ⊎-elim}
-use mathlib.Core.Bool.{Bool, true, false, _&&_}
+use mathlib.Core.Logic.{⊎-elim}
+use mathlib.Core.Bool.{_&&_}
 use mathlib.Core.List.{List}
-use Prim.Native.Nat.{ℕ, zero, suc, _+_, _-_, _≤_, _<_}
+use Prim.Native.Nat.{ℕ, suc, _+_, _-_, _≤_, _<_}
 use native.Mathlib.Omega.{arith}
 use native.Mathlib.Nat.{eq-or-lt-of-le}
 use native.Mathlib.Decide.{decLe}
 use lib.Dec.{T, leb, ltb, leb→le, le→leb, ltb→lt, lt→ltb}
-use lib.ListN.{length, getD}
-use lib.IntN.{ℤ, pos, negℤ, _+ℤ_, _-ℤ_}
+use lib.ListN.{length}
+use lib.IntN.{pos, _+ℤ_, _-ℤ_}
 use lib.Signed.{_≤ℤ_}
-use Rattle.integers.specs.Parts.{up, dn, ints, sum, neg, difference, nonneg}
+use Rattle.integers.specs.Parts.{up, ints, sum, neg, difference, nonneg}
 use Rattle.lists.specs.Lists.{within, every, howMany}
 use Rattle.lists.specs.Members.{In, both, left, right, within-iff, in-every}
 use Rattle.lists.specs.Counts.{count, count-le, count-all, count-empty, howMany-count}
@@ -22,7 +22,7 @@ use Rattle.sheet.specs.Sheet.{Sheet, Rule, top, noWindow, countIn, inWindows, o
 use Rattle.sheet.specs.PlanLaws.{seated-inWindows}
 use Rattle.sheet.specs.LimitLaws.{countIn-split, limit-fwd, limit-back, atMost-rule, atLeast-rule, atMost-n, atLeast-windows}
 use Rattle.sheet.specs.PotentialLaws.{Valid}
-use Rattle.seating.specs.Seating.{at, Before, inside, seatedBy, Problem, Complete, seatsOf}
+use Rattle.seating.specs.Seating.{at, inside, seatedBy, Problem, Complete, seatsOf}
 use Rattle.seating.specs.SeatingLaws.{seats-size, seats-complete}
 use Rattle.seating.specs.FairLaws.{firsts, lasts, fair-make}
 
@@ -73,7 +73,8 @@ module _ (s : Sheet) (ok : Valid s) (z : Potential) (f : Feasible (top s) (limit
     count-le n (inside first last a b) (inside (firsts s) (lasts s) a b)
         (λ j h t. subst (λ (w : ℕ). T (ltb a w && leb (lasts s j) b)) (R .opens j h) (subst (λ (w : ℕ). T (ltb a (first j) && leb w b)) (R .closes j h) t)),
     count-le n (inside (firsts s) (lasts s) a b) (inside first last a b)
-        (λ j h t. subst (λ (w : ℕ). T (ltb a w && leb (last j) b)) (sym (R .opens j h)) (subst (λ (w : ℕ). T (ltb a (firsts s j) && leb w b)) (sym (R .closes j h)) t)),
+        (λ j h t. subst (λ (w : ℕ). T (ltb a w && leb (last j) b)) (sym (R .opens j h))
+        (subst (λ (w : ℕ). T (ltb a (firsts s j) && leb w b)) (sym (R .closes j h)) t)),
   )
 
   window : (j : ℕ) → j < n → (1 ≤ first j) × (first j ≤ last j) × (last j ≤ top s)

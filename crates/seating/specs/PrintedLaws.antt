@@ -3,24 +3,23 @@
 -- finished table has the greatest counts, so the plan seated from it is such a plan.
 use mathlib.Core.Path.{_≡_, refl, sym, ap, _∙_, subst}
 use mathlib.Core.Logic.{⊎-elim}
-use mathlib.Core.Bool.{Bool, true, false, _&&_}
+use mathlib.Core.Bool.{_&&_}
 use mathlib.Core.List.{List, [], _∷_, List·Memᴰ·head, List·Memᴰ·not-nil}
-use Prim.Native.Nat.{ℕ, zero, suc, _+_, _-_, _≤_, _<_}
+use Prim.Native.Nat.{ℕ, _≤_, _<_}
 use native.Mathlib.Omega.{arith}
 use native.Mathlib.Nat.{eq-or-lt-of-le}
 use lib.Dec.{T, eqb, eqb→eq, eqb-refl}
-use lib.ListN.{length, getD}
+use lib.ListN.{length}
 use lib.Seq.{ext-getD}
-use lib.IntN.{ℤ, pos, _+ℤ_}
-use lib.Signed.{_≤ℤ_}
+use lib.IntN.{ℤ, pos}
 use Rattle.integers.specs.Parts.{up, ints, sum}
-use Rattle.lists.specs.Lists.{within, every, fromTo}
+use Rattle.lists.specs.Lists.{within, fromTo}
 use Rattle.lists.specs.Members.{In, both, left, right, within-iff, in-keep, keep-in, every-in, in-every, in-fromTo}
 use Rattle.lists.specs.Counts.{count, howMany-count}
 use Rattle.network.specs.Network.{Weights}
 use Rattle.network.specs.ClosureLaws.{row-feasible}
 use Rattle.sheet.specs.Sheet.{Sheet, top, limit, countIn, lawful, lawfulPlans, greatestIn, soonest, fair, headOr, printedPlans, printedPlan}
-use Rattle.sheet.specs.PlanLaws.{Seated, Lawful, lawful-iff, in-lawfulPlans}
+use Rattle.sheet.specs.PlanLaws.{Seated, lawful-iff, in-lawfulPlans}
 use Rattle.sheet.specs.PotentialLaws.{Valid}
 use Rattle.sheet.specs.Solved.{Solved}
 use Rattle.seating.specs.Seating.{at, seatedBy, Complete, seatsOf}

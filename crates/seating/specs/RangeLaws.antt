@@ -1,18 +1,18 @@
 -- A finished table's entries are the greatest and the least counts of lawful plans, and every count between them is some lawful plan's.
 -- Key idea: a lawful plan's deliveries are a feasible potential, and every feasible potential respects the table. The other way round, the potential that
 -- rises by k from a to b is feasible for each k between the entries, and is the deliveries of a lawful plan.
-use mathlib.Core.Path.{_≡_, refl, sym, ap, _∙_, subst}
+use mathlib.Core.Path.{_≡_, ap, _∙_}
 use mathlib.Core.Logic.{_↔_}
 use mathlib.Core.List.{List, map}
-use Prim.Native.Nat.{ℕ, zero, suc, _+_, _-_, _≤_, _<_}
+use Prim.Native.Nat.{ℕ, zero, suc, _≤_, _<_}
 use native.Mathlib.Omega.{arith}
 use lib.Dec.{T}
-use lib.IntN.{ℤ, pos, negℤ, _+ℤ_}
+use lib.IntN.{ℤ, pos, negℤ}
 use lib.Signed.{_≤ℤ_}
 use Rattle.integers.specs.Parts.{ints, sum, neg}
 use Rattle.lists.specs.Members.{in-map, map-in}
 use Rattle.lists.specs.Extremes.{greatest-is, least-is}
-use Rattle.network.specs.Network.{Weights, Potential, Feasible}
+use Rattle.network.specs.Network.{Weights, Potential}
 use Rattle.network.specs.Closure.{step, Level, between}
 use Rattle.network.specs.ClosureLaws.{step-sound, level-start, level-step, level-finished, row-feasible, there-and-back, between-feasible, between-start, between-end}
 use Rattle.sheet.specs.Sheet.{Sheet, top, countIn, lawful, lawfulPlans, leastIn, greatestIn, limit}

@@ -38,9 +38,13 @@ inOrder last order = byRank (at last) (length last) (length last) order
 abbrev pub topOf : List ℤ → ℕ
 topOf counts = length counts - 1
 
--- the plan that is seated from the units in order
+-- all slots take their units in order, in a plan where some may have seats already
+abbrev pub seatsInto : List ℕ → List ℤ → List ℕ → List ℕ → List ℕ
+seatsInto first counts order plan = seatSlots (at first) (countAt counts) order 0 (topOf counts) plan
+
+-- and in a plan where all are free
 abbrev pub seatsBy : List ℕ → List ℤ → List ℕ → List ℕ
-seatsBy first counts order = seatSlots (at first) (countAt counts) order 0 (topOf counts) (replicate (length first) 0)
+seatsBy first counts order = seatsInto first counts order (replicate (length first) 0)
 
 -- the whole plan
 unfoldable pub seatsFrom : List ℕ → List ℕ → List ℤ → List ℕ

@@ -1,23 +1,20 @@
 -- Lists that are a sheet's units and row 0 of its finished table can be seated, and what is seated from them is the printed plan.
-use mathlib.Core.Path.{_≡_, refl, sym, ap, _∙_, subst}
+use mathlib.Core.Path.{_≡_, sym, ap, _∙_}
 use mathlib.Core.List.{List}
-use Prim.Native.Nat.{ℕ, zero, suc, _+_, _-_, _≤_, _<_}
+use Prim.Native.Nat.{ℕ, suc, _-_, _≤_, _<_}
 use native.Mathlib.Omega.{arith}
 use lib.ListN.{length, getD, replicate}
-use lib.IntN.{ℤ, pos, negℤ, _+ℤ_}
-use lib.Signed.{_≤ℤ_}
+use lib.IntN.{ℤ, pos}
 use Rattle.integers.specs.Parts.{up, ints, sum, neg}
 use Rattle.network.specs.Network.{Weights}
 use Rattle.network.specs.ClosureLaws.{row-feasible}
 use Rattle.sheet.specs.Limits.{maxSlots, maxUnits}
 use Rattle.sheet.specs.Sheet.{Sheet, Window, top, noWindow, atLeast, limit, printedPlan}
 use Rattle.sheet.specs.LimitLaws.{limit-back}
-use Rattle.sheet.specs.Questions.{windowsOf}
 use Rattle.sheet.specs.QuestionLaws.{windowsOf-length, windowsOf-at}
 use Rattle.seating.specs.Seating.{at, byRank, seatSlots, seatsOf}
-use Rattle.seating.specs.FairLaws.{firsts, lasts}
 use Rattle.seating.specs.PrintedLaws.{row-nonneg, seats-are-printed}
-use Rattle.seating.specs.Row.{countAt, topOf, inOrder, seatsBy, seatsFrom, Seatable, RowOf}
+use Rattle.seating.specs.Row.{countAt, seatsFrom, Seatable, RowOf}
 
 module _ (s : Sheet) (D : Weights) (first last : List ℕ) (counts : List ℤ) (R : RowOf s D first last counts) (lists : length last ≡ length first) where
   size : length (s .units) ≡ length first

@@ -2,9 +2,9 @@
 -- Units count from 0. Windows are functions of the unit, and z b is the number of seats by the end of slot b.
 -- A plan is the list of the units' slots, 0 where a unit is still free.
 use mathlib.Core.Path.{_≡_}
-use mathlib.Core.Bool.{Bool, true, false, _&&_, _||_, cond}
+use mathlib.Core.Bool.{Bool, _&&_, _||_, cond}
 use mathlib.Core.List.{List, [], _∷_}
-use Prim.Native.Nat.{ℕ, zero, suc, _+_, _-_, _≤_, _<_}
+use Prim.Native.Nat.{ℕ, zero, suc, _-_, _≤_, _<_}
 use lib.Dec.{ltb, leb, eqb}
 use lib.ListN.{length, getD, set, replicate}
 use Rattle.lists.specs.Counts.{count}
@@ -51,6 +51,18 @@ seatSlot first s [] k plan = plan
 seatSlot first s (u ∷ us) zero plan = plan
 seatSlot first s (u ∷ us) (suc k) plan =
     cond (freeOpen (at plan) first s u) (seatSlot first s us k (set plan u s)) (seatSlot first s us (suc k) plan)
+
+-- how many entries stand in front of the first that fails the test
+unfoldable pub leading : (ℕ → Bool) → List ℕ → ℕ
+leading t [] = 0
+leading t (u ∷ us) = cond (t u) (suc (leading t us)) 0
+
+abbrev pub hasSeat : (ℕ → ℕ) → ℕ → Bool
+hasSeat x j = ltb 0 (x j)
+
+-- the units at the first k places of the order have seats
+abbrev pub Skipped : ℕ → List ℕ → List ℕ → Type 0
+Skipped k order plan = (p : ℕ) → p < k → 0 < at plan (at order p)
 
 -- the m slots after boundary b, one after the other: each takes as many units as z rises over it
 unfoldable pub seatSlots : (ℕ → ℕ) → (ℕ → ℕ) → List ℕ → ℕ → ℕ → List ℕ → List ℕ

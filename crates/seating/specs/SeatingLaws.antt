@@ -3,15 +3,15 @@
 -- closes first keeps this: if it closes by b, one free unit fewer does; if it closes after b, every open unit that closes by b is seated already, and the
 -- others' windows lie inside the slots s+1 to b. At b = s nobody is late. And the windows that open after s leave a free unit open while slot s has seats.
 use mathlib.Core.Path.{_≡_, refl, sym, ap, _∙_, subst}
-use mathlib.Core.Logic.{_⊎_, inl, inr, ⊎-elim, _≢_}
+use mathlib.Core.Logic.{inl, inr, ⊎-elim, _≢_}
 use mathlib.Core.Bool.{Bool, true, false, _&&_, cond}
-use mathlib.Core.List.{List, [], _∷_}
+use mathlib.Core.List.{List, []}
 use Prim.Native.Nat.{ℕ, zero, suc, _+_, _-_, _≤_, _<_}
 use native.Mathlib.Omega.{arith}
 use native.Mathlib.Nat.{eq-or-lt-of-le}
 use native.Mathlib.Decide.{ℕ-discrete, decLe}
 use lib.Dec.{T, ltb, leb, eqb, leb→le, le→leb, ltb→lt, lt→ltb, eqb→eq, eqb-refl}
-use lib.ListN.{length, getD, set, replicate, drop, drop-of-length-le, length-set, length-replicate, getD-replicate}
+use lib.ListN.{length, set, replicate, drop, drop-of-length-le, length-set, length-replicate, getD-replicate}
 use lib.Seq.{getD-set-same, getD-set-other, drop-cons}
 use Rattle.lists.specs.Members.{both, left, right}
 use Rattle.lists.specs.Counts.{count, count-le, count-or, count-lt, count-suc, count-find, count-none, count-all, count-empty}

@@ -1,16 +1,16 @@
 -- Counts and the seat property leave one plan only.
 -- Key idea: two such plans agree on who sits by the end of slot s, for s = 0, 1, .. in turn. If unit j sits in slot s+1 in one and later in the other,
 -- the counts give a unit i that sits in slot s+1 in the other and later in the first; then each of i and j would come before the other.
-use mathlib.Core.Path.{_≡_, refl, sym, ap, _∙_, subst}
-use mathlib.Core.Logic.{_⊎_, inl, inr, ⊎-elim, _≢_}
-use mathlib.Core.Bool.{Bool, true, false, _&&_}
-use Prim.Native.Nat.{ℕ, zero, suc, _+_, _-_, _≤_, _<_}
+use mathlib.Core.Path.{_≡_, sym}
+use mathlib.Core.Logic.{inl, inr}
+use mathlib.Core.Bool.{Bool, _&&_}
+use Prim.Native.Nat.{ℕ, zero, suc, _≤_, _<_}
 use native.Mathlib.Omega.{arith}
 use native.Mathlib.Decide.{ℕ-discrete, decLe}
-use lib.Dec.{T, leb, ltb, leb→le, le→leb, ltb→lt, lt→ltb}
+use lib.Dec.{ltb, ltb→lt, lt→ltb}
 use Rattle.lists.specs.Members.{both, left, right, within-iff}
-use Rattle.lists.specs.Counts.{count, count-or, count-lt, count-find}
-use Rattle.seating.specs.Seating.{Before, seatedBy, Complete}
+use Rattle.lists.specs.Counts.{count-or, count-lt, count-find}
+use Rattle.seating.specs.Seating.{seatedBy, Complete}
 use Rattle.seating.specs.OrderLaws.{not-both}
 
 -- x's seats by the end of slot s are y's

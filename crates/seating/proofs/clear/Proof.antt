@@ -1,7 +1,7 @@
 -- The places in front hold 0, and the others what they had.
-use mathlib.Core.Path.{_≡_, refl, sym, ap, _∙_}
-use mathlib.Core.List.{List, [], _++_, append-nil}
-use Prim.Native.Nat.{ℕ, _+_, _-_, _≤_, _<_}
+use mathlib.Core.Path.{_≡_, refl, ap, _∙_}
+use mathlib.Core.List.{List, _++_, append-nil}
+use Prim.Native.Nat.{ℕ, _-_, _≤_}
 use native.Mathlib.Omega.{arith}
 use lib.ListN.{length, drop, replicate, set, length-set, drop-of-length-le}
 use borrow.Author.Fill.{fill-none, fill-more}
@@ -48,7 +48,8 @@ returns c =
     let l = c .before .loop in
     let e : l .j ≡ length plan₀ = omega arith in
     l .inv .3 ∙ ap (λ (k : ℕ). replicate k 0 ++ drop k plan₀) e
-    ∙ ap (λ (xs : List ℕ). replicate (length plan₀) 0 ++ xs) (drop-of-length-le plan₀ {i = length plan₀} (omega arith)) ∙ append-nil (replicate (length plan₀) 0)
+    ∙ ap (λ (xs : List ℕ). replicate (length plan₀) 0 ++ xs) (drop-of-length-le plan₀ {i = length plan₀} (omega arith))
+    ∙ append-nil (replicate (length plan₀) 0)
 
 pub clear-spec : {M : Type 1} → statement M
 clear-spec =

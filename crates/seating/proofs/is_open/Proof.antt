@@ -1,7 +1,7 @@
 -- Both tests, as the definition has them.
-use mathlib.Core.Path.{_≡_, refl, sym, ap}
-use mathlib.Core.Bool.{Bool, true, false, _&&_}
-use lib.Dec.{eqb, leb}
+use mathlib.Core.Path.{refl, sym, ap}
+use mathlib.Core.Bool.{Bool, _&&_}
+use lib.Dec.{leb}
 use borrow.Author.Tests.{eq-eqb, ne-eqb}
 use Rattle.seating.proofs.is_open.Statement.{statement}
 use Rattle.seating.proofs.is_open.Tie as tie

@@ -1,9 +1,8 @@
 -- After j units these stand at their ranks, and each slot's entry has moved on by the units placed from it.
 use mathlib.Core.Path.{_≡_, refl, sym, ap, _∙_}
-use mathlib.Core.List.{List}
 use Prim.Native.Nat.{ℕ, _+_, _-_, _≤_, _<_}
 use native.Mathlib.Omega.{arith}
-use lib.ListN.{length, getD, set, length-set}
+use lib.ListN.{length, length-set}
 use Rattle.seating.specs.Seating.{at, rank, byRank}
 use Rattle.seating.specs.OrderLaws.{rank-below}
 use Rattle.seating.specs.Sorting.{closing, closingBefore, Lists}

@@ -1,12 +1,12 @@
 -- The counts rise from at least 0, so the difference of two that follow each other is a number of seats.
 use mathlib.Core.Path.{_≡_, subst}
-use Prim.Native.Nat.{ℕ, suc, _+_, _-_, _≤_, _<_}
+use Prim.Native.Nat.{ℕ, suc, _-_}
 use native.Mathlib.Omega.{arith}
-use lib.ListN.{length, getD}
-use lib.IntN.{ℤ, pos, _-ℤ_}
+use lib.ListN.{getD}
+use lib.IntN.{ℤ, pos}
 use lib.Signed.{_≤ℤ_}
 use mir.Syntax.{w16}
-use mir.Val.{SFits, toZ, ofZ}
+use mir.Val.{SFits}
 use mir.Facts.{toZ-ofZ}
 use Rattle.seating.proofs.SlotLaws.{rise-fits, rise-casts, rise-is}
 use borrow.Author.Needs.{needs}

@@ -1,7 +1,7 @@
 -- The units in order, a room of zeros, and then slot after slot.
-use mathlib.Core.Path.{_≡_, refl, sym, ap, _∙_}
+use mathlib.Core.Path.{_≡_, ap, _∙_}
 use mathlib.Core.List.{List}
-use Prim.Native.Nat.{ℕ, _+_, _-_, _≤_, _<_}
+use Prim.Native.Nat.{ℕ}
 use native.Mathlib.Omega.{arith}
 use lib.ListN.{length, replicate}
 use Rattle.seating.specs.Seating.{at}
@@ -32,7 +32,9 @@ seat-slots-requires c κs =
     let size : length (ordered .last .1 .0) ≡ length (st .args .order .now) = ordered .kept .1 .0 in (
       (
         omega (arith, plan, p .1 .1),
-        λ j h. omega (arith, units j (omega (arith, h, size, p .0 .lists, p .1 .0)), ap (λ (xs : List ℕ). at xs j) (ordered .ensures), plan, p .1 .1, p .0 .lists),
+        λ j h.
+            let same = ap (λ (xs : List ℕ). at xs j) (ordered .ensures) in
+            omega (arith, units j (omega (arith, h, size, p .0 .lists, p .1 .0)), same, plan, p .1 .1, p .0 .lists),
       ),
       (p .0 .slots .0, p .0 .slots .1, p .0 .rising),
     )

@@ -4,8 +4,8 @@ use mathlib.Core.Logic.{⊎-elim}
 use mathlib.Core.List.{List}
 use Prim.Native.Nat.{ℕ, _+_, _-_, _≤_, _<_}
 use native.Mathlib.Omega.{arith}
-use lib.ListN.{length, getD, set, drop, length-set}
-use Rattle.seating.specs.Seating.{at, freeOpen, seatSlot}
+use lib.ListN.{length, drop, length-set}
+use Rattle.seating.specs.Seating.{at, seatSlot}
 use Rattle.seating.proofs.SlotLaws.{seat-none, seat-end, seat-open, seat-shut}
 use Rattle.seating.proofs.seat_slot.Statement.{statement}
 use Rattle.seating.proofs.seat_slot.Tie as tie
