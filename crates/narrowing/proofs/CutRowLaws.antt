@@ -9,10 +9,10 @@ use native.Mathlib.Decide.{ℕ-discrete, decLe}
 use lib.ListN.{length, getD, set, length-set}
 use lib.Seq.{getD-set-same, getD-set-other}
 use lib.IntN.{ℤ}
-use Rattle.narrowing.specs.Cut.{LeastCut}
-use Rattle.narrowing.specs.Carry.{AdmitsAt, Barred, LeastCutAt}
+use Rattle.cuts.specs.Cut.{LeastCut}
+use Rattle.cuts.specs.Carry.{AdmitsAt, Barred, LeastCutAt}
 use Rattle.narrowing.specs.Windows.{KnownCut, KnownRow, CutRow, Floor}
-use Rattle.narrowing.proofs.SearchLaws.{barred-later, least-barred}
+use Rattle.cuts.specs.CutLaws.{barred-later, least-barred}
 
 module _ (w : ℕ) (d m : List ℤ) where
   pub floor-later : (f g : ℕ) (floor : List ℕ) → f ≤ g → Floor w d m f floor → Floor w d m g floor

@@ -10,7 +10,7 @@ use lib.ListN.{length, getD, take, drop, replicate, length-append, length-take, 
 use lib.Seq.{getD-append-add, getD-take, getD-drop}
 use lib.IntN.{ℤ}
 use Rattle.network.specs.TableLaws.{row-inside}
-use Rattle.narrowing.specs.Carry.{LeastCutAt}
+use Rattle.cuts.specs.Carry.{LeastCutAt}
 use Rattle.narrowing.specs.Windows.{slot, KnownCut, KnownRow, CutRow, Floor, KnownCuts, CutRows}
 use Rattle.narrowing.proofs.CutRowLaws.{floor-later}
 

@@ -17,8 +17,9 @@ use Rattle.sheet.specs.Sheet.{Window, Sheet, noWindow, top, countIn, lawful, li
 use Rattle.sheet.specs.PlanLaws.{lawful-iff, earliest-bound, earliest-attained, latest-bound, latest-attained}
 use Rattle.sheet.specs.PotentialLaws.{Valid, lawful-feasible}
 use Rattle.sheet.specs.Solved.{Solved}
-use Rattle.narrowing.specs.Cut.{Keeps, Admits, LeastCut, mirrored, addedArc, cutTo}
-use Rattle.narrowing.proofs.CutLaws.{Gains, cut-lawful, cut-valid, plan-gains, gains-feasible}
+use Rattle.cuts.specs.Cut.{Keeps, Admits, LeastCut}
+use Rattle.narrowing.specs.CutSheet.{mirrored, addedArc, cutTo}
+use Rattle.narrowing.proofs.CutSheetLaws.{Gains, cut-lawful, cut-valid, plan-gains, gains-feasible}
 use Rattle.narrowing.proofs.MirrorLaws.{IsMirrored, turned, turned-feasible, mirrored-back}
 
 -- a feasible potential of a sheet's limits has a lawful plan

@@ -5,12 +5,20 @@ use Prim.Native.Nat.{ℕ, zero, suc, _+_, _-_, _*_, _≤_, _<_}
 use native.Mathlib.Omega.{arith}
 use native.Mathlib.Numerals.{add-one}
 use lib.ListN.{length, take, drop}
-use lib.IntN.{ℤ}
+use lib.IntN.{ℤ, negsuc, _+ℤ_}
+use mir.Syntax.{w16}
+use mir.Val.{SFits}
+use Rattle.integers.specs.Parts.{up, dn, sum, fits-within}
+use Rattle.cuts.specs.Sink.{Within}
 use Rattle.lists.specs.Lists.{run, joined}
 use Rattle.lists.specs.Values.{listOf, length-listOf, front-length, front-part}
 use Rattle.network.specs.Network.{Weights}
 use Rattle.network.specs.Table.{tableOf}
 use Rattle.network.specs.TableLaws.{length-rows, rows-snoc}
+
+-- one less than a modest number fits
+pub one-less-fits : (a : ℤ) → Within 1000 a → SFits w16 (a +ℤ negsuc 0)
+one-less-fits a p = fits-within w16 (a +ℤ negsuc 0) 1001 tt (omega (arith, sum a (negsuc 0))) (omega (arith, sum a (negsuc 0)))
 
 module _ (w : ℕ) (f : Weights) where
   -- the first a rows of t are done, and the rest is as in t₀

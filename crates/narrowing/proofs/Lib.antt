@@ -1,10 +1,6 @@
-mod SinkLaws
-mod CutLaws
+mod CutSheetLaws
 mod MirrorLaws
 mod ExtremeLaws
-mod CarryLaws
-mod SettleLaws
-mod SearchLaws
 mod FillLaws
 mod MarkLaws
 mod CutRowLaws

@@ -11,7 +11,7 @@ use lib.Seq.{getD-set-same, getD-set-other}
 use Rattle.lists.specs.Values.{Filled, filled-length, filled-new, filled-old}
 use Rattle.network.specs.TableLaws.{row-inside}
 use lib.IntN.{ℤ}
-use Rattle.narrowing.specs.Carry.{LeastCutAt}
+use Rattle.cuts.specs.Carry.{LeastCutAt}
 use Rattle.narrowing.specs.Windows.{slot, Units, Marked, KnownCut, KnownCuts, CutRows, Admitted, LeastCuts}
 
 -- a place of the table is one pair of slots

@@ -8,8 +8,9 @@ use lib.IntN.{ℤ, pos, negℤ, _+ℤ_}
 use lib.Signed.{_≤ℤ_}
 use Rattle.integers.specs.Parts.{ints, sum, neg}
 use Rattle.network.specs.Network.{Weights, Potential, Feasible}
-use Rattle.narrowing.specs.Cut.{Admits, mirrored}
-use Rattle.narrowing.specs.Sink.{Within, Closed}
+use Rattle.cuts.specs.Cut.{Admits}
+use Rattle.narrowing.specs.CutSheet.{mirrored}
+use Rattle.cuts.specs.Sink.{Within, Closed}
 
 -- N is M seen from the end
 abbrev pub IsMirrored : ℕ → Weights → Weights → Type 0

@@ -31,9 +31,11 @@ use Rattle.sheet.specs.Questions.{windowsOf}
 use Rattle.sheet.specs.QuestionLaws.{windowsOf-length, windowsOf-at}
 use Rattle.sheet.specs.Solved.{Solved}
 use Rattle.seating.specs.FeasibleLaws.{feasible-lawful}
-use Rattle.narrowing.specs.Cut.{LeastCut, Admits, mirrored, oneLess, addedArc}
-use Rattle.narrowing.specs.Sink.{Within, Closed}
-use Rattle.narrowing.specs.Carry.{into, ModestTable, Network}
+use Rattle.cuts.specs.Cut.{LeastCut, Admits}
+use Rattle.narrowing.specs.CutSheet.{mirrored, oneLess, addedArc}
+use Rattle.cuts.specs.Sink.{Within, Closed}
+use Rattle.cuts.specs.Carry.{into, Network}
+use Rattle.narrowing.specs.CutSheet.{ModestTable}
 use Rattle.narrowing.specs.Windows.{Units, Prefixed, Admitted, LeastCuts, AdmittedLate, GreatestCuts}
 use Rattle.narrowing.specs.Narrowing.{Narrowable, earliestRoom, latestRoom}
 use Rattle.narrowing.proofs.ExtremeLaws.{Seatable, plan-admits, earliest-is, plan-admits-late, latest-is}

@@ -13,9 +13,10 @@ use Rattle.lists.specs.Values.{Filled, filled-length, filled-new, filled-old}
 use Rattle.network.specs.Network.{Weights, Potential, Feasible}
 use Rattle.network.specs.Table.{tableOf, entry}
 use Rattle.network.specs.TableLaws.{entry-front}
-use Rattle.narrowing.specs.Cut.{Admits, LeastCut, mirrored}
-use Rattle.narrowing.specs.Sink.{Within, Closed}
-use Rattle.narrowing.specs.Carry.{into, Network, AdmitsAt, LeastCutAt}
+use Rattle.cuts.specs.Cut.{Admits, LeastCut}
+use Rattle.narrowing.specs.CutSheet.{mirrored}
+use Rattle.cuts.specs.Sink.{Within, Closed}
+use Rattle.cuts.specs.Carry.{into, Network, AdmitsAt, LeastCutAt}
 use Rattle.narrowing.specs.Windows.{Units, Prefixed, Admitted, LeastCuts, AdmittedTurned, LeastCutsTurned, AdmitsLate, GreatestCut, AdmittedLate, GreatestCuts}
 use Rattle.narrowing.proofs.MirrorLaws.{IsMirrored, closed-mirrored}
 

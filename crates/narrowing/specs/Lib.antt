@@ -1,5 +1,3 @@
-pub mod Cut
-pub mod Sink
-pub mod Carry
+pub mod CutSheet
 pub mod Windows
 pub mod Narrowing

@@ -7,8 +7,9 @@ use Prim.Native.Nat.{ℕ, suc, _+_, _-_, _*_, _≤_, _<_}
 use lib.ListN.{length, getD}
 use lib.IntN.{ℤ}
 use Rattle.network.specs.Table.{entry}
-use Rattle.narrowing.specs.Cut.{Admits, LeastCut, mirrored}
-use Rattle.narrowing.specs.Carry.{into, AdmitsAt, Barred, LeastCutAt}
+use Rattle.cuts.specs.Cut.{Admits, LeastCut}
+use Rattle.narrowing.specs.CutSheet.{mirrored}
+use Rattle.cuts.specs.Carry.{into, AdmitsAt, Barred, LeastCutAt}
 
 abbrev pub slot : ℕ → List ℕ → ℕ → ℕ → ℕ
 slot w marks f l = getD marks (f * w + l) 0

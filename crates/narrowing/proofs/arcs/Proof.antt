@@ -1,6 +1,6 @@
 use Rattle.narrowing.proofs.FillLaws.{RowsDone, rows-none, rows-more, rows-length, rows-all}
-use Rattle.narrowing.proofs.SettleLaws.{part-length}
-use Rattle.narrowing.specs.Cut.{mirrored, oneLess}
+use lib.Seq.{length-slice}
+use Rattle.narrowing.specs.CutSheet.{mirrored, oneLess}
 use Rattle.network.specs.TableLaws.{row-inside}
 use Rattle.network.specs.Table.{entry}
 use lib.ListN.{length}
@@ -10,9 +10,6 @@ use native.Mathlib.Omega.{arith}
 use borrow.Author.Needs.{needs}
 use Rattle.narrowing.proofs.arcs.Statement.{statement}
 use Rattle.narrowing.proofs.arcs.Tie as tie
-use Rattle.narrowing.proofs.arcs.Reads as reads
-use Rattle.narrowing.proofs.arcs.Lts as lts
-use Rattle.narrowing.proofs.arcs_row.Reads as arcs-row-reads
 
 abbrev Inv-loop : tie.InvT-loop
 Inv-loop inside w out₀ b₀ out b = (b ≤ w) × (length out ≡ length out₀) × RowsDone w (oneLess (entry w inside)) b out₀ out
@@ -59,7 +56,7 @@ arcs-row-requires c κs =
     let l = c .before .before .loop in
     let w = st .args .w in
     let n = row-inside (l .b) w (omega arith) in
-    let p = part-length (l .b * w) (l .b * w + w) (l .out) (omega arith) (omega arith) in
+    let p = length-slice (l .b * w) (l .b * w + w) (l .out) (omega arith) in
     (omega arith, st .pre .0, omega arith, st .pre .2)
 
 add-b : tie.Need-add-b Inv-loop μ-loop

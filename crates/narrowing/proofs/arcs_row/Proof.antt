@@ -1,5 +1,5 @@
-use Rattle.narrowing.proofs.CarryLaws.{sum-fits}
-use Rattle.narrowing.specs.Cut.{oneLess}
+use Rattle.narrowing.proofs.FillLaws.{one-less-fits}
+use Rattle.narrowing.specs.CutSheet.{oneLess}
 use Rattle.network.specs.TableLaws.{row-inside}
 use Rattle.network.specs.Table.{entry}
 use mir.Facts.{toZ-ofZ}
@@ -14,8 +14,6 @@ use Rattle.lists.specs.Values.{listOf, Filled, filled-length, filled-all, fille
 use borrow.Author.Needs.{needs}
 use Rattle.narrowing.proofs.arcs_row.Statement.{statement}
 use Rattle.narrowing.proofs.arcs_row.Tie as tie
-use Rattle.narrowing.proofs.arcs_row.Reads as reads
-use Rattle.narrowing.proofs.arcs_row.Lts as lts
 
 abbrev Inv-loop : tie.InvT-loop
 Inv-loop inside w b row₀ a₀ row a = (a ≤ w) × Filled (oneLess (entry w inside) b) a row₀ row
@@ -52,7 +50,7 @@ sub-row c =
     let a = st .args in
     let i = c .before .before .loop .a * a .w + a .b in
     let f : SFits w16 (getD (a .inside .now) i (pos 0)) = search needs in
-    rw (toZ-ofZ f) (sum-fits (getD (a .inside .now) i (pos 0)) (negsuc 0) (st .pre .3 (c .before .before .loop .a) (a .b) (omega arith) (st .pre .0)) (omega arith))
+    rw (toZ-ofZ f) (one-less-fits (getD (a .inside .now) i (pos 0)) (st .pre .3 (c .before .before .loop .a) (a .b) (omega arith) (st .pre .0)))
 
 mul-t13 : tie.Need-mul-t13 Inv-loop μ-loop
 mul-t13 c = omega arith
@@ -79,7 +77,7 @@ loop-again c =
     let x = getD (a .inside .now) i (pos 0) in
     let f : SFits w16 x = search needs in
     let n = row-inside (l .a) (a .w) (omega arith) in
-    let g = sum-fits x (negsuc 0) (st .pre .3 (l .a) (a .b) (omega arith) (st .pre .0)) (omega arith) in
+    let g = one-less-fits x (st .pre .3 (l .a) (a .b) (omega arith) (st .pre .0)) in
     (omega arith, simp (toZ-ofZ f, toZ-ofZ g) (filled-store (oneLess (entry (a .w) (a .inside .now)) (a .b)) (l .a) (a .row .now) (l .row) (l .inv .1) (x +ℤ negsuc 0) (omega arith) refl))
 
 same-length : tie.Need-same-length Inv-loop μ-loop

@@ -10,10 +10,6 @@ use native.Mathlib.Omega.{arith}
 use borrow.Author.Needs.{needs}
 use Rattle.narrowing.proofs.cut_arcs.Statement.{statement}
 use Rattle.narrowing.proofs.cut_arcs.Tie as tie
-use Rattle.narrowing.proofs.cut_arcs.Reads as reads
-use Rattle.narrowing.proofs.cut_arcs.Lts as lts
-use Rattle.narrowing.proofs.arcs.Reads as arcs-reads
-use Rattle.sheet.proofs.inside.windows_inside.Reads as windows-inside-reads
 
 slice-aggregate-windows-inside : tie.Need-slice-aggregate-windows-inside
 slice-aggregate-windows-inside c = search needs

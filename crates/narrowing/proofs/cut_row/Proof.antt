@@ -1,5 +1,5 @@
 use Rattle.narrowing.proofs.CutRowLaws.{Cutting, next, cutting-none, next-level, next-barred, cutting-skip, cutting-mark}
-use Rattle.narrowing.specs.Carry.{Barred}
+use Rattle.cuts.specs.Carry.{Barred}
 use Rattle.narrowing.specs.Windows.{CutRow}
 use lib.ListN.{length, getD, set, length-set}
 use mathlib.Core.Logic.{⊎-elim}
@@ -9,10 +9,6 @@ use native.Mathlib.Omega.{arith}
 use borrow.Author.Needs.{needs}
 use Rattle.narrowing.proofs.cut_row.Statement.{statement}
 use Rattle.narrowing.proofs.cut_row.Tie as tie
-use Rattle.narrowing.proofs.cut_row.Reads as reads
-use Rattle.narrowing.proofs.cut_row.Lts as lts
-use Rattle.narrowing.proofs.larger.Reads as larger-reads
-use Rattle.narrowing.proofs.least_cut.Reads as least-cut-reads
 
 abbrev Inv-loop : tie.InvT-loop
 Inv-loop d m w f row₀ floor₀ low₀ l₀ row floor low l = Cutting w d m f row₀ row floor low l × (length floor ≡ length floor₀)

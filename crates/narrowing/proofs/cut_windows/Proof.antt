@@ -8,9 +8,6 @@ use native.Mathlib.Omega.{arith}
 use borrow.Author.Needs.{needs}
 use Rattle.narrowing.proofs.cut_windows.Statement.{statement}
 use Rattle.narrowing.proofs.cut_windows.Tie as tie
-use Rattle.narrowing.proofs.cut_windows.Reads as reads
-use Rattle.narrowing.proofs.cut_windows.Lts as lts
-use Rattle.narrowing.proofs.cut_row.Reads as cut-row-reads
 
 abbrev Inv-loop : tie.InvT-loop
 Inv-loop d m w marks₀ floor₀ f₀ marks floor f = CutWindows w d m marks₀ marks floor f

@@ -8,10 +8,6 @@ use native.Mathlib.Omega.{arith}
 use borrow.Author.Needs.{needs}
 use Rattle.narrowing.proofs.greatest_cuts.Statement.{statement}
 use Rattle.narrowing.proofs.greatest_cuts.Tie as tie
-use Rattle.narrowing.proofs.greatest_cuts.Reads as reads
-use Rattle.narrowing.proofs.greatest_cuts.Lts as lts
-use Rattle.narrowing.proofs.least_cuts_turned.Reads as least-cuts-turned-reads
-use Rattle.narrowing.proofs.mirror.Reads as mirror-reads
 
 slice-aggregate-mirror : tie.Need-slice-aggregate-mirror
 slice-aggregate-mirror c = search needs

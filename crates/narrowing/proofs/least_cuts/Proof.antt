@@ -7,11 +7,6 @@ use native.Mathlib.Omega.{arith}
 use borrow.Author.Needs.{needs}
 use Rattle.narrowing.proofs.least_cuts.Statement.{statement}
 use Rattle.narrowing.proofs.least_cuts.Tie as tie
-use Rattle.narrowing.proofs.least_cuts.Reads as reads
-use Rattle.narrowing.proofs.least_cuts.Lts as lts
-use Rattle.narrowing.proofs.cut_windows.Reads as cut-windows-reads
-use Rattle.narrowing.proofs.mark.Reads as mark-reads
-use Rattle.narrowing.proofs.read_marks.Reads as read-marks-reads
 
 slice-aggregate-mark : tie.Need-slice-aggregate-mark
 slice-aggregate-mark c = search needs

@@ -6,10 +6,6 @@ use native.Mathlib.Omega.{arith}
 use borrow.Author.Needs.{needs}
 use Rattle.narrowing.proofs.least_cuts_turned.Statement.{statement}
 use Rattle.narrowing.proofs.least_cuts_turned.Tie as tie
-use Rattle.narrowing.proofs.least_cuts_turned.Reads as reads
-use Rattle.narrowing.proofs.least_cuts_turned.Lts as lts
-use Rattle.narrowing.proofs.least_cuts.Reads as least-cuts-reads
-use Rattle.narrowing.proofs.reflect.Reads as reflect-reads
 
 slice-aggregate-reflect : tie.Need-slice-aggregate-reflect
 slice-aggregate-reflect c = search needs

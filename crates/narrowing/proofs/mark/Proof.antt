@@ -7,8 +7,6 @@ use native.Mathlib.Omega.{arith}
 use borrow.Author.Needs.{needs}
 use Rattle.narrowing.proofs.mark.Statement.{statement}
 use Rattle.narrowing.proofs.mark.Tie as tie
-use Rattle.narrowing.proofs.mark.Reads as reads
-use Rattle.narrowing.proofs.mark.Lts as lts
 
 abbrev Inv-loop : tie.InvT-loop
 Inv-loop first last plan w marks₀ j₀ j-end marks j = (j ≤ length first) × (j-end ≡ length first) × (length marks ≡ length marks₀) × Marked j w first last plan marks

@@ -1,6 +1,6 @@
 use Rattle.narrowing.proofs.FillLaws.{RowsDone, rows-none, rows-more, rows-length, rows-all}
-use Rattle.narrowing.proofs.SettleLaws.{part-length}
-use Rattle.narrowing.specs.Cut.{mirrored, oneLess}
+use lib.Seq.{length-slice}
+use Rattle.narrowing.specs.CutSheet.{mirrored, oneLess}
 use Rattle.network.specs.TableLaws.{row-inside}
 use Rattle.network.specs.Table.{entry}
 use lib.ListN.{length}
@@ -10,9 +10,6 @@ use native.Mathlib.Omega.{arith}
 use borrow.Author.Needs.{needs}
 use Rattle.narrowing.proofs.mirror.Statement.{statement}
 use Rattle.narrowing.proofs.mirror.Tie as tie
-use Rattle.narrowing.proofs.mirror.Reads as reads
-use Rattle.narrowing.proofs.mirror.Lts as lts
-use Rattle.narrowing.proofs.mirror_row.Reads as mirror-row-reads
 
 abbrev Inv-loop : tie.InvT-loop
 Inv-loop t w out₀ a₀ out a = (a ≤ w) × (length out ≡ length out₀) × RowsDone w (mirrored (w - 1) (entry w t)) a out₀ out
@@ -59,7 +56,7 @@ mirror-row-requires c κs =
     let l = c .before .before .loop in
     let w = st .args .w in
     let n = row-inside (l .a) w (omega arith) in
-    let p = part-length (l .a * w) (l .a * w + w) (l .out) (omega arith) (omega arith) in
+    let p = length-slice (l .a * w) (l .a * w + w) (l .out) (omega arith) in
     (omega arith, st .pre .0, omega arith)
 
 add-a : tie.Need-add-a Inv-loop μ-loop

@@ -1,4 +1,4 @@
-use Rattle.narrowing.specs.Cut.{mirrored}
+use Rattle.narrowing.specs.CutSheet.{mirrored}
 use Rattle.network.specs.TableLaws.{row-inside}
 use Rattle.network.specs.Table.{entry}
 use mir.Facts.{toZ-ofZ}
@@ -13,8 +13,6 @@ use Rattle.lists.specs.Values.{listOf, Filled, filled-length, filled-all, fille
 use borrow.Author.Needs.{needs}
 use Rattle.narrowing.proofs.mirror_row.Statement.{statement}
 use Rattle.narrowing.proofs.mirror_row.Tie as tie
-use Rattle.narrowing.proofs.mirror_row.Reads as reads
-use Rattle.narrowing.proofs.mirror_row.Lts as lts
 
 abbrev Inv-loop : tie.InvT-loop
 Inv-loop t w a row₀ column b₀ row b = (b ≤ w) × (column ≡ w - 1 - a) × Filled (mirrored (w - 1) (entry w t) a) b row₀ row

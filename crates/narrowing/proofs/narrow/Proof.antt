@@ -8,11 +8,6 @@ use native.Mathlib.Omega.{arith}
 use borrow.Author.Needs.{needs}
 use Rattle.narrowing.proofs.narrow.Statement.{statement}
 use Rattle.narrowing.proofs.narrow.Tie as tie
-use Rattle.narrowing.proofs.narrow.Reads as reads
-use Rattle.narrowing.proofs.narrow.Lts as lts
-use Rattle.narrowing.proofs.cut_arcs.Reads as cut-arcs-reads
-use Rattle.narrowing.proofs.greatest_cuts.Reads as greatest-cuts-reads
-use Rattle.narrowing.proofs.least_cuts.Reads as least-cuts-reads
 
 slice-aggregate-cut-arcs : tie.Need-slice-aggregate-cut-arcs
 slice-aggregate-cut-arcs c = search needs

@@ -8,8 +8,6 @@ use native.Mathlib.Omega.{arith}
 use borrow.Author.Needs.{needs}
 use Rattle.narrowing.proofs.read_marks.Statement.{statement}
 use Rattle.narrowing.proofs.read_marks.Tie as tie
-use Rattle.narrowing.proofs.read_marks.Reads as reads
-use Rattle.narrowing.proofs.read_marks.Lts as lts
 
 abbrev Inv-loop : tie.InvT-loop
 Inv-loop first last w marks out₀ j₀ j-end out j = (j ≤ length first) × (j-end ≡ length first) × Filled (λ i. slot w marks (getD first i 0) (getD last i 0)) j out₀ out

@@ -6,8 +6,6 @@ use native.Mathlib.Omega.{arith}
 use borrow.Author.Needs.{needs}
 use Rattle.narrowing.proofs.reflect.Statement.{statement}
 use Rattle.narrowing.proofs.reflect.Tie as tie
-use Rattle.narrowing.proofs.reflect.Reads as reads
-use Rattle.narrowing.proofs.reflect.Lts as lts
 
 abbrev Inv-loop : tie.InvT-loop
 Inv-loop xs w out₀ top j₀ j-end out j = (j ≤ length xs) × (j-end ≡ length xs) × (top ≡ w) × Filled (λ i. w - getD xs i 0) j out₀ out

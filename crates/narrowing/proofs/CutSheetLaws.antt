@@ -23,7 +23,7 @@ use Rattle.sheet.specs.Sheet.{Window, Rule, Sheet, noWindow, top, countIn, insi
 use Rattle.sheet.specs.PlanLaws.{Lawful, lawful-iff, seated-inWindows}
 use Rattle.sheet.specs.LimitLaws.{countIn-split, inside-count, limit-fwd, limit-back, limit-same, atMost-ge, atLeast-rule, atLeast-windows, atLeast-le}
 use Rattle.sheet.specs.PotentialLaws.{Valid, lawful-feasible}
-use Rattle.narrowing.specs.Cut.{addedArc, cutTo}
+use Rattle.narrowing.specs.CutSheet.{addedArc, cutTo}
 
 -- ---- one entry of a list replaced
 pub howMany-set : {A : Type 0} (t : A → Bool) (d u : A) (xs : List A) (j : ℕ) → j < length xs
