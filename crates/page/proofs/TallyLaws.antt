@@ -2,21 +2,23 @@
 -- Key idea: one unit more raises the count of its own slot by one and no other, and so does the store.
 use mathlib.Core.Path.{_≡_, refl, sym, ap, _∙_, subst}
 use mathlib.Core.Bool.{Bool, true, false}
-use mathlib.Core.List.{List, [], _∷_, _++_, map}
-use Prim.Native.Nat.{ℕ, zero, suc, _+_, _≤_, _<_}
+use mathlib.Core.List.{List, [], _∷_, _++_}
+use Prim.Native.Nat.{ℕ, suc, _+_, _≤_, _<_}
 use native.Mathlib.Omega.{arith}
 use native.Mathlib.Decide.{ℕ-discrete}
 use native.Mathlib.Numerals.{add-one}
 use lib.Dec.{eqb}
-use lib.ListN.{length, getD, take, set, replicate, length-append, length-set, length-replicate, length-take, getD-replicate}
+use lib.ListN.{length, getD, take, set, replicate, length-set, length-replicate, length-take, getD-replicate}
 use lib.Seq.{take-suc, take-all, getD-set-same, getD-set-other, ext-getD}
 use borrow.Author.Tests.{eq-eqb, ne-eqb}
-use Rattle.lists.specs.Lists.{run, howMany, oneIf, joined}
+use Rattle.lists.specs.Lists.{howMany, oneIf, joined}
 use Rattle.lists.specs.Counts.{howMany-count, count-most}
+use Rattle.lists.specs.Values.{length-listOf, listOf-at}
 use Rattle.network.specs.Table.{mostBoundaries}
 use Rattle.sheet.specs.Limits.{maxSlots}
-use Rattle.page.specs.Page.{unitsIn, tally, planHead, unitLines, slotLines, planPage}
-use Rattle.page.specs.PageLaws.{SameSlots, slotLines-same}
+use Rattle.writing.specs.Writing.{planHead}
+use Rattle.page.specs.Page.{unitsIn, tally, unitLines, slotLines, planPage}
+use Rattle.page.specs.PageLaws.{three-length, SameSlots, slotLines-same}
 
 howMany-last : (t : ℕ → Bool) (xs : List ℕ) (x : ℕ) → howMany t (xs ++ (x ∷ [])) ≡ howMany t xs + oneIf (t x)
 howMany-last t [] x = omega arith
@@ -60,23 +62,13 @@ module _ {plan : List ℕ} {j : ℕ} {counts : List ℕ} (less : j < length plan
     at = λ t g. omega (arith, c .at t g, one-more t, ap oneIf (ne-eqb t (getD plan j 0) (λ e. omega arith)));
   }
 
--- a list of values, place by place
-values-length : (g : ℕ → ℕ) (i n : ℕ) → length (map g (run i n)) ≡ n
-values-length g i zero = refl
-values-length g i (suc n) = ap suc (values-length g (suc i) n)
-
-values-at : (g : ℕ → ℕ) (i n j : ℕ) → j < n → getD (map g (run i n)) j 0 ≡ g (i + j)
-values-at g i zero j h = absurd (omega arith)
-values-at g i (suc n) zero h = let e : i ≡ i + 0 = omega arith in ap g e
-values-at g i (suc n) (suc j) h = let e : suc i + j ≡ i + suc j = omega arith in values-at g (suc i) n j (omega arith) ∙ ap g e
-
 pub tally-at : (plan : List ℕ) (t : ℕ) → t < mostBoundaries → getD (tally plan) t 0 ≡ unitsIn plan t
 unfolding tally
-tally-at plan t h = let e : 0 + t ≡ t = omega arith in values-at (unitsIn plan) 0 mostBoundaries t h ∙ ap (unitsIn plan) e
+tally-at plan t h = listOf-at (unitsIn plan) mostBoundaries t 0 h
 
 pub tally-length : (plan : List ℕ) → length (tally plan) ≡ mostBoundaries
 unfolding tally
-tally-length plan = values-length (unitsIn plan) 0 mostBoundaries
+tally-length plan = length-listOf (unitsIn plan) mostBoundaries
 
 -- all units are counted
 pub counted-all : {plan : List ℕ} {j : ℕ} {counts : List ℕ} → length plan ≤ j → Counted plan j counts → counts ≡ tally plan
@@ -96,12 +88,9 @@ page-counted span plan earliest latest counts least greatest h e =
     counted : SameSlots span (unitsIn plan) (λ t. getD counts t 0)
     counted = record { at = λ t k m. let small : t < mostBoundaries = omega arith in sym (ap (λ c. getD c t 0) e ∙ tally-at plan t small) }
 
-joined-length : (a b c : List ℕ) → length (joined (a ∷ b ∷ c ∷ [])) ≡ length a + (length b + length c)
-joined-length a b c = simp length-append (omega arith)
-
 pub page-counted-length : (span : ℕ) (plan earliest latest counts : List ℕ) (least greatest : ℕ → ℕ) → span ≤ maxSlots → counts ≡ tally plan
     → length (planPage span plan earliest latest least greatest)
     ≡ length (planHead (length plan)) + (length (unitLines plan earliest latest) + length (slotLines span (λ t. getD counts t 0) least greatest))
 page-counted-length span plan earliest latest counts least greatest h e =
     ap length (page-counted span plan earliest latest counts least greatest h e)
-    ∙ joined-length (planHead (length plan)) (unitLines plan earliest latest) (slotLines span (λ t. getD counts t 0) least greatest)
+    ∙ three-length (planHead (length plan)) (unitLines plan earliest latest) (slotLines span (λ t. getD counts t 0) least greatest)

@@ -1,2 +1,5 @@
 pub mod Page
 pub mod PageLaws
+pub mod PageBounds
+pub mod PageLines
+pub mod PageLinesLaws

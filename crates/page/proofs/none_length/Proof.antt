@@ -3,7 +3,7 @@ use native.Mathlib.Omega.{arith}
 use denote.Ref.{now}
 use lib.ListN.{length}
 use Rattle.network.specs.Table.{entry}
-use Rattle.page.specs.Page.{digits}
+use Rattle.writing.specs.Writing.{digits}
 use Rattle.page.specs.PageLaws.{nonePage-length}
 use Rattle.page.proofs.none_length.Statement.{statement}
 use Rattle.page.proofs.none_length.Tie as tie

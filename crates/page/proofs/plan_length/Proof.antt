@@ -4,8 +4,9 @@ use Prim.Native.Nat.{ℕ, _+_}
 use native.Mathlib.Omega.{arith}
 use denote.Ref.{now}
 use lib.ListN.{length}
-use Rattle.page.specs.Page.{text, digits, oneNumber, planHead, leastFrom, greatestFrom}
-use Rattle.page.specs.PageLaws.{oneNumber-length}
+use Rattle.writing.specs.Writing.{text, digits, oneNumber, planHead}
+use Rattle.page.specs.Page.{leastFrom, greatestFrom}
+use Rattle.writing.specs.WritingLaws.{oneNumber-length}
 use Rattle.page.proofs.TallyLaws.{tally-length, page-counted-length}
 use Rattle.page.proofs.plan_length.Statement.{statement}
 use Rattle.page.proofs.plan_length.Tie as tie

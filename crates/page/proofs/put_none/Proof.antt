@@ -5,8 +5,9 @@ use Prim.Native.Nat.{ℕ}
 use denote.Ref.{now}
 use Rattle.lists.specs.Lists.{joined}
 use Rattle.network.specs.Table.{entry}
-use Rattle.page.specs.Page.{Room, Written, text, oneNumber, ringLines, shortfallOf, shortfallLine, nonePage}
-use Rattle.page.specs.PageLaws.{Pending, pending-whole, pending-room, pending-after, pending-nothing}
+use Rattle.writing.specs.Writing.{Room, Written, text, oneNumber, shortfallLine}
+use Rattle.page.specs.Page.{ringLines, shortfallOf, nonePage}
+use Rattle.writing.specs.WritingLaws.{Pending, pending-whole, pending-room, pending-after, pending-nothing}
 use Rattle.page.proofs.put_none.Statement.{statement}
 use Rattle.page.proofs.put_none.Tie as tie
 

@@ -5,8 +5,9 @@ use mathlib.Core.List.{List, [], _∷_}
 use Prim.Native.Nat.{ℕ, _+_}
 use denote.Ref.{now}
 use lib.ListN.{length, getD}
-use Rattle.page.specs.Page.{text, oneNumber, planHead, unitLines, slotLines, leastFrom, greatestFrom, tablePage}
-use Rattle.page.specs.PageLaws.{Pending, pending-whole, pending-room, pending-after, pending-nothing}
+use Rattle.writing.specs.Writing.{text, oneNumber, planHead}
+use Rattle.page.specs.Page.{unitLines, slotLines, leastFrom, greatestFrom, tablePage}
+use Rattle.writing.specs.WritingLaws.{Pending, pending-whole, pending-room, pending-after, pending-nothing}
 use Rattle.page.proofs.TallyLaws.{tally-length, page-counted}
 use Rattle.page.proofs.put_plan.Statement.{statement}
 use Rattle.page.proofs.put_plan.Tie as tie

@@ -6,8 +6,9 @@ use native.Mathlib.Omega.{arith}
 use denote.Ref.{now}
 use lib.ListN.{length, getD}
 use Rattle.lists.specs.Lists.{run, fromTo}
-use Rattle.page.specs.Page.{Room, Written, slotLine, slotLineAt, slotLines, leastFrom, greatestFrom}
-use Rattle.page.specs.PageLaws.{Pending, pending-whole, pending-room, pending-after, lines-next, lines-end}
+use Rattle.writing.specs.Writing.{Room, Written, slotLine}
+use Rattle.page.specs.Page.{slotLineAt, slotLines, leastFrom, greatestFrom}
+use Rattle.writing.specs.WritingLaws.{Pending, pending-whole, pending-room, pending-after, lines-next, lines-end}
 use Rattle.page.proofs.put_slots.Statement.{statement}
 use Rattle.page.proofs.put_slots.Tie as tie
 

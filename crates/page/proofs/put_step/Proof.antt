@@ -9,7 +9,8 @@ use mir.Facts.{toZ-ofZ}
 use denote.Ref.{now}
 use Rattle.integers.specs.Parts.{up, dn}
 use Rattle.network.specs.Table.{entry}
-use Rattle.page.specs.Page.{Room, Written, text, boundLine, stepLine}
+use Rattle.writing.specs.Writing.{Room, Written, text, boundLine}
+use Rattle.page.specs.Page.{stepLine}
 use Rattle.page.specs.PageLaws.{step-forward, step-backward}
 use Rattle.page.proofs.put_step.Statement.{statement}
 use Rattle.page.proofs.put_step.Tie as tie

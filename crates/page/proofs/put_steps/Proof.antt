@@ -9,7 +9,8 @@ use Rattle.lists.specs.Lists.{joined}
 use Rattle.network.specs.Network.{Weights}
 use Rattle.network.specs.Table.{entry}
 use Rattle.page.specs.Page.{ringLines, stepLines, stepLine}
-use Rattle.page.specs.PageLaws.{Pending, pending-whole, pending-room, pending-after, pending-nothing, ring-start, ring-next, ring-end}
+use Rattle.writing.specs.WritingLaws.{Pending, pending-whole, pending-room, pending-after, pending-nothing}
+use Rattle.page.specs.PageLaws.{ring-start, ring-next, ring-end}
 use Rattle.page.proofs.put_steps.Statement.{statement}
 use Rattle.page.proofs.put_steps.Tie as tie
 

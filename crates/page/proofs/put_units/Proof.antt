@@ -7,8 +7,9 @@ use native.Mathlib.Numerals.{add-one}
 use denote.Ref.{now}
 use lib.ListN.{length, getD}
 use Rattle.lists.specs.Lists.{run, joined}
-use Rattle.page.specs.Page.{unitLine, unitLineAt, unitLines}
-use Rattle.page.specs.PageLaws.{Pending, pending-whole, pending-room, pending-after, lines-next, lines-end}
+use Rattle.writing.specs.Writing.{unitLine}
+use Rattle.page.specs.Page.{unitLineAt, unitLines}
+use Rattle.writing.specs.WritingLaws.{Pending, pending-whole, pending-room, pending-after, lines-next, lines-end}
 use Rattle.page.proofs.put_units.Statement.{statement}
 use Rattle.page.proofs.put_units.Tie as tie
 

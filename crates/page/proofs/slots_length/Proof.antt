@@ -6,8 +6,9 @@ use native.Mathlib.Omega.{arith}
 use denote.Ref.{now}
 use lib.ListN.{length, getD}
 use Rattle.lists.specs.Lists.{run, fromTo, joined}
-use Rattle.page.specs.Page.{maxLine, slotLine, slotLineAt, slotLines, leastFrom, greatestFrom}
-use Rattle.page.specs.PageLaws.{Measured, measured-next, measured-end}
+use Rattle.writing.specs.Writing.{maxLine, slotLine}
+use Rattle.page.specs.Page.{slotLineAt, slotLines, leastFrom, greatestFrom}
+use Rattle.writing.specs.WritingLaws.{Measured, measured-next, measured-end}
 use Rattle.page.proofs.slots_length.Statement.{statement}
 use Rattle.page.proofs.slots_length.Tie as tie
 

@@ -9,8 +9,9 @@ use mir.Syntax.{w16}
 use mir.Facts.{toZ-ofZ}
 use Rattle.integers.specs.Parts.{up, dn}
 use Rattle.network.specs.Table.{entry}
-use Rattle.page.specs.Page.{text, digits, boundLine}
-use Rattle.page.specs.PageLaws.{step-forward, step-backward, boundLine-length}
+use Rattle.writing.specs.Writing.{text, digits, boundLine}
+use Rattle.writing.specs.WritingLaws.{boundLine-length}
+use Rattle.page.specs.PageLaws.{step-forward, step-backward}
 use Rattle.page.proofs.step_length.Statement.{statement}
 use Rattle.page.proofs.step_length.Tie as tie
 

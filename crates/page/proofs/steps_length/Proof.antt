@@ -6,7 +6,7 @@ use native.Mathlib.Omega.{arith}
 use denote.Ref.{now}
 use lib.ListN.{length, getD}
 use Rattle.network.specs.Table.{entry}
-use Rattle.page.specs.Page.{maxLine}
+use Rattle.writing.specs.Writing.{maxLine}
 use Rattle.page.specs.PageLaws.{StepsMeasured, steps-none, steps-next, steps-all}
 use Rattle.page.proofs.steps_length.Statement.{statement}
 use Rattle.page.proofs.steps_length.Tie as tie

@@ -7,8 +7,9 @@ use native.Mathlib.Numerals.{add-one}
 use denote.Ref.{now}
 use lib.ListN.{length, getD}
 use Rattle.lists.specs.Lists.{run, joined}
-use Rattle.page.specs.Page.{maxLine, unitLineAt, unitLines}
-use Rattle.page.specs.PageLaws.{Measured, measured-next, measured-end}
+use Rattle.writing.specs.Writing.{maxLine}
+use Rattle.page.specs.Page.{unitLineAt, unitLines}
+use Rattle.writing.specs.WritingLaws.{Measured, measured-next, measured-end}
 use Rattle.page.proofs.units_length.Statement.{statement}
 use Rattle.page.proofs.units_length.Tie as tie
 

@@ -1,0 +1,39 @@
+use mathlib.Core.Path.{_≡_, refl, sym, ap, ap₂, _∙_, subst}
+use mathlib.Core.List.{List, [], _∷_, _++_}
+use Prim.Native.Nat.{ℕ, _+_, _-_, _≤_, _<_}
+use native.Mathlib.Omega.{arith}
+use lib.Seq.{sets}
+use denote.Ref.{now}
+use lib.ListN.{length-set, length, getD}
+use Rattle.writing.specs.Writing.{digits, digit}
+use Rattle.writing.specs.WritingLaws.{digits-one, onto-sets}
+use Rattle.writing.proofs.put_one.Statement.{statement}
+use Rattle.writing.proofs.put_one.Tie as tie
+
+add-page : tie.Need-add-page
+add-page c = omega arith
+
+cast-page : tie.Need-cast-page
+cast-page c = omega arith
+
+slice-write-page : tie.Need-slice-write-page
+slice-write-page c = omega (arith, ap length (digits-one (c .args .n) (c .pre .0)))
+
+add-result : tie.Need-add-result
+add-result c = omega arith
+
+same-length : tie.Need-same-length
+same-length c = simp length-set
+
+returns : tie.Need-returns
+returns c =
+    let a = c .args in
+    let e = digits-one (a .n) (c .pre .0) in
+    record {
+      filled = sym (onto-sets (now (a .page)) (a .at) (digits (a .n)) (c .pre .1) ∙ ap (sets (now (a .page)) (a .at)) e);
+      moved = omega (arith, ap length e);
+    }
+
+pub put-one-spec : {M : Type 1} → statement M
+put-one-spec =
+    tie.close (tie.spec add-page cast-page slice-write-page add-result same-length returns)
