@@ -85,7 +85,8 @@ module _ (s : List ℕ) (i : ℕ) where
   unfolding numberOf plain
   none-other h e = ap (λ (n : List ℕ). numberOf n i) (sym (at-other h e))
 
-  pub begins : (v : ℕ) → i < length s → isDigit (getD s i 0) ≡ true → v ≡ getD s i 0 - 48 → more v (i + 1) (leading (drop (i + 1) s)) ≡ numberOf (leading (drop i s)) i
+  pub begins : (v : ℕ) → i < length s → isDigit (getD s i 0) ≡ true → v ≡ getD s i 0 - 48 → more v (i + 1) (leading (drop (i + 1) s))
+      ≡ numberOf (leading (drop i s)) i
   begins v h e q =
       ap (λ (x : ℕ). more x (i + 1) (leading (drop (i + 1) s))) q
       ∙ number-law (getD s i 0) (leading (drop (i + 1) s)) i e (leading-digits (drop (i + 1) s))
@@ -107,6 +108,7 @@ module _ (s : List ℕ) (i : ℕ) where
   unfolding more
   bad-long v h e z = rw (at-digit h e) (simp (le-leb 1 v (omega arith), lt-leb v 999 z))
 
-  pub goes-on : (v d : ℕ) → i < length s → isDigit (getD s i 0) ≡ true → 1 ≤ v → v ≤ 999 → d ≡ getD s i 0 - 48 → more (v * 10 + d) (i + 1) (leading (drop (i + 1) s)) ≡ more v i (leading (drop i s))
+  pub goes-on : (v d : ℕ) → i < length s → isDigit (getD s i 0) ≡ true → 1 ≤ v → v ≤ 999 → d ≡ getD s i 0 - 48
+      → more (v * 10 + d) (i + 1) (leading (drop (i + 1) s)) ≡ more v i (leading (drop i s))
   unfolding more
   goes-on v d h e p q w = rw (at-digit h e) (simp (le-leb 1 v p, le-leb v 999 q, w))

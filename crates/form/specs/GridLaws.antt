@@ -12,7 +12,8 @@ use borrow.Author.Tests.{eqb-true, eqb-false, ne-eqb}
 use Rattle.lists.specs.Lists.{run, every}
 use Rattle.lists.specs.Members.{left, right, every-in, run-in}
 use Rattle.form.specs.Words.{classBytes}
-use Rattle.form.specs.Form.{isPrintable, isDigit, printable, some, leading, past, Piece, word, number, sheetForm, unitForm, ruleForm, startsWith, matches, formOf, kindOf}
+use Rattle.form.specs.Form.{isPrintable, isDigit, printable, some, leading, past, Piece, word, number, sheetForm, unitForm, ruleForm, startsWith}
+use Rattle.form.specs.Form.{matches, formOf, kindOf}
 use Rattle.form.specs.Grid.{grid, states, unprintable, start, sheetEnd, unitEnd, ruleEnd, kindAt, place, member, classOf, nextOf, runOf}
 use Rattle.form.specs.declared.Kind.{Kind}
 use Rattle.form.specs.declared.Kind.the-variants.{Unprintable, Sheet, Unit, Rule, Other}
@@ -210,7 +211,8 @@ module _ (b : ℕ) (p : isPrintable b ≡ true) where
   fresh-same k (digits ∷ t) d ws h = refl
   fresh-same k (byte x ∷ t) d ws h = ap (λ (e : Bool). on e (way k false t) ws) (agree x b h p)
 
-  onward-same : (k : Kind) (r : Bool) (t : List Sign) (d : Bool) (ws : List Way) → T (shownFirst t) → onward k r t d b ws ≡ onward k r t d (stands (classOf b)) ws
+  onward-same : (k : Kind) (r : Bool) (t : List Sign) (d : Bool) (ws : List Way) → T (shownFirst t) → onward k r t d b ws
+      ≡ onward k r t d (stands (classOf b)) ws
   onward-same k true t true ws h = refl
   onward-same k true t false ws h = fresh-same k t false ws h
   onward-same k false t d ws h = fresh-same k t d ws h
@@ -327,7 +329,8 @@ record Step (q c : ℕ) : Type 0 where
 
 stepped : (q c : ℕ) → q < states → c < 19 → eqb q unprintable ≡ false → eqb c 0 ≡ false → Step q c
 stepped q c hq hc hp hz =
-    let t : T (not (eqb (nextOf q c) unprintable) && (ltb (nextOf q c) states && eqWays (over (waysOf q) (stands c)) (waysOf (nextOf q c)))) = rw (hp, hz) at (entry-right q c hq hc) in
+    let t : T (not (eqb (nextOf q c) unprintable) && (ltb (nextOf q c) states && eqWays (over (waysOf q) (stands c)) (waysOf (nextOf q c)))) = rw (hp, hz) at
+    (entry-right q c hq hc) in
     let u = right (not (eqb (nextOf q c) unprintable)) _ t in
     record {
       inside = ltb→lt (nextOf q c) states (left (ltb (nextOf q c) states) _ u);

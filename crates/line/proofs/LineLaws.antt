@@ -55,7 +55,8 @@ module _ (t : List ℕ) (i q : ℕ) where
       (lineEnd t i ≡ lineEnd t (i + 1)) × (runsOn t (i + 1) r ≡ runsOn t i q)
   unfolding firstLine runOf
   scan-byte r h e k =
-      let f : firstLine (drop i t) ≡ getD t i 0 ∷ firstLine (drop (i + 1) t) = rw (add-one i) (rw (drop-cons t i 0 h) (simp (ne-eqb (getD t i 0) lineFeed e))) in (
+      let f : firstLine (drop i t) ≡ getD t i 0 ∷ firstLine (drop (i + 1) t) = rw (add-one i)
+      (rw (drop-cons t i 0 h) (simp (ne-eqb (getD t i 0) lineFeed e))) in (
         omega (arith, ap length f),
         ap (λ (p : ℕ). kindAt (runOf p (firstLine (drop (i + 1) t)))) k ∙ ap (λ (l : List ℕ). kindAt (runOf q l)) (sym f),
       )
@@ -217,7 +218,8 @@ module _ (s : List ℕ) (v w next : ℕ) (h : pairOf (drop 13 s) 13 ≡ Both v w
 
   count-at : drop 9 (past (drop 1 (past (drop 13 s)))) ≡ drop (next + 9) s
   count-at =
-      let e : next ≡ 13 + length (leading (drop 13 s)) + 1 + length (leading (drop (13 + length (leading (drop 13 s)) + 1) s)) = stretch .is-end ∙ ap (λ (l : List ℕ). 13 + length (leading (drop 13 s)) + 1 + length (leading l)) second-at in
+      let e : next ≡ 13 + length (leading (drop 13 s)) + 1 + length (leading (drop (13 + length (leading (drop 13 s)) + 1) s)) = stretch .is-end
+      ∙ ap (λ (l : List ℕ). 13 + length (leading (drop 13 s)) + 1 + length (leading l)) second-at in
       ap (λ (l : List ℕ). drop 9 (past l)) second-at ∙ past-at s (13 + length (leading (drop 13 s)) + 1) next e 9
 
   pub rule-read : (x y end : ℕ) → pairOf (drop (next + 9) s) (next + 9) ≡ Both x y end → Rule v w x y ≡ said (ruleWith (numbers ruleForm s))
@@ -290,7 +292,8 @@ form-content l false false false = refl
 
 -- only notes are asked about brackets
 form-brackets : (l : List ℕ) (q r t : Bool)
-    → bracketsMatch (cond q (sheetWith (numbers sheetForm l)) (cond r (unitWith (numbers unitForm l)) (cond t (ruleWith (numbers ruleForm l)) Content.other))) l ≡ true
+    → bracketsMatch (cond q (sheetWith (numbers sheetForm l)) (cond r (unitWith (numbers unitForm l))
+    (cond t (ruleWith (numbers ruleForm l)) Content.other))) l ≡ true
 form-brackets l true r t = refl
 form-brackets l false true t = refl
 form-brackets l false false true = refl

@@ -130,7 +130,8 @@ module _ (t : List ℕ) (at : ℕ) where
       lines (drop at t) ≡ textLine (firstLine (drop at t)) (hasFeed (drop at t)) ∷ lines (drop next t)
   lines-at next h e =
       let k : at + suc (length (firstLine (drop at t))) ≡ next = omega arith in
-      let p : pastLine (drop at t) ≡ drop next t = sym (drop-first (drop at t)) ∙ drop-drop (suc (length (firstLine (drop at t)))) at t ∙ ap (λ (n : ℕ). drop n t) k in
+      let p : pastLine (drop at t) ≡ drop next t = sym (drop-first (drop at t)) ∙ drop-drop (suc (length (firstLine (drop at t)))) at t
+      ∙ ap (λ (n : ℕ). drop n t) k in
       rw (← p) (rw (drop-cons t at 0 h) (lines-cons (getD t at 0) (drop (suc at) t)))
 
   pub lines-none : length t ≤ at → lines (drop at t) ≡ []

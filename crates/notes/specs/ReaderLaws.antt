@@ -36,7 +36,8 @@ module _ (l : List ℕ) (tail : InTurn l) (k d : ℕ) where
 
   turn : (n j : ℕ) → n ≡ j + suc k → (t u v : Bool)
       → cond t (leave n (rest l) (λ i. afterList l i d)) (cond u (cond v (afterList l (suc n) d) unmatched) (afterList l n d))
-      ≡ after (cond t (leave j (rest l) (λ i. afterList l i (d + suc k))) (cond u (cond v (afterList l (suc j) (d + suc k)) unmatched) (afterList l j (d + suc k)))) k d
+      ≡ after (cond t (leave j (rest l) (λ i. afterList l i (d + suc k)))
+      (cond u (cond v (afterList l (suc j) (d + suc k)) unmatched) (afterList l j (d + suc k)))) k d
   turn n j e true u v = turn-closing n j e
   turn n j e false true true = tail (suc n) (suc j) k d (omega arith)
   turn n j e false true false = refl
@@ -54,7 +55,8 @@ item-first : (b : ℕ) (l : List ℕ) (d : ℕ) → eqb b closing ≡ false → 
 unfolding afterList afterItem
 item-first b l d e = rw (e, add-zero d) (go (eqb b opening) (ltb d maxDepth))
   where
-    go : (u v : Bool) → cond u (cond v (afterList l (suc zero) d) unmatched) (afterList l zero d) ≡ after (cond u (cond v (afterList l zero (d + 1)) unmatched) (rest l)) zero d
+    go : (u v : Bool) → cond u (cond v (afterList l (suc zero) d) unmatched) (afterList l zero d)
+        ≡ after (cond u (cond v (afterList l zero (d + 1)) unmatched) (rest l)) zero d
     go true true = in-turn l (suc zero) zero zero d (omega arith)
     go true false = refl
     go false v = refl

@@ -13,7 +13,8 @@ use Rattle.sheet.specs.Limits.{maxUnits, maxRules}
 use Rattle.sheet.specs.declared.Sheet.{Sheet}
 use Rattle.form.specs.FormLaws.{and-left, and-right}
 use Rattle.line.specs.Lines.{lines}
-use Rattle.reader.specs.Reading.{maxBytes, contents, hasSheet, sheetIn, Question, ask, lineQuestions, Rooms, rooms, roomsFit, questions, Answer, refused, read, Verdict, no, allYes, firstNo, concluded, reading, sizesOf, onto, leaves, roomsAfter}
+use Rattle.reader.specs.Reading.{maxBytes, contents, hasSheet, sheetIn, Question, ask, lineQuestions, Rooms, rooms, roomsFit, questions, Answer}
+use Rattle.reader.specs.Reading.{refused, read, Verdict, no, allYes, firstNo, concluded, reading, sizesOf, onto, leaves, roomsAfter}
 use Rattle.reader.specs.Reader.{windowNumbers, ruleNumbers, unitStream, ruleStream, passQuestions, passAnswer, KeptNumbers, strided, filled, Filling}
 use Rattle.reader.proofs.ReadLaws.{andThen, firstNo-append}
 use Rattle.reader.proofs.SpreadLaws.{stream-column, rooms-same}
@@ -32,7 +33,8 @@ module _ (t : List ℕ) (sizes : Rooms ℕ) where
     all-asked =
         let last = ask 12 0 fit ∷ [] in
         rw (le-leb (length t) maxBytes h)
-        (ap firstNo (sym (append-assoc (lineQuestions 1 [] (lines t)) (ask 5 0 (hasSheet (contents (lines t))) ∷ []) last)) ∙ firstNo-append (passQuestions t) last)
+        (ap firstNo (sym (append-assoc (lineQuestions 1 [] (lines t)) (ask 5 0 (hasSheet (contents (lines t))) ∷ []) last))
+        ∙ firstNo-append (passQuestions t) last)
 
     call-answer : Verdict → Answer
     call-answer v = concluded (andThen v (cond fit allYes (no 12 0))) (sheetIn t)
@@ -113,14 +115,18 @@ rooms-filled s t units units′ rules rules′ m u r h e f k =
     g : Passed t (sizesOf m) h (s .span) (s .units) (s .rules) e
     g = passed t (sizesOf m) h (s .span) (s .units) (s .rules) e
 
-    unit-room : (c : ℕ) → c < 2 → (room : List ℕ) → onto (strided (s .units) 2 c units′) room ≡ onto (map (λ w. getD (windowNumbers w) c 0) (sheetIn t .units)) room
+    unit-room : (c : ℕ) → c < 2 → (room : List ℕ) → onto (strided (s .units) 2 c units′) room
+        ≡ onto (map (λ w. getD (windowNumbers w) c 0) (sheetIn t .units)) room
     unit-room c l room =
         let ws = sheetIn t .units in
         ap (λ (xs : List ℕ). onto xs room)
-        (ap₂ (λ (n : ℕ) (xs : List ℕ). strided n 2 c xs) (g .units) (k .in-units) ∙ stream-column windowNumbers 2 c l (λ w. refl) units ws (omega (arith, k .few-units, g .units)))
+        (ap₂ (λ (n : ℕ) (xs : List ℕ). strided n 2 c xs) (g .units) (k .in-units)
+        ∙ stream-column windowNumbers 2 c l (λ w. refl) units ws (omega (arith, k .few-units, g .units)))
 
-    rule-room : (c : ℕ) → c < 4 → (room : List ℕ) → onto (strided (s .rules) 4 c rules′) room ≡ onto (map (λ w. getD (ruleNumbers w) c 0) (sheetIn t .rules)) room
+    rule-room : (c : ℕ) → c < 4 → (room : List ℕ) → onto (strided (s .rules) 4 c rules′) room
+        ≡ onto (map (λ w. getD (ruleNumbers w) c 0) (sheetIn t .rules)) room
     rule-room c l room =
         let rs = sheetIn t .rules in
         ap (λ (xs : List ℕ). onto xs room)
-        (ap₂ (λ (n : ℕ) (xs : List ℕ). strided n 4 c xs) (g .rules) (k .in-rules) ∙ stream-column ruleNumbers 4 c l (λ w. refl) rules rs (omega (arith, k .few-rules, g .rules)))
+        (ap₂ (λ (n : ℕ) (xs : List ℕ). strided n 4 c xs) (g .rules) (k .in-rules)
+        ∙ stream-column ruleNumbers 4 c l (λ w. refl) rules rs (omega (arith, k .few-rules, g .rules)))

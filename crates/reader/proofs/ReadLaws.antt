@@ -24,8 +24,11 @@ use Rattle.line.specs.Content.{Content, note, sheet, unit, rule, other, content
 use Rattle.line.specs.Line.{valuesOf, said, lineOf}
 use Rattle.line.specs.declared.Line.{Line}
 use Rattle.line.specs.declared.Line.the-variants as Line
-use Rattle.reader.specs.Reading.{contents, isSheet, hasSheet, spanElse, spanIn, windowOf, unitsIn, ruleOf, rulesIn, sheetIn, Question, ask, isForm, inOrder, spanFits, isStretch, inSpan, isCount, countFits, questionsOf, lineQuestions, Answer, refused, read, answerOf, Verdict, no, allYes, firstNo, concluded}
-use Rattle.reader.specs.Reader.{sheetOf, stepOf, windowNumbers, ruleNumbers, unitStream, ruleStream, unitPart, rulePart, keptBy, passQuestions, passAnswer}
+use Rattle.reader.specs.Reading.{contents, isSheet, hasSheet, spanElse, spanIn, windowOf, unitsIn, ruleOf, rulesIn, sheetIn, Question, ask, isForm}
+use Rattle.reader.specs.Reading.{inOrder, spanFits, isStretch, inSpan, isCount, countFits, questionsOf, lineQuestions, Answer, refused, read, answerOf}
+use Rattle.reader.specs.Reading.{Verdict, no, allYes, firstNo, concluded}
+use Rattle.reader.specs.Reader.{sheetOf, stepOf, windowNumbers, ruleNumbers, unitStream, ruleStream, unitPart, rulePart, keptBy, passQuestions}
+use Rattle.reader.specs.Reader.{passAnswer}
 use Rattle.reader.specs.declared.Step.{Step}
 use Rattle.reader.specs.declared.Step.the-variants.{No, On}
 
@@ -83,11 +86,23 @@ Verdicts (On m) line before x n v w = (v ≡ w) × Passed m before x line
 module _ (s : Sheet) (before : List Content) (c : Matches s before) where
   more-units : (x : Content) → length (unitsIn (before ++ (x ∷ []))) ≡ s .units + length (unitsIn (x ∷ []))
   unfolding unitsIn
-  more-units x = omega (arith, c .units, ap length (joined-append windowOf before (x ∷ [])), length-append (joined (map windowOf before)) (joined (map windowOf (x ∷ []))))
+  more-units x = omega (
+    arith,
+    c .units,
+    ap length (joined-append windowOf before (x ∷ [])),
+    length-append (joined (map windowOf before))
+        (joined (map windowOf (x ∷ []))),
+  )
 
   more-rules : (x : Content) → length (rulesIn (before ++ (x ∷ []))) ≡ s .rules + length (rulesIn (x ∷ []))
   unfolding rulesIn
-  more-rules x = omega (arith, c .rules, ap length (joined-append ruleOf before (x ∷ [])), length-append (joined (map ruleOf before)) (joined (map ruleOf (x ∷ []))))
+  more-rules x = omega (
+    arith,
+    c .rules,
+    ap length (joined-append ruleOf before (x ∷ [])),
+    length-append (joined (map ruleOf before))
+        (joined (map ruleOf (x ∷ []))),
+  )
 
   -- questions 9 and 10 of a line that adds no unit, or no rule
   nine : (x : Content) → length (unitsIn (x ∷ [])) ≡ 0 → leb (length (unitsIn (before ++ (x ∷ [])))) maxUnits ≡ true
@@ -116,7 +131,8 @@ module _ (s : Sheet) (before : List Content) (c : Matches s before) where
         few-rules = l;
       }
 
-  matches-sheet : (p : List ℕ) → eqb (s .span) 0 ≡ true → within 1 maxSlots (value p) ≡ true → Matches (sheetOf (value p) (s .units) (s .rules)) (before ++ (sheet p ∷ []))
+  matches-sheet : (p : List ℕ) → eqb (s .span) 0 ≡ true → within 1 maxSlots (value p) ≡ true
+      → Matches (sheetOf (value p) (s .units) (s .rules)) (before ++ (sheet p ∷ []))
   unfolding unitsIn rulesIn
   matches-sheet p z h =
       let none : hasSheet before ≡ false = c .sheeted ∙ ap not z in
@@ -189,7 +205,8 @@ module _ (s : Sheet) (before : List Content) (c : Matches s before) (n : ℕ) (w
   note-later = (
     both-yes _ _ (no 10 n) (no 9 n) (nine s before c note refl) (ten s before c note refl),
     record {
-      counts = matches-more s before c note (s .units) (s .rules) refl (λ p. refl) (sym (add-zero (s .units))) (sym (add-zero (s .rules))) (c .few-units) (c .few-rules);
+      counts = matches-more s before c note (s .units) (s .rules) refl (λ p. refl) (sym (add-zero (s .units))) (sym (add-zero (s .rules))) (c .few-units)
+          (c .few-rules);
       units = refl;
       rules = refl;
     },
@@ -264,7 +281,8 @@ line-verdict s before c n l rest = go (printable (l .bytes)) (bracketsMatch (con
     line p b = cond p (cond b (cond (l .ended) (said x) (Line.Refused 3)) (Line.Refused 11)) (Line.Refused 2)
 
     go : (p b : Bool) → Verdicts (stepOf s (line p b)) (line p b) before x n
-        (cond p (cond b (cond (isForm x && (l .ended)) (cond (every plain (numbersIn x)) (later s before c n (firstNo rest) x) (no 4 n)) (no 3 n)) (no 11 n)) (no 2 n)) (firstNo rest)
+        (cond p (cond b (cond (isForm x && (l .ended)) (cond (every plain (numbersIn x)) (later s before c n (firstNo rest) x) (no 4 n)) (no 3 n)) (no 11 n))
+        (no 2 n)) (firstNo rest)
     go true true = form-verdict s before c n (firstNo rest) (l .ended) x
     go true false = refl
     go false b = refl
@@ -292,12 +310,14 @@ sets-append (x ∷ xs) ys array i =
     let e : suc i + length xs ≡ i + suc (length xs) = omega arith in
     sets-append xs ys (set array i x) (suc i) ∙ ap (λ (k : ℕ). sets (sets (set array i x) (suc i) xs) k ys) e
 
-pub stream-length : {A : Type 0} (block : A → List ℕ) (k : ℕ) → ((a : A) → length (block a) ≡ k) → (xs : List A) → length (joined (map block xs)) ≡ k * length xs
+pub stream-length : {A : Type 0} (block : A → List ℕ) (k : ℕ) → ((a : A) → length (block a) ≡ k) → (xs : List A) → length (joined (map block xs))
+    ≡ k * length xs
 stream-length block k h [] = sym (mul-zero k)
 stream-length block k h (x ∷ xs) =
     omega (arith, length-append (block x) (joined (map block xs)), h x, stream-length block k h xs, mul-suc k (length xs))
 
-stream-more : {A B : Type 0} (block : B → List ℕ) (k : ℕ) → ((b : B) → length (block b) ≡ k) → (f : A → List B) (xs : List A) (x : A) (m : ℕ) (array₀ array array′ part : List ℕ)
+stream-more : {A B : Type 0} (block : B → List ℕ) (k : ℕ) → ((b : B) → length (block b) ≡ k)
+    → (f : A → List B) (xs : List A) (x : A) (m : ℕ) (array₀ array array′ part : List ℕ)
     → m ≡ length (joined (map f xs)) → array ≡ sets array₀ 0 (joined (map block (joined (map f xs)))) → array′ ≡ sets array (k * m) part
     → part ≡ joined (map block (joined (map f (x ∷ [])))) → array′ ≡ sets array₀ 0 (joined (map block (joined (map f (xs ++ (x ∷ []))))))
 stream-more block k h f xs x m array₀ array array′ part c e e′ p =
@@ -354,7 +374,8 @@ module _ (t : List ℕ) (at n : ℕ) (s : Sheet) (units₀ units rules₀ rules 
     unfolding here is rest
     verdict r q =
         subst (λ (x : Line). Verdicts r x (i .before) is n (firstNo (questionsOf n (i .before) here is ++ rest next)) (firstNo (rest next))) (sym k)
-        (subst (λ (o : Step). Verdicts o (lineOf (here .bytes) (here .ended)) (i .before) is n (firstNo (questionsOf n (i .before) here is ++ rest next)) (firstNo (rest next)))
+        (subst (λ (o : Step). Verdicts o (lineOf (here .bytes) (here .ended)) (i .before) is n (firstNo (questionsOf n (i .before) here is ++ rest next))
+        (firstNo (rest next)))
         (ap (stepOf s) (sym k) ∙ q) (line-verdict s (i .before) (i .counts) n here (rest next)))
 
     pub asking-no : (q : ℕ) → stepOf s line ≡ No q → refused q n ≡ passAnswer t
@@ -376,9 +397,12 @@ module _ (t : List ℕ) (at n : ℕ) (s : Sheet) (units₀ units rules₀ rules 
           number = omega arith;
           counts = p .1 .counts;
           left = all-left ∙ p .0 ∙ ap (λ (j : ℕ). firstNo (lineQuestions j (i .before ++ (is ∷ [])) (lines (drop next t)))) (sym (add-one n));
-          whole = i .whole ∙ ap (λ (ls : List TextLine). i .before ++ contents ls) (lines-at t at next h e) ∙ sym (append-assoc (i .before) (is ∷ []) (contents (lines (drop next t))));
-          in-units = stream-more windowNumbers 2 (λ w. refl) windowOf (i .before) is (s .units) units₀ units units′ (unitPart line) (i .counts .units) (i .in-units) u (p .1 .units);
-          in-rules = stream-more ruleNumbers 4 (λ w. refl) ruleOf (i .before) is (s .rules) rules₀ rules rules′ (rulePart line) (i .counts .rules) (i .in-rules) v (p .1 .rules);
+          whole = i .whole ∙ ap (λ (ls : List TextLine). i .before ++ contents ls) (lines-at t at next h e)
+              ∙ sym (append-assoc (i .before) (is ∷ []) (contents (lines (drop next t))));
+          in-units = stream-more windowNumbers 2 (λ w. refl) windowOf (i .before) is (s .units) units₀ units units′ (unitPart line) (i .counts .units)
+              (i .in-units) u (p .1 .units);
+          in-rules = stream-more ruleNumbers 4 (λ w. refl) ruleOf (i .before) is (s .rules) rules₀ rules rules′ (rulePart line) (i .counts .rules)
+              (i .in-rules) v (p .1 .rules);
         }
 
   module _ (h : length t ≤ at) where

@@ -13,7 +13,8 @@ use Rattle.sheet.specs.declared.Sheet.{Sheet}
 use Rattle.line.specs.Lines.{lines}
 use Rattle.line.specs.declared.Line.{Line}
 use Rattle.line.specs.declared.Line.the-variants as Line
-use Rattle.reader.specs.Reading.{isStretch, isCount, Rooms, rooms, onto, contents, hasSheet, sheetIn, Question, ask, lineQuestions, Answer, firstNo, concluded}
+use Rattle.reader.specs.Reading.{isStretch, isCount, Rooms, rooms, onto, contents, hasSheet, sheetIn, Question, ask, lineQuestions, Answer, firstNo}
+use Rattle.reader.specs.Reading.{concluded}
 use Rattle.reader.specs.declared.Step.{Step}
 use Rattle.reader.specs.declared.Step.the-variants.{No, On}
 use Rattle.reader.specs.declared.Reading.{Reading}

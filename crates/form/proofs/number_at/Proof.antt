@@ -40,8 +40,11 @@ add-i c = omega arith
 
 loop-holds : tie.Need-loop-holds Inv-loop μ-loop
 loop-holds c =
-    let a = c .before .before .before .before .before .before .before .args in
-    (omega arith, begins (a .s .now) (a .at) (c .digit .result) (omega arith) (sym (c .before .before .before .is-digit .ensures) ∙ not-false _ (c .before .before .if2 .left)) (c .digit .ensures .0))
+    let a = c .before .before .before .before .before .before .before .args in (
+      omega arith,
+      begins (a .s .now) (a .at) (c .digit .result) (omega arith)
+          (sym (c .before .before .before .is-digit .ensures) ∙ not-false _ (c .before .before .if2 .left)) (c .digit .ensures .0),
+    )
 
 shared-slice-read-is-digit-2 : tie.Need-shared-slice-read-is-digit-2 Inv-loop μ-loop
 shared-slice-read-is-digit-2 c = omega arith
@@ -59,13 +62,15 @@ returns-4 : tie.Need-returns-4 Inv-loop μ-loop
 returns-4 c =
     let a = c .before .before .before .before .before .before .before .before .before .before .before .before .before .args in
     let l = c .before .before .before .before .before .loop in
-    bad-zero (a .s .now) (l .i) (l .value) (omega arith) (sym (c .before .before .is-digit2 .ensures) ∙ not-false _ (c .before .if3 .left)) (c .if4 .taken) ∙ l .inv .1
+    bad-zero (a .s .now) (l .i) (l .value) (omega arith) (sym (c .before .before .is-digit2 .ensures) ∙ not-false _ (c .before .if3 .left)) (c .if4 .taken)
+    ∙ l .inv .1
 
 returns-5 : tie.Need-returns-5 Inv-loop μ-loop
 returns-5 c =
     let a = c .before .before .before .before .before .before .before .before .before .before .before .before .before .before .args in
     let l = c .before .before .before .before .before .before .loop in
-    bad-long (a .s .now) (l .i) (l .value) (omega arith) (sym (c .before .before .before .is-digit2 .ensures) ∙ not-false _ (c .before .before .if3 .left)) (c .if5 .taken) ∙ l .inv .1
+    bad-long (a .s .now) (l .i) (l .value) (omega arith) (sym (c .before .before .before .is-digit2 .ensures) ∙ not-false _ (c .before .before .if3 .left))
+    (c .if5 .taken) ∙ l .inv .1
 
 mul-value : tie.Need-mul-value Inv-loop μ-loop
 mul-value c = omega arith
@@ -89,8 +94,12 @@ loop-less c = omega arith
 loop-again : tie.Need-loop-again Inv-loop μ-loop
 loop-again c =
     let a = c .before .before .before .before .before .before .before .before .before .before .before .before .before .before .before .before .args in
-    let l = c .before .before .before .before .before .before .before .before .loop in
-    (omega arith, goes-on (a .s .now) (l .i) (l .value) (c .digit2 .result) (omega arith) (sym (c .before .before .before .before .before .is-digit2 .ensures) ∙ not-false _ (c .before .before .before .before .if3 .left)) (omega arith) (omega arith) (c .digit2 .ensures .0) ∙ l .inv .1)
+    let l = c .before .before .before .before .before .before .before .before .loop in (
+      omega arith,
+      goes-on (a .s .now) (l .i) (l .value) (c .digit2 .result) (omega arith)
+          (sym (c .before .before .before .before .before .is-digit2 .ensures) ∙ not-false _ (c .before .before .before .before .if3 .left)) (omega arith)
+          (omega arith) (c .digit2 .ensures .0) ∙ l .inv .1,
+    )
 
 returns-6 : tie.Need-returns-6 Inv-loop μ-loop
 returns-6 c =

@@ -16,7 +16,8 @@ enum-told c = search needs
 
 returns : tie.Need-returns
 returns c =
-    note-closed (c .before .before .before .before .before .args .s .now) _ (omega arith) (sym (c .before .before .before .list-end .ensures) ∙ c .before .end .given .1)
+    note-closed (c .before .before .before .before .before .args .s .now) _ (omega arith)
+    (sym (c .before .before .before .list-end .ensures) ∙ c .before .end .given .1)
 
 returns-2 : tie.Need-returns-2
 returns-2 c = note-open _ (sym (c .before .before .list-end .ensures) ∙ c .enum-told .given .1)

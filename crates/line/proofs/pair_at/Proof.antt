@@ -31,13 +31,15 @@ enum-told-2 c = search needs
 returns : tie.Need-returns
 returns c =
     let a = c .before .before .before .before .before .before .before .before .before .args in
-    pair-both (a .s .now) (a .at) _ _ (sym (c .before .before .before .before .before .before .before .number-at .ensures) ∙ c .before .before .before .before .before .one .given .1)
+    pair-both (a .s .now) (a .at) _ _ (sym (c .before .before .before .before .before .before .before .number-at .ensures)
+    ∙ c .before .before .before .before .before .one .given .1)
     _ _ (sym (c .before .before .before .number-at2 .ensures) ∙ c .before .two .given .1)
 
 returns-2 : tie.Need-returns-2
 returns-2 c =
     let a = c .before .before .before .before .before .before .before .before .args in
-    pair-second (a .s .now) (a .at) _ _ (sym (c .before .before .before .before .before .before .number-at .ensures) ∙ c .before .before .before .before .one .given .1)
+    pair-second (a .s .now) (a .at) _ _ (sym (c .before .before .before .before .before .before .number-at .ensures)
+    ∙ c .before .before .before .before .one .given .1)
     (sym (c .before .before .number-at2 .ensures) ∙ c .enum-told .given .1)
 
 returns-3 : tie.Need-returns-3

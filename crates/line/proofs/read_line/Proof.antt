@@ -38,25 +38,29 @@ note-matched-requires c κs = note-some (c .before .before .before .before .befo
 returns-2 : tie.Need-returns-2
 returns-2 c =
     let a = c .before .before .before .before .before .before .before .args in
-    asks-brackets (a .s .now) (a .kind) (a .ended) (c .before .before .before .before .before .before .before .pre) (printable (c .before .before .before .before)) (note (c .before .before))
+    asks-brackets (a .s .now) (a .kind) (a .ended) (c .before .before .before .before .before .before .before .pre)
+    (printable (c .before .before .before .before)) (note (c .before .before))
     (sym (c .before .note-matched .ensures) ∙ not-true _ (c .if3 .taken))
 
 returns-3 : tie.Need-returns-3
 returns-3 c =
     let a = c .before .before .before .before .before .before .before .before .args in
-    is-note-line (a .s .now) (a .kind) (a .ended) (c .before .before .before .before .before .before .before .before .pre) (printable (c .before .before .before .before .before)) (note (c .before .before .before))
+    is-note-line (a .s .now) (a .kind) (a .ended) (c .before .before .before .before .before .before .before .before .pre)
+    (printable (c .before .before .before .before .before)) (note (c .before .before .before))
     (closed (c .before)) (c .if4 .taken)
 
 returns-4 : tie.Need-returns-4
 returns-4 c =
     let a = c .before .before .before .before .before .before .before .before .args in
-    asks-note-feed (a .s .now) (a .kind) (a .ended) (c .before .before .before .before .before .before .before .before .pre) (printable (c .before .before .before .before .before)) (note (c .before .before .before))
+    asks-note-feed (a .s .now) (a .kind) (a .ended) (c .before .before .before .before .before .before .before .before .pre)
+    (printable (c .before .before .before .before .before)) (note (c .before .before .before))
     (closed (c .before)) (c .if4 .left)
 
 returns-5 : tie.Need-returns-5
 returns-5 c =
     let a = c .before .before .before .before .before .before .args in
-    asks-feed (a .s .now) (a .kind) (a .ended) (c .before .before .before .before .before .before .pre) (printable (c .before .before .before)) (no-note (c .before)) (not-true _ (c .if5 .taken))
+    asks-feed (a .s .now) (a .kind) (a .ended) (c .before .before .before .before .before .before .pre) (printable (c .before .before .before))
+    (no-note (c .before)) (not-true _ (c .if5 .taken))
 
 form-line-requires : tie.Need-form-line-requires
 form-line-requires c κs = search needs
@@ -65,7 +69,8 @@ returns-6 : tie.Need-returns-6
 returns-6 c =
     let a = c .before .before .before .before .before .before .before .args in
     c .form-line .ensures
-    ∙ is-form-line (a .s .now) (a .kind) (a .ended) (c .before .before .before .before .before .before .before .pre) (printable (c .before .before .before .before)) (no-note (c .before .before)) (not-false _ (c .before .if5 .left))
+    ∙ is-form-line (a .s .now) (a .kind) (a .ended) (c .before .before .before .before .before .before .before .pre)
+    (printable (c .before .before .before .before)) (no-note (c .before .before)) (not-false _ (c .before .if5 .left))
 
 pub read-line-spec : {M : Type 1} → statement M
 read-line-spec =

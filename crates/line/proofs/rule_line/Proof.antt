@@ -31,7 +31,8 @@ enum-told-2 c = search needs
 returns : tie.Need-returns
 returns c =
     let s = c .before .before .before .before .before .before .before .before .before .args .s .now in
-    rule-read s _ _ _ (sym (c .before .before .before .before .before .before .before .pair-at .ensures) ∙ c .before .before .before .before .before .slots .given .1)
+    rule-read s _ _ _ (sym (c .before .before .before .before .before .before .before .pair-at .ensures)
+    ∙ c .before .before .before .before .before .slots .given .1)
     _ _ _ (sym (c .before .before .before .pair-at2 .ensures) ∙ c .before .count .given .1)
 
 returns-2 : tie.Need-returns-2

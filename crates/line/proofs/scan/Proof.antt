@@ -43,7 +43,8 @@ returns c =
     let l = c .before .before .loop in
     let a = c .before .before .before .before .args in
     scan-done (a .text .now) (a .at) (l .i) (l .state) (c .kind-at .result) (l .inv)
-    (⊎-elim (λ w. scan-past (a .text .now) (l .i) (l .state) (w .left)) (λ w. scan-feed (a .text .now) (l .i) (l .state) (w .0 .taken) (w .2 .taken)) (c .before .loop-test .came))
+    (⊎-elim (λ w. scan-past (a .text .now) (l .i) (l .state) (w .left)) (λ w. scan-feed (a .text .now) (l .i) (l .state) (w .0 .taken) (w .2 .taken))
+    (c .before .loop-test .came))
     (c .kind-at .ensures)
 
 pub scan-spec : {M : Type 1} → statement M

@@ -70,7 +70,8 @@ item-end-returns :
     item-end-lts.Need-returns (list-end-below t, list-end.Post) (item-end-at t) item-end.Post
 item-end-returns t c =
     let a = c .before .before .before .before .before .args in
-    c .list-end .ensures ∙ ap (endOf (length (a .s .now))) (item-list (a .s .now) (a .at) (a .depth) (omega arith) (c .before .before .if1 .taken) (c .before .if2 .taken))
+    c .list-end .ensures ∙ ap (endOf (length (a .s .now))) (item-list (a .s .now) (a .at) (a .depth) (omega arith) (c .before .before .if1 .taken)
+    (c .before .if2 .taken))
 
 item-end-returns-2 :
     (t : ℕ) →

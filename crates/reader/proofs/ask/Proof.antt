@@ -17,6 +17,16 @@ Inv-loop text units₀ rules₀ grid table s₀ at₀ n₀ units rules s at n = 
 abbrev μ-loop : tie.MeasureT-loop
 μ-loop text units₀ rules₀ grid table s₀ at₀ n₀ units rules s at n = length text - at
 
+-- the places: past the line's step, the turn it is made in, the loop's head and the function's start
+abbrev in-turn : tie.After-slice-known4 Inv-loop μ-loop → tie.In-loop Inv-loop μ-loop
+in-turn c = c .before .before .before .before .before .before .before .before .before .before
+
+abbrev at-head : tie.After-slice-known4 Inv-loop μ-loop → tie.At-loop Inv-loop μ-loop
+at-head c = in-turn c .before
+
+abbrev start : tie.At-loop Inv-loop μ-loop → tie.Start Inv-loop μ-loop
+start c = c .before .before .before .before .before .before .before
+
 grid-table-requires : tie.Need-grid-table-requires Inv-loop μ-loop
 grid-table-requires c κs = tt
 
@@ -32,12 +42,14 @@ loop-holds c =
     asking-start (a .text .now) (c .empty .result) (a .units .now) (a .rules .now) (c .empty .ensures)
 
 line-at-requires : tie.Need-line-at-requires Inv-loop μ-loop
-line-at-requires c κs = (omega arith, record { is-grid = c .before .before .before .before .before .before .grid-table .ensures; is-classes = c .before .before .before .before .before .class-table .ensures })
+line-at-requires c κs =
+    let tables = c .before .before .before .before .before in
+    (omega arith, record { is-grid = tables .before .grid-table .ensures; is-classes = tables .class-table .ensures })
 
 line-step-requires : tie.Need-line-step-requires Inv-loop μ-loop
 line-step-requires c κs =
     let l = c .before .before .before .before .before .before .loop in
-    let p = c .before .before .before .before .before .before .before .before .before .before .before .before .before .pre in
+    let p = start (c .before .before .before .before .before .before) .pre in
     (omega (arith, p .0, units-size _ _ _ _ _ _ _ _ (l .inv)), omega (arith, p .1, rules-size _ _ _ _ _ _ _ _ (l .inv)))
 
 enum-known-step : tie.Need-enum-known-step Inv-loop μ-loop
@@ -45,32 +57,35 @@ enum-known-step c = c .match .keys1
 
 -- what the line's step means, where it was made
 refuses : (c : tie.After-slice-known4 Inv-loop μ-loop) (q : ℕ) → c .before .before .before .before .line-step .result ≡ No q
-    → refused q (c .before .before .before .before .before .before .before .before .before .before .before .loop .n) ≡ passAnswer (c .before .before .before .before .before .before .before .before .before .before .before .before .before .before .before .before .before .before .args .text .now)
+    → refused q (at-head c .loop .n) ≡ passAnswer (start (at-head c) .args .text .now)
 refuses c q e =
-    let l = c .before .before .before .before .before .before .before .before .before .before .before .loop in
+    let l = at-head c .loop in
     let f = c .before .before .before .before .before .before .before .line-at in
-    asking-no _ _ _ _ _ _ _ _ (l .inv) (f .result .next) (c .before .before .before .before .before .before .before .before .before .before .loop-test .taken) (f .ensures .1) (f .result .line) (f .ensures .0) q
+    asking-no _ _ _ _ _ _ _ _ (l .inv) (f .result .next) (in-turn c .loop-test .taken) (f .ensures .1) (f .result .line) (f .ensures .0) q
     (sym (c .before .before .before .before .line-step .ensures .0) ∙ e)
 
 goes-on : (c : tie.After-slice-known4 Inv-loop μ-loop) (m : Sheet) → c .before .before .before .before .line-step .result ≡ On m →
-    let l = c .before .before .before .before .before .before .before .before .before .before .before .loop in
-    let a = c .before .before .before .before .before .before .before .before .before .before .before .before .before .before .before .before .before .before .args in
+    let l = at-head c .loop in
+    let a = start (at-head c) .args in
     let r = c .before .before .before .before .line-step in
-    Asking (a .text .now) (c .before .before .before .before .before .before .before .line-at .result .next) (l .n + 1) m (a .units .now) (r .last .1 .1 .0) (a .rules .now) (r .last .1 .1 .1 .0)
+    Asking (a .text .now) (c .before .before .before .before .before .before .before .line-at .result .next) (l .n + 1) m (a .units .now) (r .last .1 .1 .0)
+    (a .rules .now) (r .last .1 .1 .1 .0)
 goes-on c m e =
-    let l = c .before .before .before .before .before .before .before .before .before .before .before .loop in
+    let l = at-head c .loop in
     let f = c .before .before .before .before .before .before .before .line-at in
     let r = c .before .before .before .before .line-step in
-    asking-on _ _ _ _ _ _ _ _ (l .inv) (f .result .next) (c .before .before .before .before .before .before .before .before .before .before .loop-test .taken) (f .ensures .1) (f .result .line) (f .ensures .0) m
+    asking-on _ _ _ _ _ _ _ _ (l .inv) (f .result .next) (in-turn c .loop-test .taken) (f .ensures .1) (f .result .line) (f .ensures .0) m
     (r .last .1 .1 .0) (r .last .1 .1 .1 .0) (sym (r .ensures .0) ∙ e)
     (r .ensures .1 .0 ∙ ap (λ (o : Step). keptBy o (l .units) (2 * l .s .units) (unitPart (f .result .line))) e)
     (r .ensures .1 .1 ∙ ap (λ (o : Step). keptBy o (l .rules) (4 * l .s .rules) (rulePart (f .result .line))) e)
 
 same-length : tie.Need-same-length Inv-loop μ-loop
-same-length c = c .before .before .before .before .before .before .before .line-step .kept .1 .1 .0 ∙ units-size _ _ _ _ _ _ _ _ (c .before .before .before .before .before .before .before .before .before .before .before .before .before .before .loop .inv)
+same-length c = c .before .before .before .before .before .before .before .line-step .kept .1 .1 .0
+    ∙ units-size _ _ _ _ _ _ _ _ (at-head (c .before .before .before) .loop .inv)
 
 same-length-2 : tie.Need-same-length-2 Inv-loop μ-loop
-same-length-2 c = c .before .before .before .before .before .before .before .line-step .kept .1 .1 .1 .0 ∙ rules-size _ _ _ _ _ _ _ _ (c .before .before .before .before .before .before .before .before .before .before .before .before .before .before .loop .inv)
+same-length-2 c = c .before .before .before .before .before .before .before .line-step .kept .1 .1 .1 .0
+    ∙ rules-size _ _ _ _ _ _ _ _ (at-head (c .before .before .before) .loop .inv)
 
 returns : tie.Need-returns Inv-loop μ-loop
 returns c = (refuses (c .before .before .before) _ (c .before .step .given .1), tt)
@@ -79,10 +94,17 @@ enum-known-step-2 : tie.Need-enum-known-step-2 Inv-loop μ-loop
 enum-known-step-2 c = c .match .keys2
 
 add-n : tie.Need-add-n Inv-loop μ-loop
-add-n c = omega (arith, c .before .before .before .before .before .before .before .before .before .before .before .before .before .before .loop .inv .number, c .before .before .before .before .before .before .before .before .before .before .before .before .before .before .loop .inv .place, c .before .before .before .before .before .before .before .before .before .before .before .before .before .loop-test .taken, c .before .before .before .before .before .before .before .before .before .before .before .before .before .before .before .before .before .before .before .before .before .good .0 .1)
+add-n c =
+    let l = at-head (c .before .before .before) in
+    omega (arith, l .loop .inv .number, l .loop .inv .place, in-turn (c .before .before .before) .loop-test .taken, start l .good .0 .1)
 
 loop-less : tie.Need-loop-less Inv-loop μ-loop
-loop-less c = omega (arith, c .before .before .before .before .before .before .before .before .before .before .line-at .ensures .1, c .before .before .before .before .before .before .before .before .before .before .before .before .before .loop-test .taken)
+loop-less c = omega (
+  arith,
+  c .before .before .before .before .before .before .before .before .before .before .line-at .ensures .1,
+  in-turn
+      (c .before .before .before) .loop-test .taken,
+)
 
 loop-again : tie.Need-loop-again Inv-loop μ-loop
 loop-again c = goes-on (c .before .before .before) _ (c .before .step2 .given .1)

@@ -56,7 +56,8 @@ same-length c = search needs
 returns-4 : tie.Need-returns-4
 returns-4 c =
     let a = c .before .before .before .before .before .before .before .before .before .args in
-    line-stepped (a .s) (a .line) _ _ (a .units .now) _ (a .rules .now) _ (c .before .before .before .before .before .line3 .given .1) (c .before .before .unit-step .ensures .0)
+    line-stepped (a .s) (a .line) _ _ (a .units .now) _ (a .rules .now) _ (c .before .before .before .before .before .line3 .given .1)
+    (c .before .before .unit-step .ensures .0)
     (c .before .before .unit-step .ensures .1) (kept-none (c .before .before .unit-step .result) (a .rules .now) (4 * a .s .rules))
 
 same-length-2 : tie.Need-same-length-2
@@ -65,7 +66,8 @@ same-length-2 c = search needs
 returns-5 : tie.Need-returns-5
 returns-5 c =
     let a = c .before .before .before .before .before .before .before .before .before .args in
-    line-stepped (a .s) (a .line) _ _ (a .units .now) _ (a .rules .now) _ (c .before .before .before .before .before .line4 .given .1) (c .before .before .rule-step .ensures .0)
+    line-stepped (a .s) (a .line) _ _ (a .units .now) _ (a .rules .now) _ (c .before .before .before .before .before .line4 .given .1)
+    (c .before .before .rule-step .ensures .0)
     (kept-none (c .before .before .rule-step .result) (a .units .now) (2 * a .s .units)) (c .before .before .rule-step .ensures .1)
 
 pub line-step-spec : {M : Type 1} → statement M

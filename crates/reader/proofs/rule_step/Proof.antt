@@ -33,7 +33,15 @@ is-count-requires c κs = search needs
 
 returns-3 : tie.Need-returns-3
 unfolding stepOf
-returns-3 c = (simp (ne-eqb _ _ (c .before .before .before .before .if1 .left), stretch (c .before .before), sym (c .before .is-count .ensures) ∙ not-true _ (c .if3 .taken)), refl)
+returns-3 c = (
+  simp (
+    ne-eqb _ _ (c .before .before .before .before .if1 .left),
+    stretch (c .before .before),
+    sym (c .before .is-count .ensures)
+        ∙ not-true _ (c .if3 .taken),
+  ),
+  refl,
+)
 
 mul-at : tie.Need-mul-at
 mul-at c = search needs
@@ -81,13 +89,28 @@ returns-4 : tie.Need-returns-4
 unfolding stepOf
 returns-4 c =
     let a = c .before .before .before .before .before .before .before .before .args in (
-      simp (ne-eqb _ _ (c .before .before .before .before .before .if1 .left), stretch (c .before .before .before), counted (c .before), lt-ltb _ _ (c .if4 .taken)),
+      simp (
+        ne-eqb _ _ (c .before .before .before .before .before .if1 .left),
+        stretch (c .before .before .before),
+        counted (c .before),
+        lt-ltb _ _
+            (c .if4 .taken),
+      ),
       four-set (a .rules .now) (4 * a .s .rules) (a .from) (a .to) (a .low) (a .high),
     )
 
 returns-5 : tie.Need-returns-5
 unfolding stepOf
-returns-5 c = (simp (ne-eqb _ _ (c .before .before .before .before .before .if1 .left), stretch (c .before .before .before), counted (c .before), le-ltb _ _ (c .if4 .left)), refl)
+returns-5 c = (
+  simp (
+    ne-eqb _ _ (c .before .before .before .before .before .if1 .left),
+    stretch (c .before .before .before),
+    counted (c .before),
+    le-ltb _ _
+        (c .if4 .left),
+  ),
+  refl,
+)
 
 pub rule-step-spec : {M : Type 1} → statement M
 rule-step-spec =

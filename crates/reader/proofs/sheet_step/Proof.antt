@@ -18,11 +18,23 @@ returns-2 c = simp (eq-eqb _ _ (c .before .before .if1 .left), ← c .before .wi
 
 returns-3 : tie.Need-returns-3
 unfolding stepOf
-returns-3 c = simp (eq-eqb _ _ (c .before .before .before .if1 .left), ← c .before .before .wide .ensures, le-leb _ _ (c .before .if2 .left), lt-leb _ _ (c .if3 .taken))
+returns-3 c = simp (
+  eq-eqb _ _ (c .before .before .before .if1 .left),
+  ← c .before .before .wide .ensures,
+  le-leb _ _ (c .before .if2 .left),
+  lt-leb _ _
+      (c .if3 .taken),
+)
 
 returns-4 : tie.Need-returns-4
 unfolding stepOf
-returns-4 c = simp (eq-eqb _ _ (c .before .before .before .if1 .left), ← c .before .before .wide .ensures, le-leb _ _ (c .before .if2 .left), le-leb _ _ (c .if3 .left))
+returns-4 c = simp (
+  eq-eqb _ _ (c .before .before .before .if1 .left),
+  ← c .before .before .wide .ensures,
+  le-leb _ _ (c .before .if2 .left),
+  le-leb _ _
+      (c .if3 .left),
+)
 
 pub sheet-step-spec : {M : Type 1} → statement M
 sheet-step-spec = tie.close (tie.spec returns wide-requires returns-2 returns-3 returns-4)

@@ -26,7 +26,13 @@ slice-write-room : tie.Need-slice-write-room Inv-loop μ-loop
 slice-write-room c = omega (arith, c .before .before .loop .inv .size, c .before .before .before .pre .2)
 
 add-from : tie.Need-add-from Inv-loop μ-loop
-add-from c = omega (arith, spreading-place _ _ _ _ _ _ _ _ (c .before .before .loop .inv) (c .before .loop-test .taken), c .before .before .before .pre .1, c .before .before .before .good .0 .1)
+add-from c = omega (
+  arith,
+  spreading-place _ _ _ _ _ _ _ _ (c .before .before .loop .inv)
+      (c .before .loop-test .taken),
+  c .before .before .before .pre .1,
+  c .before .before .before .good .0 .1,
+)
 
 add-i : tie.Need-add-i Inv-loop μ-loop
 add-i c = omega arith

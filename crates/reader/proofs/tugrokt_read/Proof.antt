@@ -37,7 +37,11 @@ same-length-6 : tie.Need-same-length-6
 same-length-6 c = search needs
 
 returns : tie.Need-returns
-returns c = let r = called (c .before .before .before) in (ap numbersOf (sym (ap answerOf (c .before .reply .given .1)) ∙ r .read .ensures .0), r .read .ensures .1)
+returns c = let r = called (c .before .before .before) in (
+  ap numbersOf
+      (sym (ap answerOf (c .before .reply .given .1)) ∙ r .read .ensures .0),
+  r .read .ensures .1,
+)
 
 same-length-7 : tie.Need-same-length-7
 same-length-7 c = search needs
@@ -58,7 +62,11 @@ same-length-12 : tie.Need-same-length-12
 same-length-12 c = search needs
 
 returns-2 : tie.Need-returns-2
-returns-2 c = let r = called (c .before .before .before) in (ap numbersOf (sym (ap answerOf (c .before .reply2 .given .1)) ∙ r .read .ensures .0), r .read .ensures .1)
+returns-2 c = let r = called (c .before .before .before) in (
+  ap numbersOf
+      (sym (ap answerOf (c .before .reply2 .given .1)) ∙ r .read .ensures .0),
+  r .read .ensures .1,
+)
 
 pub tugrokt-read-spec : {M : Type 1} → statement M
 tugrokt-read-spec =
