@@ -1,0 +1,4 @@
+mod SinkLaws
+mod CarryLaws
+mod SettleLaws
+mod SearchLaws

@@ -1,0 +1,30 @@
+-- Which cuts admit more.
+-- Key idea: a later cut adds fewer arcs. A window that opens and closes later has all the arcs of the other and more, so what is barred for one window is
+-- barred for every later one.
+use mathlib.Core.List.{List}
+use Prim.Native.Nat.{ℕ, _≤_, _<_}
+use native.Mathlib.Omega.{arith}
+use lib.IntN.{ℤ}
+use Rattle.network.specs.Network.{Weights}
+use Rattle.cuts.specs.Cut.{Admits, LeastCut}
+use Rattle.cuts.specs.Carry.{Barred, LeastCutAt}
+
+-- fewer arcs are easier to keep
+pub admits-later : (top : ℕ) (D E : Weights) (f u v l : ℕ) → u ≤ v → Admits top D E f u l → Admits top D E f v l
+admits-later top D E f u v l h a = record {
+  potential = a .potential;
+  feasible = a .feasible;
+  keeps = λ p q hq hv hl. a .keeps p q hq (omega arith) hl;
+}
+
+module _ (w : ℕ) (d m : List ℤ) where
+  -- a window that opens and closes no later has fewer arcs
+  pub barred-later : (f l f′ l′ g : ℕ) → f ≤ f′ → l ≤ l′ → Barred w d m f l g → Barred w d m f′ l′ g
+  barred-later f l f′ l′ g hf hl b u hu h a = b u (omega arith) h (record {
+    potential = a .potential;
+    feasible = a .feasible;
+    keeps = λ p q hq hv hp. a .keeps p q (omega arith) hv (omega arith);
+  })
+
+  pub least-barred : (f l v : ℕ) → LeastCutAt w d m f l v → Barred w d m f l v
+  least-barred f l v c = c .least

@@ -1,0 +1,4 @@
+pub mod Cut
+pub mod Sink
+pub mod Carry
+pub mod CutLaws
