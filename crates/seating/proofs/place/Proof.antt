@@ -109,8 +109,10 @@ returns : tie.Need-returns Inv-loop μ-loop
 returns c =
     let last = c .before .before .args .last .now in
     let l = c .before .loop in
-    let e : l .j ≡ length last = omega arith in
-    l .inv .5 ∙ ap (λ (k : ℕ). byRank (at last) (length last) k (c .before .before .args .order .now)) e
+    let e : l .j ≡ length last = omega arith in (
+      λ b h. omega (arith, l .inv .4 b h, ap (λ (k : ℕ). closing (at last) k b) e),
+      l .inv .5 ∙ ap (λ (k : ℕ). byRank (at last) (length last) k (c .before .before .args .order .now)) e,
+    )
 
 pub place-spec : {M : Type 1} → statement M
 place-spec =
