@@ -1,17 +1,17 @@
 -- The decider's loops, one place at a time.
-use mathlib.Core.Path.{_≡_, refl, sym, ap, _∙_, subst}
-use mathlib.Core.Logic.{_⊎_, inl, inr, ⊎-elim}
+use mathlib.Core.Path.{refl, sym, ap, _∙_, subst}
+use mathlib.Core.Logic.{_⊎_, ⊎-elim}
 use mathlib.Core.List.{List}
-use Prim.Native.Nat.{ℕ, zero, suc, _+_, _-_, _≤_, _<_}
+use Prim.Native.Nat.{ℕ, _+_, _-_, _≤_, _<_}
 use native.Mathlib.Omega.{arith}
 use native.Mathlib.Decide.{ℕ-discrete}
-use lib.ListN.{length, getD, set, length-set}
+use lib.ListN.{length, set, length-set}
 use lib.Seq.{getD-set-same, getD-set-other}
 use lib.IntN.{ℤ, pos, _+ℤ_}
 use lib.Signed.{_≤ℤ_}
 use mir.Syntax.{w16}
 use mir.Val.{SFits}
-use Rattle.integers.specs.Parts.{up, dn, ints, sum, apart, minℤ, min-is, fits-within}
+use Rattle.integers.specs.Parts.{ints, sum, minℤ, min-is, fits-within}
 use Rattle.cuts.specs.Sink.{Within}
 use Rattle.cuts.specs.Carry.{at, Modest, Carried, LeastSum}
 

@@ -1,14 +1,11 @@
 -- Searching for the least admitted cut.
 -- Key idea: a later cut adds fewer arcs, so cuts turn from not admitted to admitted once; an answer at any place between the two ends moves one of them.
-use mathlib.Core.Path.{_≡_, refl, sym, ap, _∙_, subst}
-use mathlib.Core.Bool.{Bool, true, false}
 use mathlib.Core.List.{List}
-use Prim.Native.Nat.{ℕ, zero, suc, _+_, _-_, _*_, _≤_, _<_}
+use Prim.Native.Nat.{ℕ, _+_, _-_, _*_, _≤_, _<_}
 use native.Mathlib.Omega.{arith}
 use native.Mathlib.Decide.{decLe}
 use lib.IntN.{ℤ}
 use Rattle.network.specs.Table.{entry}
-use Rattle.cuts.specs.Cut.{Admits, LeastCut}
 use Rattle.cuts.specs.Carry.{into, AdmitsAt, Barred, LeastCutAt}
 use Rattle.cuts.specs.CutLaws.{admits-later}
 

@@ -1,23 +1,21 @@
 -- Settling one boundary, as the code does it on parts of lists.
 -- Key idea: the least sum of z and the arcs into b is what the arcs force z down to at b; carrying it through row b is the step of SinkLaws.
 use mathlib.Core.Path.{_≡_, refl, sym, ap, _∙_, subst}
-use mathlib.Core.Logic.{_⊎_, inl, inr, ⊎-elim}
+use mathlib.Core.Logic.{_⊎_, ⊎-elim}
 use mathlib.Core.Bool.{Bool, true, false}
 use mathlib.Core.List.{List}
-use Prim.Native.Nat.{ℕ, zero, suc, _+_, _-_, _*_, _≤_, _<_}
+use Prim.Native.Nat.{ℕ, _+_, _-_, _*_, _≤_, _<_}
 use native.Mathlib.Omega.{arith}
 use native.Mathlib.Decide.{ℕ-discrete}
-use lib.ListN.{length, getD, take, drop, replicate, length-take, length-drop, getD-replicate}
-use lib.Seq.{getD-take, getD-drop}
+use lib.ListN.{length, take, drop, replicate, getD-replicate}
 use lib.IntN.{ℤ, pos, _+ℤ_}
-use lib.Signed.{_≤ℤ_, _<ℤ_, ltZ}
+use lib.Signed.{_≤ℤ_, ltZ}
 use Rattle.integers.specs.Parts.{up, dn, ints, sum, apart, minℤ, min-is}
+use Rattle.lists.specs.Parts.{part-length as length-of-part, part-at as place-of-part}
 use Rattle.network.specs.Table.{entry}
 use Rattle.network.specs.TableLaws.{row-inside}
-use Rattle.cuts.specs.Cut.{Admits}
-use Rattle.cuts.specs.Sink.{Within, Closed, Sunk, height}
+use Rattle.cuts.specs.Sink.{Within}
 use Rattle.cuts.specs.Carry.{at, into, Modest, Carried, LeastSum, Network, Cuts, SunkAt, AdmitsAt, heightAt, Settling, fell}
-use Rattle.cuts.specs.declared.Settled.{Settled}
 use Rattle.cuts.specs.declared.Settled.the-variants.{Still, Lower, Lost}
 use Rattle.cuts.proofs.SinkLaws.{sunk-row, sunk-small, carried-lost, carried-sunk, carried-falls}
 
@@ -26,10 +24,10 @@ abbrev pub part : ℕ → ℕ → List ℤ → List ℤ
 part s e xs = take (e - s) (drop s xs)
 
 pub part-length : (s e : ℕ) (xs : List ℤ) → s ≤ e → e ≤ length xs → length (part s e xs) ≡ e - s
-part-length s e xs h k = omega (arith, length-take (e - s) (drop s xs), length-drop s xs)
+part-length s e xs h k = length-of-part s (e - s) xs (omega arith)
 
 pub part-at : (s e : ℕ) (xs : List ℤ) (i : ℕ) → i < e - s → at (part s e xs) i ≡ at xs (s + i)
-part-at s e xs i h = getD-take (e - s) (drop s xs) i (pos 0) h ∙ getD-drop s xs i (pos 0)
+part-at s e xs i h = place-of-part s (e - s) xs (pos 0) i h
 
 -- a part is modest where its places are
 pub part-modest : (s e : ℕ) (xs : List ℤ) → s ≤ e → e ≤ length xs → ((i : ℕ) → i < e - s → Within 1000 (at xs (s + i))) → Modest (part s e xs)

@@ -2,14 +2,14 @@
 -- Key idea: z starts as the row of the boundary before the window, the highest feasible potential that is 0 there. An arc that z does not keep forces
 -- its end b down to k, and the table carries that on: every z(c) becomes min(z(c), k + D(b, c)), which is feasible again and still above all that
 -- keep the arcs. Where this takes z below 0 at its start, nothing keeps the arcs. It ends because z stays above what the table allows.
-use mathlib.Core.Path.{_≡_, refl, sym, ap, _∙_, subst}
-use mathlib.Core.Logic.{_⊎_, inl, inr, ⊎-elim}
+use mathlib.Core.Path.{_≡_, subst}
+use mathlib.Core.Logic.{_⊎_, ⊎-elim}
 use Prim.Native.Nat.{ℕ, zero, suc, _+_, _-_, _≤_, _<_}
 use native.Mathlib.Omega.{arith}
 use native.Mathlib.Nat.{eq-or-lt-of-le, le-of-suc-le-suc}
-use lib.IntN.{ℤ, pos, negℤ, _+ℤ_}
-use lib.Signed.{_≤ℤ_, _<ℤ_, ≤ℤ-refl}
-use Rattle.integers.specs.Parts.{up, dn, ints, sum, neg, apart, nonneg, minℤ, min-cases, min-is, min≤l, min≤r}
+use lib.IntN.{ℤ, pos, _+ℤ_}
+use lib.Signed.{_≤ℤ_, _<ℤ_}
+use Rattle.integers.specs.Parts.{up, dn, ints, sum, apart, nonneg, minℤ, min-cases, min≤l, min≤r}
 use Rattle.network.specs.Network.{Weights, Potential, Feasible}
 use Rattle.network.specs.NetworkLaws.{lesser-feasible}
 use Rattle.cuts.specs.Cut.{Keeps, Admits}

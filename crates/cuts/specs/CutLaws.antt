@@ -2,11 +2,11 @@
 -- Key idea: a later cut adds fewer arcs. A window that opens and closes later has all the arcs of the other and more, so what is barred for one window is
 -- barred for every later one.
 use mathlib.Core.List.{List}
-use Prim.Native.Nat.{ℕ, _≤_, _<_}
+use Prim.Native.Nat.{ℕ, _≤_}
 use native.Mathlib.Omega.{arith}
 use lib.IntN.{ℤ}
 use Rattle.network.specs.Network.{Weights}
-use Rattle.cuts.specs.Cut.{Admits, LeastCut}
+use Rattle.cuts.specs.Cut.{Admits}
 use Rattle.cuts.specs.Carry.{Barred, LeastCutAt}
 
 -- fewer arcs are easier to keep

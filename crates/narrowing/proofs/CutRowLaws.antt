@@ -1,17 +1,15 @@
 -- The least cuts of the windows that open in one slot.
 -- Key idea: what is barred for a window is barred for every window that opens and closes no earlier. So the cuts found so far are a floor for the next.
-use mathlib.Core.Path.{_≡_, refl, sym, ap, _∙_, subst}
-use mathlib.Core.Logic.{_⊎_, inl, inr, ⊎-elim}
+use mathlib.Core.Path.{_≡_, refl, sym, _∙_, subst}
 use mathlib.Core.List.{List}
-use Prim.Native.Nat.{ℕ, zero, suc, _+_, _-_, _*_, _≤_, _<_, max}
+use Prim.Native.Nat.{ℕ, _+_, _-_, _≤_, _<_, max}
 use native.Mathlib.Omega.{arith}
 use native.Mathlib.Decide.{ℕ-discrete, decLe}
 use lib.ListN.{length, getD, set, length-set}
 use lib.Seq.{getD-set-same, getD-set-other}
 use lib.IntN.{ℤ}
-use Rattle.cuts.specs.Cut.{LeastCut}
-use Rattle.cuts.specs.Carry.{AdmitsAt, Barred, LeastCutAt}
-use Rattle.narrowing.specs.Windows.{KnownCut, KnownRow, CutRow, Floor}
+use Rattle.cuts.specs.Carry.{Barred, LeastCutAt}
+use Rattle.narrowing.specs.Windows.{KnownRow, CutRow, Floor}
 use Rattle.cuts.specs.CutLaws.{barred-later, least-barred}
 
 module _ (w : ℕ) (d m : List ℤ) where

@@ -2,9 +2,9 @@
 -- Key idea: the lawful plans of the sheet with unit j's window cut to u are the lawful plans of the sheet that seat j in u. Cutting leaves the rules as
 -- they are and moves one window into the stretches that hold u but not the old window. So a potential is feasible for the cut sheet exactly when it is
 -- feasible for the sheet and falls by one more than the windows inside over each of those stretches.
-use mathlib.Core.Path.{_≡_, refl, sym, ap, _∙_, subst}
-use mathlib.Core.Logic.{_⊎_, inl, inr, ⊎-elim, _↔_}
-use mathlib.Core.Bool.{Bool, true, false, _&&_}
+use mathlib.Core.Path.{_≡_, refl, sym, ap, _∙_}
+use mathlib.Core.Logic.{_⊎_, ⊎-elim, _↔_}
+use mathlib.Core.Bool.{Bool, true, false}
 use mathlib.Core.List.{List, [], _∷_, map}
 use Prim.Native.Nat.{ℕ, zero, suc, _+_, _-_, _≤_, _<_}
 use native.Mathlib.Omega.{arith}
@@ -14,15 +14,15 @@ use lib.Dec.{T, leb, leb→le, le→leb}
 use lib.ListN.{length, getD, set, length-set}
 use lib.Seq.{getD-set-same, getD-set-other}
 use lib.IntN.{ℤ, pos, negℤ, _+ℤ_}
-use lib.Signed.{_≤ℤ_, _<ℤ_}
-use Rattle.integers.specs.Parts.{up, dn, ints, sum, neg, nonneg, difference}
+use lib.Signed.{_≤ℤ_}
+use Rattle.integers.specs.Parts.{up, dn, ints, sum, neg, nonneg}
 use Rattle.lists.specs.Lists.{oneIf, howMany, smallest, keep}
-use Rattle.lists.specs.Members.{In, both, left, right}
-use Rattle.network.specs.Network.{Weights, Potential, Feasible}
-use Rattle.sheet.specs.Sheet.{Window, Rule, Sheet, noWindow, top, countIn, insideOf, onStretch, inWindows, obeys, lawful, atMost, atLeast, limit}
-use Rattle.sheet.specs.PlanLaws.{Lawful, lawful-iff, seated-inWindows}
-use Rattle.sheet.specs.LimitLaws.{countIn-split, inside-count, limit-fwd, limit-back, limit-same, atMost-ge, atLeast-rule, atLeast-windows, atLeast-le}
-use Rattle.sheet.specs.PotentialLaws.{Valid, lawful-feasible}
+use Rattle.lists.specs.Members.{both, left, right}
+use Rattle.network.specs.Network.{Potential, Feasible}
+use Rattle.sheet.specs.Sheet.{Window, Sheet, noWindow, top, countIn, insideOf, onStretch, lawful, atMost, atLeast, limit}
+use Rattle.sheet.specs.PlanLaws.{lawful-iff, seated-inWindows}
+use Rattle.sheet.specs.LimitLaws.{countIn-split, inside-count, limit-fwd, limit-back, limit-same, atLeast-rule, atLeast-windows, atLeast-le}
+use Rattle.sheet.specs.PotentialLaws.{Valid}
 use Rattle.narrowing.specs.CutSheet.{addedArc, cutTo}
 
 -- ---- one entry of a list replaced

@@ -1,15 +1,14 @@
 -- The least cut is the earliest slot, and the least cut of the mirrored window is the latest.
 -- Key idea: a lawful plan that seats unit j by slot v gives a potential that keeps the arcs of the cut, and such a potential gives such a plan. So the least
 -- cut that is admitted is the least slot that j has in a lawful plan. The latest slot is the same, seen from the end.
-use mathlib.Core.Path.{_≡_, refl, sym, ap, _∙_, subst}
-use mathlib.Core.Logic.{_⊎_, inl, inr, ⊎-elim}
+use mathlib.Core.Path.{_≡_, sym, subst}
 use mathlib.Core.List.{List}
-use Prim.Native.Nat.{ℕ, zero, suc, _+_, _-_, _≤_, _<_}
+use Prim.Native.Nat.{ℕ, suc, _+_, _-_, _≤_, _<_}
 use native.Mathlib.Omega.{arith}
 use native.Mathlib.Decide.{decLe}
 use lib.Dec.{T}
 use lib.ListN.{length, getD}
-use lib.IntN.{ℤ, pos, negℤ, _+ℤ_}
+use lib.IntN.{ℤ, pos, _+ℤ_}
 use lib.Signed.{_≤ℤ_}
 use Rattle.integers.specs.Parts.{ints, sum, neg}
 use Rattle.network.specs.Network.{Weights, Potential, Feasible}
@@ -17,7 +16,7 @@ use Rattle.sheet.specs.Sheet.{Window, Sheet, noWindow, top, countIn, lawful, li
 use Rattle.sheet.specs.PlanLaws.{lawful-iff, earliest-bound, earliest-attained, latest-bound, latest-attained}
 use Rattle.sheet.specs.PotentialLaws.{Valid, lawful-feasible}
 use Rattle.sheet.specs.Solved.{Solved}
-use Rattle.cuts.specs.Cut.{Keeps, Admits, LeastCut}
+use Rattle.cuts.specs.Cut.{Admits, LeastCut}
 use Rattle.narrowing.specs.CutSheet.{mirrored, addedArc, cutTo}
 use Rattle.narrowing.proofs.CutSheetLaws.{Gains, cut-lawful, cut-valid, plan-gains, gains-feasible}
 use Rattle.narrowing.proofs.MirrorLaws.{IsMirrored, turned, turned-feasible, mirrored-back}

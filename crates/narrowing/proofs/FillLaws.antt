@@ -1,14 +1,14 @@
 -- Tables filled in order, one row at a time.
-use mathlib.Core.Path.{_≡_, refl, sym, ap, _∙_, subst}
-use mathlib.Core.List.{List, [], _∷_, _++_, map}
-use Prim.Native.Nat.{ℕ, zero, suc, _+_, _-_, _*_, _≤_, _<_}
+use mathlib.Core.Path.{_≡_, sym, ap, _∙_}
+use mathlib.Core.List.{List, _++_, map}
+use Prim.Native.Nat.{ℕ, _+_, _-_, _*_, _≤_}
 use native.Mathlib.Omega.{arith}
 use native.Mathlib.Numerals.{add-one}
 use lib.ListN.{length, take, drop}
 use lib.IntN.{ℤ, negsuc, _+ℤ_}
 use mir.Syntax.{w16}
 use mir.Val.{SFits}
-use Rattle.integers.specs.Parts.{up, dn, sum, fits-within}
+use Rattle.integers.specs.Parts.{sum, fits-within}
 use Rattle.cuts.specs.Sink.{Within}
 use Rattle.lists.specs.Lists.{run, joined}
 use Rattle.lists.specs.Values.{listOf, length-listOf, front-length, front-part}

@@ -1,14 +1,12 @@
 -- The network seen from its end.
 -- Key idea: z is feasible for D exactly when -z, read backwards, is feasible for the mirrored D, and an arc from a to b is one from top - b to top - a.
 -- So cutting a window from below is cutting the mirrored window from above.
-use mathlib.Core.Path.{_≡_, refl, sym, ap, ap₂, _∙_, subst}
-use Prim.Native.Nat.{ℕ, zero, suc, _+_, _-_, _≤_, _<_}
+use mathlib.Core.Path.{_≡_, sym, ap₂, _∙_, subst}
+use Prim.Native.Nat.{ℕ, _-_, _≤_}
 use native.Mathlib.Omega.{arith}
-use lib.IntN.{ℤ, pos, negℤ, _+ℤ_}
-use lib.Signed.{_≤ℤ_}
+use lib.IntN.{negℤ}
 use Rattle.integers.specs.Parts.{ints, sum, neg}
 use Rattle.network.specs.Network.{Weights, Potential, Feasible}
-use Rattle.cuts.specs.Cut.{Admits}
 use Rattle.narrowing.specs.CutSheet.{mirrored}
 use Rattle.cuts.specs.Sink.{Within, Closed}
 

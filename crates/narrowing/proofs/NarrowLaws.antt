@@ -1,42 +1,38 @@
 -- From a sheet and its finished table to a network with arcs, and from least cuts to earliest and latest slots.
 -- Key idea: entries of a finished table are counts, so they are within the number of units of 0; the arcs are the windows inside, one more counted.
 use mathlib.Core.Path.{_≡_, refl, sym, ap, _∙_, subst}
-use mathlib.Core.Logic.{_⊎_, inl, inr, ⊎-elim}
-use mathlib.Core.Bool.{Bool}
+use mathlib.Core.Logic.{_⊎_, ⊎-elim}
 use mathlib.Core.List.{List, _++_}
-use Prim.Native.Nat.{ℕ, zero, suc, _+_, _-_, _*_, _≤_, _<_}
+use Prim.Native.Nat.{ℕ, suc, _+_, _-_, _*_, _≤_, _<_}
 use native.Mathlib.Omega.{arith}
 use native.Mathlib.Nat.{eq-or-lt-of-le}
 use native.Mathlib.Decide.{decLe}
-use lib.Dec.{T}
 use lib.ListN.{length, getD, take, drop, length-append, length-drop, length-take, List·getD-append}
 use lib.Seq.{ext-getD, getD-append-add, getD-drop, getD-take}
 use lib.IntN.{ℤ, pos, negsuc, negℤ, _+ℤ_}
 use lib.Signed.{_≤ℤ_}
 use Rattle.integers.specs.Parts.{up, dn, ints, sum, neg, apart}
-use Rattle.lists.specs.Lists.{howMany, run}
-use Rattle.lists.specs.Values.{listOf, Filled, length-listOf, listOf-at}
-use Rattle.network.specs.Network.{Weights, Potential, Feasible}
-use Rattle.network.specs.Closure.{Finished}
+use Rattle.lists.specs.Lists.{howMany}
+use Rattle.lists.specs.Values.{listOf, length-listOf, listOf-at}
+use Rattle.network.specs.Network.{Weights}
 use Rattle.network.specs.ClosureLaws.{there-and-back}
 use Rattle.network.specs.Table.{tableOf, entry}
 use Rattle.network.specs.TableLaws.{entry-front}
 use Rattle.network.specs.PassFront.{tableOf-same}
-use Rattle.sheet.specs.Sheet.{Window, Sheet, noWindow, top, insideOf, lawful, limit, atMost, atLeast, earliest, latest, earliestSlots, latestSlots}
+use Rattle.sheet.specs.Sheet.{Window, Sheet, noWindow, top, insideOf, lawful, limit, atLeast, earliest, latest, earliestSlots, latestSlots}
 use Rattle.sheet.specs.PlanLaws.{lawful-iff}
 use Rattle.sheet.specs.LimitLaws.{limit-fwd, limit-back, limit-same, atMost-n}
 use Rattle.sheet.specs.InsideLaws.{howMany-most}
 use Rattle.sheet.specs.LimitTable.{WindowsFit, insideWeights}
 use Rattle.sheet.specs.Questions.{windowsOf}
 use Rattle.sheet.specs.QuestionLaws.{windowsOf-length, windowsOf-at}
-use Rattle.sheet.specs.Solved.{Solved}
 use Rattle.seating.specs.FeasibleLaws.{feasible-lawful}
 use Rattle.cuts.specs.Cut.{LeastCut, Admits}
 use Rattle.narrowing.specs.CutSheet.{mirrored, oneLess, addedArc}
 use Rattle.cuts.specs.Sink.{Within, Closed}
 use Rattle.cuts.specs.Carry.{into, Network}
 use Rattle.narrowing.specs.CutSheet.{ModestTable}
-use Rattle.narrowing.specs.Windows.{Units, Prefixed, Admitted, LeastCuts, AdmittedLate, GreatestCuts}
+use Rattle.narrowing.specs.Windows.{Units, Admitted, LeastCuts, AdmittedLate, GreatestCuts}
 use Rattle.narrowing.specs.Narrowing.{Narrowable, earliestRoom, latestRoom}
 use Rattle.narrowing.proofs.ExtremeLaws.{Seatable, plan-admits, earliest-is, plan-admits-late, latest-is}
 

@@ -1,24 +1,23 @@
 -- Windows and slots seen from the end, and back.
 -- Key idea: a network and its mirror admit the same cuts, with slot x read as w - x. Where a cut is least there, w less it is greatest here.
-use mathlib.Core.Path.{_≡_, refl, sym, ap, ap₂, _∙_, subst}
+use mathlib.Core.Path.{_≡_, refl, sym, ap, _∙_, subst}
 use mathlib.Core.List.{List, _++_}
-use Prim.Native.Nat.{ℕ, zero, suc, _+_, _-_, _*_, _≤_, _<_}
+use Prim.Native.Nat.{ℕ, suc, _+_, _-_, _*_, _≤_, _<_}
 use native.Mathlib.Omega.{arith}
-use lib.ListN.{length, getD, take, drop, replicate, length-take}
+use lib.ListN.{length, getD, take}
 use lib.Seq.{getD-take, length-take-le}
-use lib.IntN.{ℤ, _+ℤ_}
-use lib.Signed.{_≤ℤ_}
+use lib.IntN.{ℤ}
 use Rattle.integers.specs.Parts.{ints, sum}
 use Rattle.lists.specs.Values.{Filled, filled-length, filled-new, filled-old}
-use Rattle.network.specs.Network.{Weights, Potential, Feasible}
+use Rattle.network.specs.Network.{Weights}
 use Rattle.network.specs.Table.{tableOf, entry}
 use Rattle.network.specs.TableLaws.{entry-front}
 use Rattle.cuts.specs.Cut.{Admits, LeastCut}
 use Rattle.narrowing.specs.CutSheet.{mirrored}
-use Rattle.cuts.specs.Sink.{Within, Closed}
+use Rattle.cuts.specs.Sink.{Within}
 use Rattle.cuts.specs.Carry.{into, Network, AdmitsAt, LeastCutAt}
-use Rattle.narrowing.specs.Windows.{Units, Prefixed, Admitted, LeastCuts, AdmittedTurned, LeastCutsTurned, AdmitsLate, GreatestCut, AdmittedLate, GreatestCuts}
-use Rattle.narrowing.proofs.MirrorLaws.{IsMirrored, closed-mirrored}
+use Rattle.narrowing.specs.Windows.{Units, Admitted, LeastCuts, AdmittedTurned, LeastCutsTurned, AdmittedLate, GreatestCuts}
+use Rattle.narrowing.proofs.MirrorLaws.{closed-mirrored}
 
 -- ---- the front of a filled list
 pub front-length : (n k : ℕ) (g : ℕ → ℕ) (t₀ t : List ℕ) → k ≡ n → n ≤ length t₀ → Filled g k t₀ t → length (take n t) ≡ n

@@ -1,12 +1,9 @@
-use Rattle.cuts.proofs.SettleLaws.{part, part-length, row-modest, sunk-first, still-admits}
-use Rattle.cuts.specs.declared.Settled.the-variants.{Still, Lower, Lost}
-use Rattle.cuts.specs.declared.Settled.{Settled}
+use Rattle.cuts.proofs.SettleLaws.{part-length, row-modest, sunk-first, still-admits}
 use Rattle.cuts.specs.Carry.{SunkAt, Settling, heightAt}
 use Rattle.network.specs.TableLaws.{row-inside}
 use lib.ListN.{length}
-use mathlib.Core.Bool.{true, false}
-use mathlib.Core.Path.{_≡_, refl, sym, ap, subst, _∙_}
-use Prim.Native.Nat.{ℕ, suc, _≤_, _<_, _-_, _+_, _*_}
+use mathlib.Core.Path.{_≡_, subst, _∙_}
+use Prim.Native.Nat.{_-_, _+_, _*_}
 use native.Mathlib.Omega.{arith}
 use borrow.Author.Needs.{needs}
 use Rattle.cuts.proofs.admits.Statement.{statement}

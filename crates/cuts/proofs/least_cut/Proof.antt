@@ -1,11 +1,10 @@
 use Rattle.cuts.proofs.SearchLaws.{Search, search-first, search-yes, search-no, search-last}
 use Rattle.cuts.specs.Carry.{AdmitsAt, Decides}
-use mathlib.Core.Bool.{Bool, true, false}
+use mathlib.Core.Bool.{Bool}
 use mathlib.Core.Logic.{⊎-elim}
-use mathlib.Core.Path.{_≡_, refl, sym, ap, subst, _∙_}
-use Prim.Native.Nat.{ℕ, suc, _≤_, _<_, _-_, _+_, _*_, _/_}
+use mathlib.Core.Path.{subst}
+use Prim.Native.Nat.{_<_, _-_, _+_, _/_}
 use native.Mathlib.Omega.{arith}
-use borrow.Author.Needs.{needs}
 use Rattle.cuts.proofs.least_cut.Statement.{statement}
 use Rattle.cuts.proofs.least_cut.Tie as tie
 

@@ -1,13 +1,13 @@
-use Rattle.cuts.proofs.CarryLaws.{sum-fits, least-first, least-more, least-modest}
+use Rattle.cuts.proofs.CarryLaws.{sum-fits, least-first, least-more}
 use Rattle.cuts.specs.Carry.{at, LeastSum}
 use Rattle.integers.specs.Parts.{minℤ}
 use mir.Facts.{toZ-ofZ}
-use mir.Val.{SFits, toZ, ofZ}
+use mir.Val.{SFits, toZ}
 use mir.Syntax.{w16}
 use lib.IntN.{ℤ, pos, _+ℤ_}
-use lib.ListN.{length, getD, set, length-set}
-use mathlib.Core.Path.{_≡_, refl, sym, ap, subst, _∙_}
-use Prim.Native.Nat.{ℕ, _≤_, _<_, _-_, _+_}
+use lib.ListN.{length, getD}
+use mathlib.Core.Path.{_≡_, refl, subst}
+use Prim.Native.Nat.{ℕ, _≤_, _-_, _+_}
 use native.Mathlib.Omega.{arith}
 use borrow.Author.Needs.{needs}
 use Rattle.cuts.proofs.least_sum.Statement.{statement}

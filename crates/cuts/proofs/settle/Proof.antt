@@ -1,16 +1,15 @@
 use lib.Signed.{ltZ}
 use Rattle.cuts.proofs.SettleLaws.{least-asks, carry-asks, settled-still, settled-lost, settled-lower}
 use Rattle.cuts.specs.Carry.{at}
-use Rattle.integers.specs.Parts.{ints}
 use Rattle.network.specs.TableLaws.{row-inside}
 use mir.Facts.{toZ-ofZ}
-use mir.Val.{SFits, toZ, ofZ}
+use mir.Val.{SFits}
 use mir.Syntax.{w16}
-use lib.IntN.{ℤ, pos, _+ℤ_}
-use lib.ListN.{length, getD, take, drop}
+use lib.IntN.{pos}
+use lib.ListN.{getD}
 use mathlib.Core.Bool.{true, false}
-use mathlib.Core.Path.{_≡_, refl, sym, ap, subst, _∙_}
-use Prim.Native.Nat.{ℕ, suc, _≤_, _<_, _-_, _+_, _*_}
+use mathlib.Core.Path.{_≡_, sym, _∙_}
+use Prim.Native.Nat.{_-_}
 use native.Mathlib.Omega.{arith}
 use borrow.Author.Needs.{needs}
 use Rattle.cuts.proofs.settle.Statement.{statement}

@@ -1,14 +1,12 @@
 use Rattle.cuts.specs.declared.Settled.the-variants.{Still, Lower, Lost}
-use Rattle.cuts.specs.declared.Settled.{Settled}
 use Rattle.cuts.proofs.SettleLaws.{swept-none, swept-still, swept-lower, swept-end}
 use Rattle.cuts.specs.Carry.{SunkAt, Settling, fell}
 use lib.ListN.{length}
 use mathlib.Core.Bool.{true, false}
 use mathlib.Core.Logic.{⊎-elim}
-use mathlib.Core.Path.{_≡_, refl, sym, ap, subst, _∙_}
-use Prim.Native.Nat.{ℕ, suc, _≤_, _<_, _-_, _+_, _*_}
+use mathlib.Core.Path.{_≡_, refl, sym, subst, _∙_}
+use Prim.Native.Nat.{_≤_, _-_, _+_}
 use native.Mathlib.Omega.{arith}
-use borrow.Author.Needs.{needs}
 use Rattle.cuts.proofs.sweep.Statement.{statement}
 use Rattle.cuts.proofs.sweep.Tie as tie
 

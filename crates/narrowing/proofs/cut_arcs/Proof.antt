@@ -2,10 +2,10 @@ use Rattle.narrowing.proofs.NarrowLaws.{inside-modest, arcs-table}
 use Rattle.narrowing.proofs.MarkLaws.{square-most}
 use Rattle.sheet.specs.QuestionLaws.{windowsOf-length}
 use Rattle.sheet.specs.Questions.{windowsOf}
-use lib.IntN.{ℤ, pos}
-use lib.ListN.{length, getD, drop, replicate}
-use mathlib.Core.Path.{_≡_, refl, sym, ap, subst, _∙_}
-use Prim.Native.Nat.{ℕ, suc, _≤_, _<_, _-_, _+_, _*_}
+use lib.IntN.{pos}
+use lib.ListN.{length, drop, replicate}
+use mathlib.Core.Path.{_≡_}
+use Prim.Native.Nat.{_-_, _*_}
 use native.Mathlib.Omega.{arith}
 use borrow.Author.Needs.{needs}
 use Rattle.narrowing.proofs.cut_arcs.Statement.{statement}

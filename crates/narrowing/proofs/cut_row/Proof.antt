@@ -1,12 +1,9 @@
-use Rattle.narrowing.proofs.CutRowLaws.{Cutting, next, cutting-none, next-level, next-barred, cutting-skip, cutting-mark}
-use Rattle.cuts.specs.Carry.{Barred}
-use Rattle.narrowing.specs.Windows.{CutRow}
-use lib.ListN.{length, getD, set, length-set}
+use Rattle.narrowing.proofs.CutRowLaws.{Cutting, cutting-none, next-level, next-barred, cutting-skip, cutting-mark}
+use lib.ListN.{length, set, length-set}
 use mathlib.Core.Logic.{⊎-elim}
-use mathlib.Core.Path.{_≡_, refl, sym, ap, subst, _∙_}
-use Prim.Native.Nat.{ℕ, suc, _≤_, _<_, _-_, _+_, _*_}
+use mathlib.Core.Path.{_≡_, refl, sym, _∙_}
+use Prim.Native.Nat.{_-_, _+_}
 use native.Mathlib.Omega.{arith}
-use borrow.Author.Needs.{needs}
 use Rattle.narrowing.proofs.cut_row.Statement.{statement}
 use Rattle.narrowing.proofs.cut_row.Tie as tie
 

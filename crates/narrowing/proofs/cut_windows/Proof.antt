@@ -1,9 +1,7 @@
 use Rattle.narrowing.proofs.CutWindowsLaws.{CutWindows, windows-none, row-length, known-row, windows-more}
-use Rattle.narrowing.specs.Windows.{KnownCuts}
 use Rattle.network.specs.TableLaws.{row-inside}
-use lib.ListN.{length, getD}
-use mathlib.Core.Path.{_≡_, refl, sym, ap, subst, _∙_}
-use Prim.Native.Nat.{ℕ, suc, _≤_, _<_, _-_, _+_, _*_}
+use mathlib.Core.Path.{_≡_, sym, _∙_}
+use Prim.Native.Nat.{_-_, _+_, _*_}
 use native.Mathlib.Omega.{arith}
 use borrow.Author.Needs.{needs}
 use Rattle.narrowing.proofs.cut_windows.Statement.{statement}

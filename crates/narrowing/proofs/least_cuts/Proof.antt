@@ -1,8 +1,8 @@
 use Rattle.narrowing.proofs.CutWindowsLaws.{zeros}
 use Rattle.narrowing.proofs.MarkLaws.{marks-known, cuts-least, square-most}
-use lib.ListN.{length, getD}
-use mathlib.Core.Path.{_≡_, refl, sym, ap, subst, _∙_}
-use Prim.Native.Nat.{ℕ, suc, _≤_, _<_, _-_, _+_, _*_}
+use lib.ListN.{length}
+use mathlib.Core.Path.{_≡_, _∙_}
+use Prim.Native.Nat.{_-_}
 use native.Mathlib.Omega.{arith}
 use borrow.Author.Needs.{needs}
 use Rattle.narrowing.proofs.least_cuts.Statement.{statement}

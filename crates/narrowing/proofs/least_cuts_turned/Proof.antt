@@ -1,7 +1,7 @@
 use Rattle.narrowing.proofs.TurnLaws.{front-length, slots-below, plan-length, plan-below, turned-lists, turned-units, turned-admitted, cuts-length, cuts-below, turned-cuts}
 use lib.ListN.{length, getD, take, replicate}
-use mathlib.Core.Path.{_≡_, refl, sym, ap, subst, _∙_}
-use Prim.Native.Nat.{ℕ, suc, _≤_, _<_, _-_, _+_, _*_}
+use mathlib.Core.Path.{refl, sym}
+use Prim.Native.Nat.{_-_}
 use native.Mathlib.Omega.{arith}
 use borrow.Author.Needs.{needs}
 use Rattle.narrowing.proofs.least_cuts_turned.Statement.{statement}

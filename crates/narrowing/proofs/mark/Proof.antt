@@ -1,10 +1,9 @@
 use Rattle.narrowing.proofs.MarkLaws.{place-inside, marked-none, marked-more}
-use Rattle.narrowing.specs.Windows.{Units, Marked}
-use lib.ListN.{length, getD, set, length-set}
-use mathlib.Core.Path.{_≡_, refl, sym, ap, subst, _∙_}
-use Prim.Native.Nat.{ℕ, suc, _≤_, _<_, _-_, _+_, _*_}
+use Rattle.narrowing.specs.Windows.{Marked}
+use lib.ListN.{length, length-set}
+use mathlib.Core.Path.{_≡_, refl, subst, _∙_}
+use Prim.Native.Nat.{ℕ, _≤_, _-_}
 use native.Mathlib.Omega.{arith}
-use borrow.Author.Needs.{needs}
 use Rattle.narrowing.proofs.mark.Statement.{statement}
 use Rattle.narrowing.proofs.mark.Tie as tie
 
