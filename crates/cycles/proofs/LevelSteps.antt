@@ -3,27 +3,22 @@
 -- levels say is there: a boundary that fell, and one from which a level came.
 use Prim.Native.Nat.{ℕ, zero, suc, _+_, _-_, _*_, _≤_, _<_}
 use native.Mathlib.Omega.{arith}
-use native.Mathlib.Nat.{mul-le-mul-right, eq-or-lt-of-le}
-use native.Mathlib.Numerals.{add-one}
+use native.Mathlib.Nat.{mul-le-mul-right}
 use native.Mathlib.Decide.{decLe}
 use mathlib.Core.Path.{_≡_, refl, sym, ap, subst, _∙_}
-use mathlib.Core.Logic.{_⊎_, inl, inr, ⊎-elim}
 use mathlib.Core.Bool.{Bool, true, false}
-use mathlib.Core.List.{List, [], _++_, append-nil}
+use mathlib.Core.List.{List, _++_, append-nil}
 use lib.Dec.{T}
 use lib.ListN.{length, getD, take, drop, length-take, replicate, drop-of-length-le, List·getD-append}
 use lib.Seq.{getD-take}
 use lib.IntN.{ℤ, pos, _+ℤ_}
-use lib.Signed.{ltZ, _≤ℤ_, _<ℤ_}
-use mir.Syntax.{w16}
-use mir.Val.{SFits}
-use Rattle.integers.specs.Parts.{ints, fits-within}
-use Rattle.lists.specs.First.{firstPlace, first-most, first-before, first-at}
+use lib.Signed.{ltZ}
+use Rattle.integers.specs.Parts.{ints}
+use Rattle.lists.specs.First.{firstPlace, first-before, first-at}
 use Rattle.lists.specs.Parts.{part-at, part-length, back, back-before, back-inside}
 use Rattle.lists.specs.Values.{listOf, length-listOf, listOf-at}
 use Rattle.network.specs.Network.{Potential, Feasible}
 use Rattle.network.specs.Table.{entry, sumInRange}
-use Rattle.network.specs.TableLaws.{row-inside}
 use Rattle.cycles.specs.Levels.{leastOver, lower, level}
 use Rattle.cycles.specs.LevelLaws.{least-same, level-step, level-source, level-feasible}
 use Rattle.cycles.specs.Finder.{SumsFit, LevelsUpTo, Weighed, Ready, Fallen, Source}

@@ -1,6 +1,6 @@
 -- One level: the steps from each boundary in turn.
 -- Key idea: the row step over the weights from u, with what prev has at u, takes the least over the boundaries below u to the least over those below u + 1.
-use Prim.Native.Nat.{ℕ, suc, _+_, _-_, _*_, _≤_, _<_}
+use Prim.Native.Nat.{ℕ, suc, _+_, _*_, _≤_, _<_}
 use native.Mathlib.Omega.{arith}
 use native.Mathlib.Numerals.{add-one}
 use mathlib.Core.Path.{_≡_, refl, sym, ap, subst, _∙_}
@@ -9,7 +9,7 @@ use lib.Dec.{T}
 use lib.ListN.{length, getD, take, drop, length-take}
 use lib.IntN.{ℤ, pos, _+ℤ_}
 use Rattle.integers.specs.Parts.{minℤ}
-use Rattle.lists.specs.Parts.{part-at, part-length}
+use Rattle.lists.specs.Parts.{part-at}
 use Rattle.lists.specs.Values.{listOf, length-listOf, listOf-at, listOf-is, listOf-same}
 use Rattle.network.specs.Table.{entry, sumInRange}
 use Rattle.network.specs.Row.{lowered, relaxed, SumsInRange}

@@ -1,23 +1,22 @@
 -- The walk back, one boundary at a time.
 -- Key idea: the walk stands at the end of its room, so a boundary more is one more in front. No boundary is on it twice, so it has at most w boundaries and
 -- starts at level 1 or above: the walk can always go on until it meets a boundary again.
-use Prim.Native.Nat.{ℕ, zero, suc, _+_, _-_, _*_, _≤_, _<_}
+use Prim.Native.Nat.{ℕ, suc, _+_, _-_, _≤_, _<_}
 use native.Mathlib.Omega.{arith}
-use mathlib.Core.Path.{_≡_, refl, sym, ap, subst, _∙_}
-use mathlib.Core.Bool.{Bool, true, false}
-use mathlib.Core.List.{List, [], _∷_, _++_}
+use mathlib.Core.Path.{_≡_, sym, ap, subst, _∙_}
+use mathlib.Core.Bool.{Bool, true}
+use mathlib.Core.List.{List, [], _∷_}
 use borrow.Author.Tests.{eqb-true, eqb-false}
 use lib.Dec.{eqb}
 use lib.ListN.{length, getD, take, drop, set, length-take, length-drop, length-set, drop-of-length-le}
 use lib.Seq.{drop-cons, drop-set-lt, getD-set-same, take-all}
-use lib.IntN.{ℤ, pos, _+ℤ_}
-use lib.Signed.{_<ℤ_}
+use lib.IntN.{ℤ, _+ℤ_}
 use Rattle.lists.specs.First.{firstPlace, first-before, first-at}
 use Rattle.lists.specs.Members.{In}
 use Rattle.network.specs.NetworkLaws.{Upto}
 use Rattle.network.specs.Table.{entry}
 use Rattle.cycles.specs.Levels.{level}
-use Rattle.cycles.specs.CycleLaws.{Distinct, distinct-length, Place, at-in, Cycle}
+use Rattle.cycles.specs.CycleLaws.{Distinct, distinct-length, at-in, Cycle}
 use Rattle.cycles.specs.WalkLaws.{Walked, met-again}
 use Rattle.cycles.specs.Finder.{Weighed, Fallen, Source, Found}
 

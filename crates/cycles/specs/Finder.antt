@@ -1,12 +1,12 @@
 -- What the parts of the finder of negative cycles ask and leave. Definitions only.
 use mathlib.Core.Path.{_≡_}
-use mathlib.Core.List.{List, [], _∷_, _++_}
+use mathlib.Core.List.{List}
 use Prim.Native.Nat.{ℕ, suc, _+_, _-_, _*_, _≤_, _<_}
 use lib.Dec.{T}
 use lib.ListN.{length, getD, take, drop}
 use lib.IntN.{ℤ, pos, _+ℤ_}
 use lib.Signed.{_<ℤ_}
-use Rattle.network.specs.Network.{Weights, Potential, Feasible, isNegativeCycle}
+use Rattle.network.specs.Network.{Potential, Feasible, isNegativeCycle}
 use Rattle.network.specs.Table.{mostBoundaries, entry, sumInRange}
 use Rattle.cycles.specs.Levels.{level, WeightsBounded}
 use Rattle.cycles.specs.CycleLaws.{Cycle}

@@ -1,16 +1,16 @@
 -- The laws of levels.
 -- Key idea: a level that no step lowers any more is a feasible potential. So where there is none, every level falls somewhere, the last one too. The
 -- boundary u from which a boundary's level came had itself fallen one level earlier, or the later fall would have come earlier.
-use mathlib.Core.Path.{_≡_, refl, sym, ap, _∙_, subst}
+use mathlib.Core.Path.{_≡_, refl, sym, ap, _∙_}
 use mathlib.Core.Logic.{_⊎_, inl, inr, ⊎-elim}
-use Prim.Native.Nat.{ℕ, zero, suc, _+_, _-_, _*_, _≤_, _<_}
+use Prim.Native.Nat.{ℕ, zero, suc, _+_, _<_}
 use native.Mathlib.Omega.{arith}
 use native.Mathlib.Nat.{eq-or-lt-of-le, le-of-suc-le-suc}
-use lib.IntN.{ℤ, pos, negsuc, _+ℤ_}
+use lib.IntN.{ℤ, pos, _+ℤ_}
 use lib.Signed.{_≤ℤ_, _<ℤ_, ≤ℤ-refl}
 use Rattle.integers.specs.Parts.{ints, sum, minℤ, min-cases, min-is, min≤l, min≤r}
-use Rattle.network.specs.Network.{Weights, Potential, Feasible}
-use Rattle.cycles.specs.Levels.{leastOver, lower, level}
+use Rattle.network.specs.Network.{Weights, Feasible}
+use Rattle.cycles.specs.Levels.{leastOver, level}
 
 -- ---- the smallest of several
 pub least-start : (n : ℕ) (g : ℕ → ℤ) (z : ℤ) → leastOver n g z ≤ℤ z

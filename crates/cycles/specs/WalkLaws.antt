@@ -1,19 +1,18 @@
 -- The walk back from a boundary that fell at the last level.
 -- Key idea: each boundary of the walk fell at its own level, so the levels at two visits of one boundary differ, the later being the lower. The weights
 -- between the visits add up to that difference: the stretch is a cycle, and negative.
-use mathlib.Core.Path.{_≡_, refl, sym, ap, _∙_, subst}
-use mathlib.Core.Logic.{_⊎_, inl, inr, ⊎-elim}
-use mathlib.Core.List.{List, [], _∷_, _++_}
-use Prim.Native.Nat.{ℕ, zero, suc, _+_, _-_, _≤_, _<_}
+use mathlib.Core.Path.{_≡_, sym, ap, _∙_, subst}
+use mathlib.Core.List.{List, [], _∷_}
+use Prim.Native.Nat.{ℕ, zero, suc, _+_, _≤_, _<_}
 use native.Mathlib.Omega.{arith}
-use lib.ListN.{length, getD, take, drop, length-take, take-append-drop}
-use lib.IntN.{ℤ, pos, _+ℤ_}
-use lib.Signed.{_≤ℤ_, _<ℤ_}
+use lib.ListN.{length, getD, take, drop, take-append-drop}
+use lib.IntN.{pos, _+ℤ_}
+use lib.Signed.{_<ℤ_}
 use Rattle.integers.specs.Parts.{ints, sum}
-use Rattle.network.specs.Network.{Weights, via, around}
+use Rattle.network.specs.Network.{Weights, via}
 use Rattle.network.specs.NetworkLaws.{Upto, upto-left}
 use Rattle.cycles.specs.Levels.{level}
-use Rattle.cycles.specs.LevelLaws.{level-falls, level-sinks, fell-earlier}
+use Rattle.cycles.specs.LevelLaws.{level-sinks, fell-earlier}
 use Rattle.cycles.specs.CycleLaws.{Distinct, distinct-left, Cycle}
 
 -- the boundaries v, .. of the levels k + 1, ..: each gives the next one its level, and the last one fell

@@ -1,8 +1,8 @@
 -- A part of a list, and the list with a part replaced, as a lent part comes back.
 -- Key idea: the list is what stands before the part, the part, and what stands behind it; a place is in one of the three.
-use mathlib.Core.Path.{_≡_, refl, sym, ap, _∙_}
+use mathlib.Core.Path.{_≡_, sym, ap, _∙_}
 use mathlib.Core.List.{List, _++_}
-use Prim.Native.Nat.{ℕ, _+_, _-_, _≤_, _<_}
+use Prim.Native.Nat.{ℕ, _+_, _≤_, _<_}
 use native.Mathlib.Omega.{arith}
 use lib.ListN.{length, getD, take, drop, length-take, length-drop, length-append, take-append-drop, List·getD-append}
 use lib.Seq.{getD-take, getD-drop, getD-append-add}

@@ -3,28 +3,26 @@
 -- new values in front and its old ones behind. What is still to be asked of the rows left gives the pass's whole answer, so a break keeps it at hand.
 use mathlib.Core.Path.{_≡_, refl, sym, ap, _∙_, subst}
 use mathlib.Core.Bool.{Bool, true, false, _&&_, cond}
-use mathlib.Core.List.{List, [], _∷_, _++_, map, append-assoc}
-use mathlib.Core.Logic.{⊎-elim}
-use Prim.Native.Nat.{ℕ, zero, suc, _+_, _-_, _*_, _≤_, _<_, min}
+use mathlib.Core.List.{List, _++_, map}
+use Prim.Native.Nat.{ℕ, suc, _+_, _-_, _*_, _≤_, _<_}
 use native.Mathlib.Omega.{arith}
 use native.Mathlib.Numerals.{add-one}
 use native.Mathlib.Decide.{decLe}
 use lib.Dec.{T}
-use lib.ListN.{length, getD, take, drop, length-take, length-drop, length-append, take-append-drop, replicate, List·getD-append}
-use lib.Seq.{getD-take, getD-drop}
+use lib.ListN.{length, getD, take, drop, length-take, replicate, List·getD-append}
 use lib.IntN.{ℤ, pos, negsuc, _+ℤ_}
-use lib.Signed.{leZ, ltZ, _≤ℤ_}
+use lib.Signed.{leZ, ltZ}
 use Rattle.integers.specs.Parts.{ints, minℤ, min≤l}
-use Rattle.lists.specs.Lists.{run, every, joined}
+use Rattle.lists.specs.Lists.{run, joined}
 use Rattle.lists.specs.Members.{every-at}
 use Rattle.lists.specs.Parts.{part-at, part-length, back, back-length}
-use Rattle.lists.specs.Values.{listOf, length-listOf, listOf-at, listOf-is, values-are, Filled, filled-length, filled-old, filled-new, filled-all, filled-part, front-length, front-rest, front-past, front-part}
+use Rattle.lists.specs.Values.{listOf, length-listOf, listOf-at, listOf-is, values-are, Filled, filled-old, filled-new, filled-part, front-rest, front-past, front-part}
 use Rattle.network.specs.Closure.{step}
-use Rattle.network.specs.Table.{tableOf, entry, middle, sumInRange, rowInRange, Passed, finished, stopped, outOfRange, afterRows, passFrom, outcomeOf, cleared, After}
-use Rattle.network.specs.TableLaws.{length-rows, rows-snoc, row-inside, length-middle, drop-middle}
+use Rattle.network.specs.Table.{entry, middle, sumInRange, rowInRange, Passed, finished, stopped, outOfRange, afterRows, passFrom, outcomeOf, cleared, After}
+use Rattle.network.specs.TableLaws.{length-rows, rows-snoc, drop-middle}
 use Rattle.network.specs.Row.{leastOf, greatestOf, lowered, relaxed, SumsInRange, Loaded, Ran}
 use Rattle.network.specs.declared.Outcome.{Outcome}
-use Rattle.network.specs.declared.Outcome.the-variants.{Finished, Stopped, OutOfRange}
+use Rattle.network.specs.declared.Outcome.the-variants.{Finished}
 use Rattle.network.specs.RowLaws.{ends-ask-all}
 
 -- ---- the middle row, copied, and its extremes

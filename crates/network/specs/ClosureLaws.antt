@@ -2,9 +2,9 @@
 -- Key idea: closing over one more middle boundary m keeps what is closed below m, because a way that uses m twice goes around a closed walk at m, and
 -- the diagonal says that this costs nothing. A closed table's rows are feasible potentials, and so is the smaller of two rows, one of them shifted:
 -- this one formula reaches every rise from the least to the greatest.
-use mathlib.Core.Path.{_≡_, refl, sym, ap, _∙_, subst}
-use mathlib.Core.Logic.{_⊎_, inl, inr, ⊎-elim}
-use Prim.Native.Nat.{ℕ, zero, suc, _+_, _-_, _≤_, _<_}
+use mathlib.Core.Path.{_≡_, sym, _∙_, subst}
+use mathlib.Core.Logic.{⊎-elim}
+use Prim.Native.Nat.{ℕ, suc, _≤_, _<_}
 use native.Mathlib.Omega.{arith}
 use native.Mathlib.Nat.{eq-or-lt-of-le, le-of-suc-le-suc}
 use lib.IntN.{ℤ, pos, negℤ, _+ℤ_}

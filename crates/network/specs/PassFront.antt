@@ -2,20 +2,20 @@
 -- Key idea: everything that the pass reads lies inside the table, so each definition agrees on the two lists, and the rest is carried along.
 use mathlib.Core.Path.{_≡_, refl, sym, ap, ap₂, _∙_}
 use mathlib.Core.Bool.{Bool, true, false, cond}
-use mathlib.Core.List.{List, [], _∷_, _++_, map, append-assoc, append-nil}
+use mathlib.Core.List.{List, [], _++_, append-nil}
 use Prim.Native.Nat.{ℕ, zero, suc, _+_, _*_, _≤_, _<_}
 use native.Mathlib.Omega.{arith}
-use lib.ListN.{length, getD, drop, drop-of-length-le, List·getD-append}
+use lib.ListN.{length, drop, drop-of-length-le, List·getD-append}
 use lib.Seq.{drop-at}
 use lib.IntN.{ℤ, pos, _+ℤ_}
 use lib.Signed.{ltZ}
-use Rattle.lists.specs.Lists.{run, every, joined}
+use Rattle.lists.specs.Lists.{every, joined}
 use Rattle.lists.specs.Values.{listOf, values-same, listOf-same}
 use Rattle.integers.specs.Parts.{minℤ}
 use Rattle.network.specs.Network.{Weights}
 use Rattle.network.specs.Closure.{step}
 use Rattle.network.specs.Table.{tableOf, entry, middle, sumInRange, rowInRange, Passed, finished, stopped, outOfRange, afterRows, passFrom, passOf}
-use Rattle.network.specs.TableLaws.{length-tableOf, length-middle, row-inside}
+use Rattle.network.specs.TableLaws.{length-middle, row-inside}
 
 -- ---- tables that agree place by place
 pub tableOf-same : (w : ℕ) (f g : Weights) → ((a b : ℕ) → a < w → b < w → f a b ≡ g a b) → tableOf w f ≡ tableOf w g

@@ -1,18 +1,16 @@
 -- The rows 0 to k hold their levels.
-use Prim.Native.Nat.{ℕ, suc, _+_, _-_, _*_, _≤_, _<_}
+use Prim.Native.Nat.{ℕ, _+_, _-_, _*_, _≤_, _<_}
 use native.Mathlib.Omega.{arith}
 use mathlib.Core.Path.{_≡_, refl, sym, ap, subst, _∙_}
-use mathlib.Core.List.{List}
-use lib.ListN.{length, getD, take, drop}
-use lib.IntN.{ℤ, pos, _+ℤ_}
-use borrow.Author.Needs.{needs}
+use lib.ListN.{length, getD, take}
+use lib.IntN.{pos}
 use Rattle.lists.specs.Parts.{part-length, back-length}
 use Rattle.lists.specs.Values.{length-listOf}
 use Rattle.network.specs.Table.{entry}
 use Rattle.network.specs.TableLaws.{row-inside}
 use Rattle.cycles.specs.Levels.{lower}
 use Rattle.cycles.specs.Finder.{LevelsUpTo}
-use Rattle.cycles.proofs.LevelSteps.{copy-at, copy-long, copy-sums, rows-next}
+use Rattle.cycles.proofs.LevelSteps.{copy-long, copy-sums, rows-next}
 use Rattle.cycles.proofs.fill_levels.Statement.{statement}
 use Rattle.cycles.proofs.fill_levels.Tie as tie
 

@@ -1,13 +1,11 @@
 -- The first boundary whose last level is below the one before.
-use Prim.Native.Nat.{ℕ, suc, _+_, _-_, _*_, _≤_, _<_}
+use Prim.Native.Nat.{ℕ, _+_, _-_, _*_}
 use native.Mathlib.Omega.{arith}
-use mathlib.Core.Path.{_≡_, refl, sym, ap, subst, _∙_}
-use mathlib.Core.List.{List}
-use lib.ListN.{length, getD, take, drop}
-use lib.IntN.{ℤ, pos, _+ℤ_}
+use mathlib.Core.Path.{_≡_, sym, ap, _∙_}
+use lib.ListN.{getD, take, drop}
+use lib.IntN.{pos}
 use borrow.Author.Needs.{needs}
 use Rattle.lists.specs.Parts.{part-at, part-length}
-use Rattle.network.specs.Table.{entry}
 use Rattle.network.specs.TableLaws.{row-inside}
 use Rattle.cycles.proofs.LevelSteps.{fallen-found}
 use borrow.Author.Needs.{needs}

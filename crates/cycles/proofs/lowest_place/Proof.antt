@@ -1,11 +1,9 @@
 -- The place so far has the least number of the places passed.
-use Prim.Native.Nat.{ℕ, suc, _+_, _-_, _*_, _≤_, _<_}
+use Prim.Native.Nat.{ℕ, _-_, _≤_, _<_}
 use native.Mathlib.Omega.{arith}
-use mathlib.Core.Path.{_≡_, refl, sym, ap, subst, _∙_}
-use borrow.Author.Needs.{needs}
+use mathlib.Core.Path.{_≡_, refl, ap}
 use mathlib.Core.Logic.{⊎-elim}
 use lib.ListN.{length, getD}
-use Rattle.cycles.specs.Finder.{Lowest}
 use Rattle.cycles.proofs.PlaceLaws.{lowest-next}
 use Rattle.cycles.proofs.lowest_place.Statement.{statement}
 use Rattle.cycles.proofs.lowest_place.Tie as tie

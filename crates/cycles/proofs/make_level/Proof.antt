@@ -1,6 +1,6 @@
 -- The row is a copy of prev, which the steps from each boundary then lower.
 use native.Mathlib.Omega.{arith}
-use mathlib.Core.Path.{_≡_, _∙_}
+use mathlib.Core.Path.{_∙_}
 use Rattle.cycles.proofs.LevelSteps.{copied-whole}
 use borrow.Author.Needs.{needs}
 use Rattle.cycles.proofs.make_level.Statement.{statement}

@@ -1,8 +1,8 @@
 -- The rooms for levels and walk are long enough for the largest number of boundaries.
-use Prim.Native.Nat.{ℕ, _+_, _*_, _≤_}
+use Prim.Native.Nat.{_+_}
 use native.Mathlib.Omega.{arith}
-use mathlib.Core.Path.{_≡_, sym}
-use lib.ListN.{length, take, replicate}
+use mathlib.Core.Path.{sym}
+use lib.ListN.{replicate}
 use lib.Seq.{length-take-le}
 use Rattle.cycles.proofs.LevelSteps.{first-level, levels-fit}
 use borrow.Author.Needs.{needs}

@@ -1,19 +1,16 @@
 -- After the steps from the boundaries below u the row holds the least of prev and of what those steps leave.
-use Prim.Native.Nat.{ℕ, suc, _+_, _-_, _*_, _≤_, _<_}
+use Prim.Native.Nat.{ℕ, _+_, _-_, _*_, _≤_, _<_}
 use native.Mathlib.Omega.{arith}
-use mathlib.Core.Path.{_≡_, refl, sym, ap, subst, _∙_}
-use mathlib.Core.List.{List}
-use lib.ListN.{length, getD, take, drop}
-use lib.IntN.{ℤ, pos, _+ℤ_}
+use mathlib.Core.Path.{_≡_, sym, ap, _∙_}
+use lib.ListN.{length, getD}
+use lib.IntN.{pos}
 use mir.Syntax.{w16}
 use mir.Val.{SFits, toZ, ofZ}
 use mir.Facts.{toZ-ofZ}
 use borrow.Author.Needs.{needs}
 use Rattle.lists.specs.Parts.{part-length}
-use Rattle.lists.specs.Values.{listOf, length-listOf, listOf-is}
-use Rattle.network.specs.Table.{entry}
+use Rattle.lists.specs.Values.{listOf, length-listOf}
 use Rattle.network.specs.TableLaws.{row-inside}
-use Rattle.cycles.specs.Levels.{leastOver}
 use Rattle.cycles.proofs.StepLaws.{reachedBy, reached-start, reached-next, row-sums}
 use Rattle.cycles.proofs.next_level.Statement.{statement}
 use Rattle.cycles.proofs.next_level.Tie as tie

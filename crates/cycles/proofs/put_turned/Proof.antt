@@ -1,9 +1,8 @@
 -- The back of the cycle is written first, and its front behind that.
 use Prim.Native.Nat.{_-_}
-use native.Mathlib.Omega.{arith}
 use mathlib.Core.Path.{refl}
 use native.Mathlib.Nat.{sub-zero}
-use lib.ListN.{length, take}
+use lib.ListN.{length}
 use Rattle.cycles.proofs.TurnLaws.{turned-list}
 use borrow.Author.Needs.{needs}
 use Rattle.cycles.proofs.put_turned.Statement.{statement}

@@ -1,8 +1,7 @@
 -- Each turn puts a boundary more in front of the walk, or finds it on the walk already.
-use Prim.Native.Nat.{ℕ, suc, _+_, _-_, _*_, _≤_, _<_}
+use Prim.Native.Nat.{_+_, _-_}
 use native.Mathlib.Omega.{arith}
-use mathlib.Core.Path.{_≡_, refl, sym, _∙_}
-use lib.ListN.{length, length-set}
+use mathlib.Core.Path.{refl, sym, _∙_}
 use Rattle.cycles.proofs.WalkSteps.{WalkInv, walk-start, walk-found, walk-next}
 use Rattle.cycles.proofs.walk_back.Statement.{statement}
 use Rattle.cycles.proofs.walk_back.Tie as tie

@@ -1,13 +1,9 @@
 -- The places in front hold 0, and the others what they had.
-use Prim.Native.Nat.{ℕ, _+_, _-_, _≤_, _<_}
+use Prim.Native.Nat.{ℕ, _-_, _≤_, _<_}
 use native.Mathlib.Omega.{arith}
 use mathlib.Core.Path.{_≡_, refl, sym, ap, _∙_}
-use lib.ListN.{length, getD, drop, length-set}
-use lib.IntN.{ℤ, pos, _+ℤ_}
-use mir.Syntax.{w16}
-use mir.Val.{SFits, toZ, ofZ}
-use mir.Facts.{toZ-ofZ}
-use borrow.Author.Needs.{needs}
+use lib.ListN.{length, drop, length-set}
+use lib.IntN.{ℤ, pos}
 use mathlib.Core.List.{List, _++_}
 use Rattle.lists.specs.Values.{listOf, Filled, filled-store, replicate-values}
 use Rattle.network.proofs.clear.Statement.{statement}

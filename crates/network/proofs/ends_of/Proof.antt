@@ -1,10 +1,10 @@
 -- What is left of the row gives, with the numbers so far, the whole row's extremes.
-use Prim.Native.Nat.{ℕ, _+_, _-_, _≤_, _<_}
+use Prim.Native.Nat.{_+_, _-_, _≤_, _<_}
 use native.Mathlib.Omega.{arith}
 use mathlib.Core.Path.{_≡_, refl, sym, ap, _∙_}
-use mir.Syntax.{w16, w32}
-use mir.Val.{SFits, toZ, ofZ}
-use mir.Facts.{toZ-ofZ, sfits-widen}
+use mir.Syntax.{w16}
+use mir.Val.{SFits, toZ}
+use mir.Facts.{toZ-ofZ}
 use lib.ListN.{length, getD, drop, drop-of-length-le}
 use mathlib.Core.List.{[]}
 use lib.IntN.{ℤ, pos}

@@ -1,7 +1,5 @@
 -- The whole pass is that of all middle boundaries.
-use Prim.Native.Nat.{ℕ}
 use native.Mathlib.Nat.{sub-zero}
-use Rattle.network.specs.Table.{passFrom, After}
 use borrow.Author.Needs.{needs}
 use Rattle.network.proofs.pass.Statement.{statement}
 use Rattle.network.proofs.pass.Tie as tie

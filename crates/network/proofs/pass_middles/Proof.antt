@@ -1,9 +1,8 @@
 -- Where the middles do not all finish, the half-done table is cleared, and past the table the loops changed nothing.
-use Prim.Native.Nat.{ℕ, _-_, _*_}
+use Prim.Native.Nat.{ℕ, _-_}
 use native.Mathlib.Omega.{arith}
 use mathlib.Core.Path.{_≡_}
 use Rattle.network.specs.Table.{passFrom}
-use Rattle.network.specs.declared.Outcome.the-variants.{Finished, Stopped, OutOfRange}
 use Rattle.network.proofs.PassSteps.{after-finished, after-cleared}
 use borrow.Author.Needs.{needs}
 use Rattle.network.proofs.pass_middles.Statement.{statement}

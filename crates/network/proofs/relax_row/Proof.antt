@@ -1,8 +1,8 @@
 -- The places in front hold the smaller numbers, and the others what they had; the sum is in range at each place, so it fits 16 bits.
-use Prim.Native.Nat.{ℕ, _+_, _-_, _≤_, _<_}
+use Prim.Native.Nat.{ℕ, _-_, _≤_, _<_}
 use native.Mathlib.Omega.{arith}
 use mathlib.Core.Path.{_≡_, refl, sym, ap, _∙_}
-use lib.ListN.{length, getD, drop, length-set}
+use lib.ListN.{length, getD, length-set}
 use lib.IntN.{ℤ, pos, _+ℤ_}
 use mir.Syntax.{w16}
 use mir.Val.{SFits, toZ, ofZ}

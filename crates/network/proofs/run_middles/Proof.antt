@@ -1,24 +1,20 @@
 -- The three loops of the pass: each turn is a law of `PassSteps`, and a break hands over what the pass's definition says at that row.
-use Prim.Native.Nat.{ℕ, suc, _+_, _-_, _*_, _≤_, _<_, min}
+use Prim.Native.Nat.{ℕ, suc, _+_, _-_, _*_, _≤_, _<_}
 use native.Mathlib.Omega.{arith}
-use native.Mathlib.Nat.{sub-zero}
-use mathlib.Core.Path.{_≡_, refl, sym, ap, subst, _∙_}
-use mathlib.Core.Bool.{Bool, true, false, _&&_}
-use mathlib.Core.List.{List, _++_}
-use lib.ListN.{length, getD, take, drop, length-take, length-drop}
-use lib.IntN.{ℤ, pos, negsuc, _+ℤ_}
-use lib.Signed.{ltZ, leZ}
+use mathlib.Core.Path.{_≡_, refl, sym, _∙_}
+use mathlib.Core.Bool.{true, false}
+use lib.ListN.{length, getD, take, drop}
+use lib.IntN.{pos}
+use lib.Signed.{ltZ}
 use mir.Syntax.{w16}
 use mir.Val.{SFits, toZ, ofZ}
 use mir.Facts.{toZ-ofZ}
 use borrow.Author.Needs.{needs}
 use Rattle.lists.specs.Parts.{back, back-length, back-past, part-length}
-use Rattle.network.specs.Closure.{step}
-use Rattle.network.specs.Table.{entry, middle, rowInRange, Passed, finished, stopped, outOfRange, afterRows, passFrom}
+use Rattle.network.specs.Table.{entry, middle, rowInRange, stopped, outOfRange, passFrom}
 use Rattle.network.specs.TableLaws.{row-inside}
-use Rattle.network.specs.Row.{lowered, relaxed}
-use Rattle.network.specs.declared.Outcome.the-variants.{Finished, Stopped, OutOfRange}
-use Rattle.network.proofs.PassSteps.{MidIs, mid-is, RowIs, row-asked, stretch-in-range, ColsInv, cols-start, cols-long, cols-again, cols-low, newRow, lowered-is, row-done, row-low, RowsInv, rows-start, row-is, rows-past, rows-out, rows-low, rows-again, rows-done, rows-on, PassInv, middle-again, pass-ended, pass-left}
+use Rattle.network.specs.declared.Outcome.the-variants.{Stopped, OutOfRange}
+use Rattle.network.proofs.PassSteps.{MidIs, mid-is, RowIs, row-asked, stretch-in-range, ColsInv, cols-start, cols-long, cols-again, cols-low, row-done, row-low, RowsInv, rows-start, row-is, rows-past, rows-out, rows-low, rows-again, PassInv, middle-again, pass-ended, pass-left}
 use Rattle.network.proofs.run_middles.Statement.{statement}
 use Rattle.network.proofs.run_middles.Tie as tie
 use Rattle.network.proofs.run_middles.Reads as reads
