@@ -12,7 +12,7 @@ use lib.ListN.{length, getD, drop, drop-of-length-le}
 use lib.Seq.{drop-cons}
 use lib.Dec.{eqb, leb, leb·suc-suc, leb·zero, leb·suc-zero}
 use borrow.Author.Tests.{eqb-true, eqb-false, le-leb, lt-leb, leb-true}
-use Rattle.form.specs.Form.{isDigit, leading, some, plain, valueFrom, maxDigits}
+use Rattle.form.specs.Form.{isDigit, leading, some, plain, valueFrom}
 use Rattle.form.specs.FormLaws.{Digits, leading-digits, and-left, and-right}
 use Rattle.form.specs.Number.{numberOf}
 use Rattle.form.specs.declared.Number.{Number}

@@ -1,20 +1,20 @@
 -- The grid reads the forms: `grid-reads`, that the state after a line tells what the line is.
 -- Key idea: a state stands for the ways in which a line may still go on, and a byte takes it to the state of the ways that go on over that byte.
 -- A byte and the byte that stands for its class are the same to every state, so this is one test over all states and classes, which is computed.
-use Prim.Native.Nat.{ℕ, zero, suc, _+_, _-_, _≤_, _<_}
+use Prim.Native.Nat.{ℕ, zero, suc, _+_, _-_, _<_}
 use mathlib.Core.Path.{_≡_, refl, sym, ap, ap₂, subst, _∙_}
 use mathlib.Core.Bool.{Bool, true, false, _&&_, not, cond, Bool·beq, and-assoc}
-use mathlib.Core.List.{List, [], _∷_, _++_}
+use mathlib.Core.List.{List, [], _∷_}
 use native.Mathlib.Omega.{arith}
 use lib.ListN.{length, getD, drop}
 use lib.Dec.{T, eqb, eqb→eq, eqb·suc-zero, leb, ltb, ltb→lt}
-use borrow.Author.Tests.{eqb-true, eqb-false, ne-eqb}
+use borrow.Author.Tests.{eqb-true, ne-eqb}
 use Rattle.lists.specs.Lists.{run, every}
 use Rattle.lists.specs.Members.{left, right, every-in, run-in}
 use Rattle.form.specs.Words.{classBytes}
 use Rattle.form.specs.Form.{isPrintable, isDigit, printable, some, leading, past, Piece, word, number, sheetForm, unitForm, ruleForm, startsWith}
 use Rattle.form.specs.Form.{matches, formOf, kindOf}
-use Rattle.form.specs.Grid.{grid, states, unprintable, start, sheetEnd, unitEnd, ruleEnd, kindAt, place, member, classOf, nextOf, runOf}
+use Rattle.form.specs.Grid.{grid, states, unprintable, start, sheetEnd, unitEnd, kindAt, place, member, classOf, nextOf, runOf}
 use Rattle.form.specs.declared.Kind.{Kind}
 use Rattle.form.specs.declared.Kind.the-variants.{Unprintable, Sheet, Unit, Rule, Other}
 

@@ -1,6 +1,6 @@
 ghost use mathlib.Core.Path.{_≡_};
 ghost use mathlib.Core.Bool.{true, false};
-ghost use Prim.Native.Nat.{ℕ, _+_, _-_, _<_, _≤_};
+ghost use Prim.Native.Nat.{_+_, _-_, _<_, _≤_};
 ghost use lib.ListN.{drop};
 ghost use Rattle.form.specs.Form.{isDigit, leading};
 ghost use Rattle.form.specs.Grid.{grid, classes, states, nextOf, classOf, kindAt, Tables};

@@ -2,17 +2,17 @@
 -- Key idea: a number's answer says that its digits are plain, its value, and its end; the text past its digits is the text from that end on. So the
 -- places at which the code reads are those at which `numbers` cuts the line.
 use Prim.Native.Nat.{ℕ, zero, suc, _+_, _-_, _≤_, _<_}
-use mathlib.Core.Path.{_≡_, refl, sym, ap, subst, _∙_}
-use mathlib.Core.Bool.{Bool, true, false, _&&_, not, cond, and-true, and-assoc}
+use mathlib.Core.Path.{_≡_, refl, sym, ap, _∙_}
+use mathlib.Core.Bool.{Bool, true, false, _&&_, cond, and-true, and-assoc}
 use mathlib.Core.List.{List, [], _∷_}
 use native.Mathlib.Omega.{arith}
 use native.Mathlib.Numerals.{add-one}
 use lib.ListN.{length, getD, drop, length-drop, drop-of-length-le}
 use lib.Seq.{drop-cons, drop-drop}
-use lib.Dec.{T, eqb}
+use lib.Dec.{eqb}
 use borrow.Author.Tests.{eq-eqb, ne-eqb}
 use Rattle.form.specs.Words.{lineFeed}
-use Rattle.form.specs.Form.{printable, some, leading, past, plain, value, startsWith, matches, numbers, sheetForm, unitForm, ruleForm, formOf, kindOf}
+use Rattle.form.specs.Form.{printable, leading, past, plain, value, startsWith, matches, numbers, sheetForm, unitForm, ruleForm, formOf, kindOf}
 use Rattle.form.specs.FormLaws.{past-drop, leading-short, false-not-true}
 use Rattle.form.specs.Grid.{runOf, kindAt, nextOf, classOf, start, states}
 use Rattle.form.specs.GridLaws.{grid-reads}
@@ -28,9 +28,7 @@ use Rattle.line.specs.Lines.{firstLine}
 use Rattle.line.specs.LinesLaws.{lineEnd}
 use Rattle.line.specs.Content.{Content, isNote, noteMatched, bracketsMatch, contentOf, sheetWith, unitWith, ruleWith}
 use Rattle.line.specs.Line.{said, lineOf, pairOf, formContent, printableKind}
-use Rattle.line.specs.declared.Line.{Line}
 use Rattle.line.specs.declared.Line.the-variants.{Refused, Note, Sheet, Unit, Rule}
-use Rattle.line.specs.declared.Pair.{Pair}
 use Rattle.line.specs.declared.Pair.the-variants.{Both, Faulty}
 
 -- ---- the scan: the states that are left to run through give the line's kind, and the place goes with its length

@@ -15,7 +15,6 @@ use borrow.Author.Tests.{eq-eqb, ne-eqb, lt-ltb, le-ltb}
 use Rattle.form.specs.Words.{opening, closing}
 use Rattle.notes.specs.Note.{maxDepth, matched}
 use Rattle.notes.specs.Readers.{Rest, rest, unmatched, leave, afterList, afterItem, endOf, none, atEnd}
-use Rattle.notes.specs.declared.End.{End}
 use Rattle.notes.specs.declared.End.the-variants.{At, Unmatched}
 
 -- ---- one list after the other

@@ -2,21 +2,22 @@
 -- Key idea: the first no of two lists of questions is that of the first, or else that of the second.
 use Prim.Native.Nat.{ℕ, _≤_, _<_, _*_}
 use mathlib.Core.Path.{_≡_, refl, sym, ap, ap₂, _∙_}
-use mathlib.Core.Bool.{Bool, true, false, _&&_, cond}
-use mathlib.Core.List.{List, [], _∷_, _++_, map, append-assoc}
+use mathlib.Core.Bool.{Bool, true, false, cond}
+use mathlib.Core.List.{List, [], _∷_, map, append-assoc}
 use native.Mathlib.Omega.{arith}
 use lib.ListN.{length, getD}
-use lib.Seq.{sets, length-sets}
+use lib.Seq.{length-sets}
 use lib.Dec.{leb}
 use borrow.Author.Tests.{le-leb, lt-leb, leb-true}
 use Rattle.sheet.specs.Limits.{maxUnits, maxRules}
 use Rattle.sheet.specs.declared.Sheet.{Sheet}
 use Rattle.form.specs.FormLaws.{and-left, and-right}
 use Rattle.line.specs.Lines.{lines}
-use Rattle.reader.specs.Reading.{maxBytes, contents, hasSheet, sheetIn, Question, ask, lineQuestions, Rooms, rooms, roomsFit, questions, Answer}
-use Rattle.reader.specs.Reading.{refused, read, Verdict, no, allYes, firstNo, concluded, reading, sizesOf, onto, leaves, roomsAfter}
-use Rattle.reader.specs.Reader.{windowNumbers, ruleNumbers, unitStream, ruleStream, passQuestions, passAnswer, KeptNumbers, strided, filled, Filling}
-use Rattle.reader.proofs.ReadLaws.{andThen, firstNo-append}
+use Rattle.questions.specs.Reading.{maxBytes, contents, hasSheet, sheetIn, ask, lineQuestions, Rooms, roomsFit, questions, Answer, refused, read, Verdict, no, allYes, firstNo, concluded, reading}
+use Rattle.questions.specs.Steps.{windowNumbers, ruleNumbers, unitStream, ruleStream, passQuestions, passAnswer, KeptNumbers}
+use Rattle.reader.specs.Rooms.{sizesOf, onto, leaves, roomsAfter}
+use Rattle.reader.specs.Spread.{strided, filled, Filling}
+use Rattle.questions.specs.PassLaws.{andThen, firstNo-append}
 use Rattle.reader.proofs.SpreadLaws.{stream-column, rooms-same}
 
 module _ (t : List ℕ) (sizes : Rooms ℕ) where
@@ -130,3 +131,8 @@ rooms-filled s t units units′ rules rules′ m u r h e f k =
         ap (λ (xs : List ℕ). onto xs room)
         (ap₂ (λ (n : ℕ) (xs : List ℕ). strided n 4 c xs) (g .rules) (k .in-rules)
         ∙ stream-column ruleNumbers 4 c l (λ w. refl) rules rs (omega (arith, k .few-rules, g .rules)))
+
+-- where all rooms but the last are long enough, the last one decides
+pub fits-last : (u r : ℕ) (m : Rooms ℕ) → u ≤ m .first → u ≤ m .last → r ≤ m .from → r ≤ m .to → r ≤ m .low → leb r (m .high) ≡ roomsFit u r m
+fits-last u r m a b c d e =
+    simp (le-leb u (m .first) a, le-leb u (m .last) b, le-leb r (m .from) c, le-leb r (m .to) d, le-leb r (m .low) e)

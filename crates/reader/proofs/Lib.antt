@@ -1,4 +1,2 @@
-pub mod StepLaws
-pub mod ReadLaws
 pub mod SpreadLaws
 pub mod AnswerLaws

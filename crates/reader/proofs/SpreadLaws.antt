@@ -7,12 +7,13 @@ use mathlib.Core.List.{List, [], _∷_, _++_, map, append-assoc}
 use native.Mathlib.Omega.{arith}
 use native.Mathlib.Numerals.{add-one}
 use native.Mathlib.Nat.{zero-add, sub-zero, suc-mul, add-comm}
-use lib.ListN.{length, getD, drop, set, length-set, length-append, List·getD-append}
+use lib.ListN.{length, getD, drop, set, length-set, List·getD-append}
 use lib.Seq.{sets, sets-eq, getD-drop, drop-append-seam}
 use Rattle.lists.specs.Lists.{joined}
-use Rattle.reader.specs.Reading.{rooms, onto}
-use Rattle.reader.specs.Reader.{strided, Reach}
-use Rattle.reader.proofs.ReadLaws.{stream-length}
+use Rattle.questions.specs.Reading.{rooms}
+use Rattle.reader.specs.Rooms.{onto}
+use Rattle.reader.specs.Spread.{strided, Reach}
+use Rattle.questions.specs.PassLaws.{stream-length}
 
 strided-length : (n k j : ℕ) (xs : List ℕ) → length (strided n k j xs) ≡ n
 unfolding strided

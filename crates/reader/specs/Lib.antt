@@ -1,3 +1,2 @@
-pub mod Reading
-pub mod Reader
-pub mod Samples
+pub mod Rooms
+pub mod Spread

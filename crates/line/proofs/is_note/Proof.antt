@@ -1,5 +1,4 @@
 use mathlib.Core.Path.{sym, _∙_}
-use mathlib.Core.Bool.{true-or, false-or}
 use Rattle.line.specs.Content.{isNote}
 use borrow.Author.Needs.{needs}
 use Rattle.line.proofs.is_note.Statement.{statement}

@@ -4,9 +4,10 @@ use mathlib.Core.Bool.{true}
 use lib.Dec.{lit≤}
 use lib.ListN.{length, replicate}
 use borrow.Author.Tests.{not-true, not-false}
-use Rattle.reader.specs.Reading.{maxBytes, rooms, sizesOf, roomsFit, read, answerOf}
-use Rattle.reader.specs.Reader.{passAnswer, Kept, KeptNumbers}
-use Rattle.reader.specs.declared.Reading.{Reading}
+use Rattle.questions.specs.Reading.{maxBytes, rooms, roomsFit, read, answerOf}
+use Rattle.questions.specs.Steps.{passAnswer, Kept, KeptNumbers}
+use Rattle.reader.specs.Rooms.{sizesOf}
+use Rattle.questions.specs.declared.Reading.{Reading}
 use Rattle.reader.proofs.AnswerLaws.{answer-long, answer-no, answer-rooms, answer-read, rooms-kept, fills, rooms-filled}
 use borrow.Author.Needs.{needs}
 use Rattle.reader.proofs.read.Statement.{statement}

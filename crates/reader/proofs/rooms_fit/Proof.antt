@@ -1,5 +1,5 @@
-use Rattle.reader.specs.Reading.{rooms}
-use Rattle.reader.proofs.StepLaws.{fits-last}
+use Rattle.questions.specs.Reading.{rooms}
+use Rattle.reader.proofs.AnswerLaws.{fits-last}
 use borrow.Author.Tests.{le-leb, lt-leb}
 use Rattle.reader.proofs.rooms_fit.Statement.{statement}
 use Rattle.reader.proofs.rooms_fit.Tie as tie

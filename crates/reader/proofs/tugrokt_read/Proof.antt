@@ -1,6 +1,6 @@
-use mathlib.Core.Path.{_≡_, sym, ap, _∙_}
-use Rattle.reader.specs.Reading.{answerOf, numbersOf}
-use Rattle.reader.specs.declared.Reading.{Reading}
+use mathlib.Core.Path.{sym, ap, _∙_}
+use Rattle.questions.specs.Reading.{answerOf}
+use Rattle.reader.specs.Rooms.{numbersOf}
 use borrow.Author.Needs.{needs}
 use Rattle.reader.proofs.tugrokt_read.Statement.{statement}
 use Rattle.reader.proofs.tugrokt_read.Tie as tie

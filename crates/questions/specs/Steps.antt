@@ -1,9 +1,8 @@
 -- What the reader's code answers on the way: questions 5 to 10 of a line, and the numbers that it keeps of the lines so far.
-use Prim.Native.Nat.{ℕ, zero, suc, _+_, _*_, _≤_, _<_}
+use Prim.Native.Nat.{ℕ, _+_, _≤_}
 use mathlib.Core.Path.{_≡_}
 use mathlib.Core.Bool.{cond}
 use mathlib.Core.List.{List, [], _∷_, _++_, map}
-use lib.ListN.{length, getD}
 use lib.Seq.{sets}
 use lib.Dec.{eqb, ltb}
 use Rattle.lists.specs.Lists.{within, joined}
@@ -13,12 +12,12 @@ use Rattle.sheet.specs.declared.Sheet.{Sheet}
 use Rattle.line.specs.Lines.{lines}
 use Rattle.line.specs.declared.Line.{Line}
 use Rattle.line.specs.declared.Line.the-variants as Line
-use Rattle.reader.specs.Reading.{isStretch, isCount, Rooms, rooms, onto, contents, hasSheet, sheetIn, Question, ask, lineQuestions, Answer, firstNo}
-use Rattle.reader.specs.Reading.{concluded}
-use Rattle.reader.specs.declared.Step.{Step}
-use Rattle.reader.specs.declared.Step.the-variants.{No, On}
-use Rattle.reader.specs.declared.Reading.{Reading}
-use Rattle.reader.specs.declared.Reading.the-variants as Reading
+use Rattle.questions.specs.Reading.{isStretch, isCount, contents, hasSheet, sheetIn, Question, ask, lineQuestions, Answer, firstNo}
+use Rattle.questions.specs.Reading.{concluded}
+use Rattle.questions.specs.declared.Step.{Step}
+use Rattle.questions.specs.declared.Step.the-variants.{No, On}
+use Rattle.questions.specs.declared.Reading.{Reading}
+use Rattle.questions.specs.declared.Reading.the-variants as Reading
 
 -- ---- a line after those of a sheet so far
 
@@ -94,32 +93,3 @@ pub record KeptNumbers (s : Sheet) (text units units′ rules rules′ : List �
 abbrev pub Kept : Reading → List ℕ → List ℕ → List ℕ → List ℕ → List ℕ → Type 0
 Kept (Reading.Refused f) text units units′ rules rules′ = Unit {0}
 Kept (Reading.Sheet s) text units units′ rules rules′ = KeptNumbers s text units units′ rules rules′
-
--- ---- every k-th number of an array, n of them, from the place j on
-
-unfoldable pub strided : ℕ → ℕ → ℕ → List ℕ → List ℕ
-strided zero k j xs = []
-strided (suc n) k j xs = getD xs j 0 ∷ strided n k (j + k) xs
-
--- all of those places lie below a bound
-unfoldable pub Reach : ℕ → ℕ → ℕ → ℕ → Type 0
-Reach zero k j bound = Unit {0}
-Reach (suc n) k j bound = (j < bound) × Reach n k (j + k) bound
-
--- the numbers of the two arrays in the rooms
-abbrev pub filled : Sheet → List ℕ → List ℕ → Rooms (List ℕ) → Rooms (List ℕ)
-filled s units rules m =
-    rooms (onto (strided (s .units) 2 0 units) (m .first)) (onto (strided (s .units) 2 1 units) (m .last))
-    (onto (strided (s .rules) 4 0 rules) (m .from)) (onto (strided (s .rules) 4 1 rules) (m .to))
-    (onto (strided (s .rules) 4 2 rules) (m .low)) (onto (strided (s .rules) 4 3 rules) (m .high))
-
--- the two arrays hold so many units and rules, and so do the rooms
-pub record Filling (s : Sheet) (units rules : ℕ) (sizes : Rooms ℕ) : Type 0 where
-  pub in-units : s .units * 2 ≤ units
-  pub in-rules : s .rules * 4 ≤ rules
-  pub in-first : s .units ≤ sizes .first
-  pub in-last : s .units ≤ sizes .last
-  pub in-from : s .rules ≤ sizes .from
-  pub in-to : s .rules ≤ sizes .to
-  pub in-low : s .rules ≤ sizes .low
-  pub in-high : s .rules ≤ sizes .high

@@ -4,12 +4,12 @@ use mathlib.Core.Bool.{true}
 use native.Mathlib.Omega.{arith}
 use lib.ListN.{length-set}
 use borrow.Author.Tests.{not-true, not-false, eq-eqb, ne-eqb, lt-ltb, le-ltb}
-use Rattle.reader.specs.Reading.{isStretch}
-use Rattle.reader.specs.Reader.{stepOf}
-use Rattle.reader.proofs.StepLaws.{two-set}
+use Rattle.questions.specs.Reading.{isStretch}
+use Rattle.questions.specs.Steps.{stepOf}
+use Rattle.questions.proofs.StepLaws.{two-set}
 use borrow.Author.Needs.{needs}
-use Rattle.reader.proofs.unit_step.Statement.{statement}
-use Rattle.reader.proofs.unit_step.Tie as tie
+use Rattle.questions.proofs.unit_step.Statement.{statement}
+use Rattle.questions.proofs.unit_step.Tie as tie
 
 stretch : (c : tie.Else2) → let a = c .before .before .before .before .before .args in isStretch (a .s .span) (a .first) (a .last) ≡ true
 stretch c = sym (c .before .is-stretch .ensures) ∙ not-false _ (c .if2 .left)

@@ -1,7 +1,7 @@
 use borrow.Author.Tests.{lt-leb, le-leb}
 use borrow.Author.Needs.{needs}
-use Rattle.reader.proofs.is_count.Statement.{statement}
-use Rattle.reader.proofs.is_count.Tie as tie
+use Rattle.questions.proofs.is_count.Statement.{statement}
+use Rattle.questions.proofs.is_count.Tie as tie
 
 returns : tie.Need-returns
 returns c = simp (lt-leb _ _ (c .if1 .taken))

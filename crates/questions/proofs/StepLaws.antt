@@ -1,20 +1,17 @@
 -- The laws that the steps of one line and question 12 rest on.
 -- Key idea: numbers written one after the other are a list set from a place on; and no number written changes nothing.
-use Prim.Native.Nat.{ℕ, suc, _+_, _*_, _≤_}
-use mathlib.Core.Path.{_≡_, refl, sym, ap, _∙_}
+use Prim.Native.Nat.{ℕ, suc, _+_, _*_}
+use mathlib.Core.Path.{_≡_, refl, ap}
 use mathlib.Core.List.{List, [], _∷_}
 use native.Mathlib.Numerals.{add-one}
 use native.Mathlib.Omega.{arith}
-use lib.Dec.{leb}
 use lib.ListN.{set}
 use lib.Seq.{sets}
-use borrow.Author.Tests.{le-leb}
 use Rattle.sheet.specs.declared.Sheet.{Sheet}
 use Rattle.line.specs.declared.Line.{Line}
-use Rattle.reader.specs.Reading.{Rooms, roomsFit}
-use Rattle.reader.specs.Reader.{stepOf, unitPart, rulePart, keptBy}
-use Rattle.reader.specs.declared.Step.{Step}
-use Rattle.reader.specs.declared.Step.the-variants.{No, On}
+use Rattle.questions.specs.Steps.{stepOf, unitPart, rulePart, keptBy}
+use Rattle.questions.specs.declared.Step.{Step}
+use Rattle.questions.specs.declared.Step.the-variants.{No, On}
 
 pub two-set : (l : List ℕ) (i a b : ℕ) → set (set l i a) (i + 1) b ≡ sets l i (a ∷ b ∷ [])
 two-set l i a b = ap (λ (k : ℕ). set (set l i a) k b) (add-one i)
@@ -35,8 +32,3 @@ pub line-stepped : (s : Sheet) (line x : Line) (r : Step) (u u′ v v′ : List 
     → u′ ≡ keptBy r u (2 * s .units) (unitPart x) → v′ ≡ keptBy r v (4 * s .rules) (rulePart x)
     → (r ≡ stepOf s line) × ((u′ ≡ keptBy r u (2 * s .units) (unitPart line)) × (v′ ≡ keptBy r v (4 * s .rules) (rulePart line)))
 line-stepped s line x r u u′ v v′ e p q t = rw e (p, (q, t))
-
--- where all rooms but the last are long enough, the last one decides
-pub fits-last : (u r : ℕ) (m : Rooms ℕ) → u ≤ m .first → u ≤ m .last → r ≤ m .from → r ≤ m .to → r ≤ m .low → leb r (m .high) ≡ roomsFit u r m
-fits-last u r m a b c d e =
-    simp (le-leb u (m .first) a, le-leb u (m .last) b, le-leb r (m .from) c, le-leb r (m .to) d, le-leb r (m .low) e)

@@ -1,36 +1,36 @@
 -- Reading, line by line.
 -- Key idea: what the lines so far are, `before`, is what the code's three numbers stand for (`Matches`). A line more is asked the questions of the
 -- definition; the code's tests of it are the same, by cases on what the line is (`line-verdict`). So what is left to ask decides the whole (`Asking`).
-use Prim.Native.Nat.{ℕ, zero, suc, _+_, _-_, _*_, _≤_, _<_}
+use Prim.Native.Nat.{ℕ, suc, _+_, _*_, _≤_, _<_}
 use mathlib.Core.Path.{_≡_, refl, sym, ap, ap₂, subst, _∙_}
 use mathlib.Core.Bool.{Bool, true, false, _&&_, _||_, not, cond, and-false, or-false, or-true, or-assoc}
-use mathlib.Core.List.{List, [], _∷_, _++_, map, append-nil, append-assoc, map-append}
+use mathlib.Core.List.{List, [], _∷_, _++_, map, append-nil, append-assoc}
 use native.Mathlib.Omega.{arith}
 use native.Mathlib.Numerals.{add-one}
-use native.Mathlib.Nat.{zero-add, add-zero, mul-zero, mul-suc}
-use lib.ListN.{length, getD, drop, set, length-append}
+use native.Mathlib.Nat.{zero-add, add-zero}
+use lib.ListN.{length, drop, set, length-append}
 use lib.Seq.{sets, length-sets}
-use lib.Dec.{T, eqb, leb, ltb}
-use borrow.Author.Tests.{eq-eqb, ne-eqb, le-leb, lt-leb, lt-ltb, le-ltb, leb-true, ltb-true, eqb-true}
+use lib.Dec.{eqb, leb, ltb}
+use borrow.Author.Tests.{eq-eqb, ne-eqb, le-leb, leb-true, ltb-true}
 use Rattle.lists.specs.Lists.{within, every, joined}
-use Rattle.sheet.specs.Limits.{maxSlots, maxUnits, maxRules, maxCount}
-use Rattle.sheet.specs.Sheet.{Window, Rule}
+use Rattle.sheet.specs.Limits.{maxSlots, maxUnits, maxRules}
 use Rattle.sheet.specs.declared.Sheet.{Sheet}
 use Rattle.form.specs.Form.{printable, plain, value}
-use Rattle.form.specs.FormLaws.{false-not-true, and-left, and-right}
+use Rattle.form.specs.FormLaws.{false-not-true, and-left}
 use Rattle.line.specs.Lines.{TextLine, textLine, lines, firstLine, hasFeed}
 use Rattle.line.specs.LinesLaws.{lineEnd, end-within, lines-at, lines-none}
 use Rattle.line.specs.Content.{Content, note, sheet, unit, rule, other, contentOf, bracketsMatch, numbersIn}
 use Rattle.line.specs.Line.{valuesOf, said, lineOf}
 use Rattle.line.specs.declared.Line.{Line}
 use Rattle.line.specs.declared.Line.the-variants as Line
-use Rattle.reader.specs.Reading.{contents, isSheet, hasSheet, spanElse, spanIn, windowOf, unitsIn, ruleOf, rulesIn, sheetIn, Question, ask, isForm}
-use Rattle.reader.specs.Reading.{inOrder, spanFits, isStretch, inSpan, isCount, countFits, questionsOf, lineQuestions, Answer, refused, read, answerOf}
-use Rattle.reader.specs.Reading.{Verdict, no, allYes, firstNo, concluded}
-use Rattle.reader.specs.Reader.{sheetOf, stepOf, windowNumbers, ruleNumbers, unitStream, ruleStream, unitPart, rulePart, keptBy, passQuestions}
-use Rattle.reader.specs.Reader.{passAnswer}
-use Rattle.reader.specs.declared.Step.{Step}
-use Rattle.reader.specs.declared.Step.the-variants.{No, On}
+use Rattle.questions.specs.Reading.{contents, isSheet, hasSheet, spanElse, spanIn, windowOf, unitsIn, ruleOf, rulesIn, sheetIn, Question, ask, isForm}
+use Rattle.questions.specs.Reading.{inOrder, spanFits, isStretch, inSpan, isCount, countFits, questionsOf, lineQuestions, refused, read}
+use Rattle.questions.specs.Reading.{Verdict, no, allYes, firstNo, concluded}
+use Rattle.questions.specs.Steps.{sheetOf, stepOf, windowNumbers, ruleNumbers, unitStream, ruleStream, unitPart, rulePart, passQuestions}
+use Rattle.questions.specs.Steps.{passAnswer}
+use Rattle.questions.specs.PassLaws.{andThen, firstNo-append, stream-length}
+use Rattle.questions.specs.declared.Step.{Step}
+use Rattle.questions.specs.declared.Step.the-variants.{No, On}
 
 -- ---- one line more
 
@@ -289,32 +289,12 @@ line-verdict s before c n l rest = go (printable (l .bytes)) (bracketsMatch (con
 
 -- ---- the pass over the text
 
-abbrev pub andThen : Verdict → Verdict → Verdict
-andThen (no q n) v = no q n
-andThen allYes v = v
-
-pub firstNo-append : (xs ys : List Question) → firstNo (xs ++ ys) ≡ andThen (firstNo xs) (firstNo ys)
-unfolding firstNo
-firstNo-append [] ys = refl
-firstNo-append (q ∷ qs) ys = go (q .yes) (firstNo-append qs ys)
-  where
-    go : (b : Bool) → firstNo (qs ++ ys) ≡ andThen (firstNo qs) (firstNo ys)
-        → cond b (firstNo (qs ++ ys)) (no (q .number) (q .line)) ≡ andThen (cond b (firstNo qs) (no (q .number) (q .line))) (firstNo ys)
-    go true h = h
-    go false h = refl
-
 -- a stream goes on where its numbers end
 sets-append : (xs ys array : List ℕ) (i : ℕ) → sets array i (xs ++ ys) ≡ sets (sets array i xs) (i + length xs) ys
 sets-append [] ys array i = ap (λ (k : ℕ). sets array k ys) (sym (add-zero i))
 sets-append (x ∷ xs) ys array i =
     let e : suc i + length xs ≡ i + suc (length xs) = omega arith in
     sets-append xs ys (set array i x) (suc i) ∙ ap (λ (k : ℕ). sets (sets (set array i x) (suc i) xs) k ys) e
-
-pub stream-length : {A : Type 0} (block : A → List ℕ) (k : ℕ) → ((a : A) → length (block a) ≡ k) → (xs : List A) → length (joined (map block xs))
-    ≡ k * length xs
-stream-length block k h [] = sym (mul-zero k)
-stream-length block k h (x ∷ xs) =
-    omega (arith, length-append (block x) (joined (map block xs)), h x, stream-length block k h xs, mul-suc k (length xs))
 
 stream-more : {A B : Type 0} (block : B → List ℕ) (k : ℕ) → ((b : B) → length (block b) ≡ k)
     → (f : A → List B) (xs : List A) (x : A) (m : ℕ) (array₀ array array′ part : List ℕ)

@@ -1,9 +1,8 @@
 use borrow.Author.Tests.{ne-eqb, eq-eqb, lt-leb, le-leb}
-use mathlib.Core.Path.{sym}
-use Rattle.reader.specs.Reader.{stepOf}
+use Rattle.questions.specs.Steps.{stepOf}
 use borrow.Author.Needs.{needs}
-use Rattle.reader.proofs.sheet_step.Statement.{statement}
-use Rattle.reader.proofs.sheet_step.Tie as tie
+use Rattle.questions.proofs.sheet_step.Statement.{statement}
+use Rattle.questions.proofs.sheet_step.Tie as tie
 
 returns : tie.Need-returns
 unfolding stepOf

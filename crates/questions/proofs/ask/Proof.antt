@@ -3,13 +3,13 @@ use mathlib.Core.Path.{_≡_, sym, ap, _∙_}
 use native.Mathlib.Omega.{arith}
 use lib.ListN.{length}
 use Rattle.sheet.specs.declared.Sheet.{Sheet}
-use Rattle.reader.specs.Reading.{refused}
-use Rattle.reader.specs.Reader.{passAnswer, keptBy, unitPart, rulePart}
-use Rattle.reader.specs.declared.Step.{Step}
-use Rattle.reader.specs.declared.Step.the-variants.{No, On}
-use Rattle.reader.proofs.ReadLaws.{Asking, asking-start, asking-no, asking-on, asking-none, asking-sheet, units-kept, rules-kept, units-size, rules-size}
-use Rattle.reader.proofs.ask.Statement.{statement}
-use Rattle.reader.proofs.ask.Tie as tie
+use Rattle.questions.specs.Reading.{refused}
+use Rattle.questions.specs.Steps.{passAnswer, keptBy, unitPart, rulePart}
+use Rattle.questions.specs.declared.Step.{Step}
+use Rattle.questions.specs.declared.Step.the-variants.{No, On}
+use Rattle.questions.proofs.ReadLaws.{Asking, asking-start, asking-no, asking-on, asking-none, asking-sheet, units-kept, rules-kept, units-size, rules-size}
+use Rattle.questions.proofs.ask.Statement.{statement}
+use Rattle.questions.proofs.ask.Tie as tie
 
 abbrev Inv-loop : tie.InvT-loop
 Inv-loop text units₀ rules₀ grid table s₀ at₀ n₀ units rules s at n = Asking text at n s units₀ units rules₀ rules

@@ -1,10 +1,10 @@
 use Prim.Native.Nat.{_*_}
 use mathlib.Core.Path.{refl}
-use Rattle.reader.specs.Reader.{stepOf}
-use Rattle.reader.proofs.StepLaws.{kept-none, line-stepped}
+use Rattle.questions.specs.Steps.{stepOf}
+use Rattle.questions.proofs.StepLaws.{kept-none, line-stepped}
 use borrow.Author.Needs.{needs}
-use Rattle.reader.proofs.line_step.Statement.{statement}
-use Rattle.reader.proofs.line_step.Tie as tie
+use Rattle.questions.proofs.line_step.Statement.{statement}
+use Rattle.questions.proofs.line_step.Tie as tie
 
 enum-known-line : tie.Need-enum-known-line
 enum-known-line c = search needs

@@ -4,12 +4,12 @@ use mathlib.Core.Bool.{true}
 use native.Mathlib.Omega.{arith}
 use lib.ListN.{length-set}
 use borrow.Author.Tests.{not-true, not-false, eq-eqb, ne-eqb, lt-ltb, le-ltb}
-use Rattle.reader.specs.Reading.{isStretch, isCount}
-use Rattle.reader.specs.Reader.{stepOf}
-use Rattle.reader.proofs.StepLaws.{four-set}
+use Rattle.questions.specs.Reading.{isStretch, isCount}
+use Rattle.questions.specs.Steps.{stepOf}
+use Rattle.questions.proofs.StepLaws.{four-set}
 use borrow.Author.Needs.{needs}
-use Rattle.reader.proofs.rule_step.Statement.{statement}
-use Rattle.reader.proofs.rule_step.Tie as tie
+use Rattle.questions.proofs.rule_step.Statement.{statement}
+use Rattle.questions.proofs.rule_step.Tie as tie
 
 stretch : (c : tie.Else2) → let a = c .before .before .before .before .before .args in isStretch (a .s .span) (a .from) (a .to) ≡ true
 stretch c = sym (c .before .is-stretch .ensures) ∙ not-false _ (c .if2 .left)

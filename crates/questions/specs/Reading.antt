@@ -3,7 +3,7 @@
 use Prim.Native.Nat.{ℕ, suc}
 use mathlib.Core.Bool.{Bool, true, false, _&&_, _||_, not, cond}
 use mathlib.Core.List.{List, [], _∷_, _++_, map}
-use lib.ListN.{length, drop}
+use lib.ListN.{length}
 use lib.Dec.{leb}
 use Rattle.lists.specs.Lists.{within, every, joined}
 use Rattle.sheet.specs.Limits.{maxSlots, maxUnits, maxRules, maxCount}
@@ -11,8 +11,8 @@ use Rattle.sheet.specs.Sheet.{Window, Rule, Sheet}
 use Rattle.form.specs.Form.{printable, plain, value}
 use Rattle.line.specs.Lines.{TextLine, lines}
 use Rattle.line.specs.Content.{Content, note, sheet, unit, rule, other, contentOf, bracketsMatch, numbersIn}
-use Rattle.reader.specs.declared.Reading.{Reading}
-use Rattle.reader.specs.declared.Reading.the-variants as Reading
+use Rattle.questions.specs.declared.Reading.{Reading}
+use Rattle.questions.specs.declared.Reading.the-variants as Reading
 
 abbrev pub maxBytes : ℕ
 maxBytes = 16000
@@ -205,39 +205,3 @@ concluded allYes s = read (s .span) (length (s .units)) (length (s .rules))
 
 unfoldable pub reading : List ℕ → Rooms ℕ → Answer
 reading text sizes = concluded (firstNo (questions text sizes)) (sheetIn text)
-
--- ---- what a call leaves in the lent rooms
-
-abbrev pub sizesOf : Rooms (List ℕ) → Rooms ℕ
-sizesOf m = rooms (length (m .first)) (length (m .last)) (length (m .from)) (length (m .to)) (length (m .low)) (length (m .high))
-
--- a list at the front of a room; places past it are as they were
-abbrev pub onto : List ℕ → List ℕ → List ℕ
-onto xs room = xs ++ drop (length xs) room
-
--- a refusal changes nothing
-abbrev pub leaves : Answer → Sheet → Rooms (List ℕ) → Rooms (List ℕ)
-leaves (refused q n) s m = m
-leaves (read p u r) s m =
-    rooms (onto (map (λ w. w .first) (s .units)) (m .first)) (onto (map (λ w. w .last) (s .units)) (m .last))
-    (onto (map (λ w. w .from) (s .rules)) (m .from)) (onto (map (λ w. w .to) (s .rules)) (m .to))
-    (onto (map (λ w. w .low) (s .rules)) (m .low)) (onto (map (λ w. w .high) (s .rules)) (m .high))
-
-abbrev pub roomsAfter : List ℕ → Rooms (List ℕ) → Rooms (List ℕ)
-roomsAfter text m = leaves (reading text (sizesOf m)) (sheetIn text) m
-
--- ---- the answer as numbers, for callers in other languages: 0 for what is not there
-
-pub record Numbers : Type 0 where
-  pub number : ℕ
-  pub line : ℕ
-  pub span : ℕ
-  pub units : ℕ
-  pub rules : ℕ
-
-abbrev pub numbers : ℕ → ℕ → ℕ → ℕ → ℕ → Numbers
-numbers q n p u r = record { number = q; line = n; span = p; units = u; rules = r }
-
-abbrev pub numbersOf : Answer → Numbers
-numbersOf (refused q n) = numbers q n 0 0 0
-numbersOf (read p u r) = numbers 0 0 p u r

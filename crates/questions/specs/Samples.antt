@@ -3,14 +3,13 @@ use Prim.Native.Nat.{ℕ, _+_}
 use mathlib.Core.Path.{_≡_, refl}
 use mathlib.Core.List.{List, [], _∷_, _++_, map}
 use Rattle.lists.specs.Lists.{joined}
-use Rattle.sheet.specs.Sheet.{Window, Rule}
 use Rattle.form.specs.Words.{lineFeed, space, opening, closing, zeroDigit, openNote}
 use Rattle.form.specs.Form.{printable, leading, past, valueFrom, plain, sheetForm, unitForm, ruleForm, written, matches, numbers}
 use Rattle.notes.specs.Note.{matched}
 use Rattle.line.specs.Lines.{lines}
 use Rattle.line.specs.Content.{isNote, noteMatched, contentOf}
-use Rattle.reader.specs.Reading.{contents, hasSheet, spanIn, unitsIn, rulesIn, sheetIn, lineQuestions, Rooms, rooms, questions}
-use Rattle.reader.specs.Reading.{Answer, refused, read, firstNo, reading}
+use Rattle.questions.specs.Reading.{contents, hasSheet, spanIn, unitsIn, rulesIn, sheetIn, lineQuestions, Rooms, rooms, questions}
+use Rattle.questions.specs.Reading.{Answer, refused, read, firstNo, reading}
 
 -- ---- lines
 
