@@ -44,13 +44,15 @@ fn ends_of(row: &[i16]) -> Extremes
     Extremes(least, greatest)
 }
 
-// The row as it is before the table changes, and its extremes.
-fn load_row(row: &[i16], out: &mut [i16]) -> Extremes
-    requires { ⌜ (0 < length (now row)) × (length (now row) ≤ length (now out)) ⌝ }
-    ensures { λ r. ⌜ Loaded (now (row .entry)) (now (out .entry)) (r .0) (r .1) (now (out .exit)) ⌝ }
+// Row m as it is before the table changes, and its extremes.
+fn load_row(t: &[i16], m: usize, w: usize, out: &mut [i16]) -> Extremes
+    requires { ⌜ (m < w) × (w * w ≤ length (now t)) × (w ≤ length (now out)) ⌝ }
+    ensures { λ r. ⌜ Loaded (take w (drop (m * w) (now (t .entry)))) (now (out .entry)) (r .0) (r .1) (now (out .exit)) ⌝ }
 {
-    copy_row(row, out);
-    ends_of(row)
+    let first = m * w;
+    let last = first + w;
+    copy_row(&t[first..last], out);
+    ends_of(&t[first..last])
 }
 
 // All sums of a row fit exactly when the two extreme ones do, so asking these asks every sum (01, question 14).
@@ -106,9 +108,7 @@ fn run_middles(t: &mut [i16], w: usize, from: usize, to: usize) -> Outcome
     let mut outcome = Outcome::Finished;
     let mut mid = [0i16; 49];
     'pass: for m in from..to {
-        let first = m * w;
-        let last = first + w;
-        let ends = load_row(&t[first..last], &mut mid);
+        let ends = load_row(t, m, w, &mut mid);
         for a in 0..w {
             let start = a * w;
             let end = start + w;

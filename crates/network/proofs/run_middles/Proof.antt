@@ -1,10 +1,12 @@
 -- The three loops of the pass: each turn is a law of `PassSteps`, and a break hands over what the pass's definition says at that row.
+-- A place of the code has a name and its values too, so that each fact is stated once, where it is first known, and cited from the places after it.
 use Prim.Native.Nat.{ℕ, suc, _+_, _-_, _*_, _≤_, _<_}
 use native.Mathlib.Omega.{arith}
 use mathlib.Core.Path.{_≡_, refl, sym, _∙_}
 use mathlib.Core.Bool.{true, false}
+use mathlib.Core.List.{List}
 use lib.ListN.{length, getD, take, drop}
-use lib.IntN.{pos}
+use lib.IntN.{ℤ, pos}
 use lib.Signed.{ltZ}
 use mir.Syntax.{w16}
 use mir.Val.{SFits, toZ, ofZ}
@@ -14,7 +16,10 @@ use Rattle.lists.specs.Parts.{back, back-length, back-past, part-length}
 use Rattle.network.specs.Table.{entry, middle, rowInRange, stopped, outOfRange, passFrom}
 use Rattle.network.specs.TableLaws.{row-inside}
 use Rattle.network.specs.declared.Outcome.the-variants.{Stopped, OutOfRange}
-use Rattle.network.proofs.PassSteps.{MidIs, mid-is, RowIs, row-asked, stretch-in-range, ColsInv, cols-start, cols-long, cols-again, cols-low, row-done, row-low, RowsInv, rows-start, row-is, rows-past, rows-out, rows-low, rows-again, PassInv, middle-again, pass-ended, pass-left}
+use Rattle.network.proofs.PassSteps.{MidIs, mid-is, RowIs, row-asked, stretch-in-range, row-is, row-done, row-low}
+use Rattle.network.proofs.PassSteps.{ColsInv, cols-start, cols-long, cols-again, cols-low}
+use Rattle.network.proofs.PassSteps.{RowsInv, rows-start, rows-past, rows-out, rows-low, rows-again}
+use Rattle.network.proofs.PassSteps.{PassInv, middle-again, pass-ended, pass-left}
 use Rattle.network.proofs.run_middles.Statement.{statement}
 use Rattle.network.proofs.run_middles.Tie as tie
 use Rattle.network.proofs.run_middles.Reads as reads
@@ -26,16 +31,16 @@ use Rattle.network.proofs.stretch_end.Reads as stretch-end-reads
 use Rattle.network.proofs.sums_fit.Reads as sums-fit-reads
 
 abbrev Inv-loop2 : tie.InvT-loop2
-Inv-loop2 w from to outcome₀ mid m first last ends a start end row₀ am b₀ outcome row b = ColsInv (toZ w16 am) mid row₀ w a outcome row b
+Inv-loop2 w from to outcome₀ mid m ends a start end row₀ am b₀ outcome row b = ColsInv (toZ w16 am) mid row₀ w a outcome row b
 
 abbrev μ-loop2 : tie.MeasureT-loop2
-μ-loop2 w from to outcome₀ mid m first last ends a start end row₀ am b₀ outcome row b = w - b
+μ-loop2 w from to outcome₀ mid m ends a start end row₀ am b₀ outcome row b = w - b
 
 abbrev Inv-loop : tie.InvT-loop
-Inv-loop t₀ w from to outcome₀ mid m first last ends a₀ t outcome a = RowsInv w m t₀ outcome t a
+Inv-loop t₀ w from to outcome₀ mid m ends a₀ t outcome a = RowsInv w m t₀ outcome t a
 
 abbrev μ-loop : tie.MeasureT-loop
-μ-loop t₀ w from to outcome₀ mid m first last ends a₀ t outcome a = w - a
+μ-loop t₀ w from to outcome₀ mid m ends a₀ t outcome a = w - a
 
 abbrev Inv-pass : tie.InvT-pass
 Inv-pass t₀ w from to outcome₀ mid₀ m₀ t outcome mid m = PassInv t₀ w from to t outcome mid m
@@ -43,109 +48,196 @@ Inv-pass t₀ w from to outcome₀ mid₀ m₀ t outcome mid m = PassInv t₀ w 
 abbrev μ-pass : tie.MeasureT-pass
 μ-pass t₀ w from to outcome₀ mid₀ m₀ t outcome mid m = to - m
 
-middle-room : (c : lts.In-pass (load-row-reads.Asked, load-row-reads.Learnt, sums-fit-reads.Asked, sums-fit-reads.Learnt, stretch-end-reads.Asked, stretch-end-reads.Learnt, relax-row-reads.Asked, relax-row-reads.Learnt, less-reads.Asked, less-reads.Learnt) reads.Pre reads.Post Inv-loop2 μ-loop2 Inv-loop μ-loop Inv-pass μ-pass) → c .before .pass .m * c .before .before .args .w + c .before .before .args .w ≤ length (c .before .pass .t)
-middle-room c = omega (arith, row-inside (c .before .pass .m) (c .before .before .args .w) (omega arith))
+-- ---- in a turn of the outer loop: the middle row is copied
+abbrev InMiddle : Type 0
+InMiddle = lts.After-load-row (
+  load-row-reads.Asked,
+  load-row-reads.Learnt,
+  sums-fit-reads.Asked,
+  sums-fit-reads.Learnt,
+  stretch-end-reads.Asked,
+  stretch-end-reads.Learnt,
+  relax-row-reads.Asked,
+  relax-row-reads.Learnt,
+  less-reads.Asked,
+  less-reads.Learnt,
+) reads.Pre reads.Post Inv-loop2 μ-loop2 Inv-loop μ-loop Inv-pass μ-pass
 
-mid-room : (c : lts.After-load-row (load-row-reads.Asked, load-row-reads.Learnt, sums-fit-reads.Asked, sums-fit-reads.Learnt, stretch-end-reads.Asked, stretch-end-reads.Learnt, relax-row-reads.Asked, relax-row-reads.Learnt, less-reads.Asked, less-reads.Learnt) reads.Pre reads.Post Inv-loop2 μ-loop2 Inv-loop μ-loop Inv-pass μ-pass) → length (c .load-row .last .1 .0) ≡ 49
-mid-room c = c .load-row .kept .1 .0 ∙ c .before .before .before .before .before .pass .inv .room
+abbrev width : InMiddle → ℕ
+width c = c .before .before .before .before .before .args .w
 
-mid-here : (c : lts.After-load-row (load-row-reads.Asked, load-row-reads.Learnt, sums-fit-reads.Asked, sums-fit-reads.Learnt, stretch-end-reads.Asked, stretch-end-reads.Learnt, relax-row-reads.Asked, relax-row-reads.Learnt, less-reads.Asked, less-reads.Learnt) reads.Pre reads.Post Inv-loop2 μ-loop2 Inv-loop μ-loop Inv-pass μ-pass) → MidIs (c .before .before .before .before .before .before .args .w) (c .before .before .before .before .before .pass .m) (c .before .before .before .before .before .pass .t) (c .load-row .last .1 .0) (c .load-row .result .0) (c .load-row .result .1)
+abbrev middleAt : InMiddle → ℕ
+middleAt c = c .before .before .before .before .pass .m
+
+abbrev started : InMiddle → List ℤ
+started c = c .before .before .before .before .pass .t
+
+abbrev copy : InMiddle → List ℤ
+copy c = c .load-row .last .1 .1 .1 .0
+
+abbrev least : InMiddle → ℤ
+least c = c .load-row .result .0
+
+abbrev greatest : InMiddle → ℤ
+greatest c = c .load-row .result .1
+
+copy-room : (c : InMiddle) → length (copy c) ≡ 49
+copy-room c = c .load-row .kept .1 .1 .1 .0 ∙ c .before .before .before .before .pass .inv .room
+
+middle-below : (c : InMiddle) → middleAt c < width c
+middle-below c = omega (arith, c .before .before .before .pass-test .taken, c .before .before .before .before .before .pre)
+
+mid-here : (c : InMiddle) → MidIs (width c) (middleAt c) (started c) (copy c) (least c) (greatest c)
 mid-here c =
-    let w = c .before .before .before .before .before .before .args .w in
-    let p = c .before .before .before .before .before .pass in
-    let pre = c .before .before .before .before .before .before .pre in
-    let e : p .m * w + w - p .m * w ≡ w = omega arith in
-    mid-is w (p .m) (p .m * w + w - p .m * w) (p .t) (p .mid) (c .load-row .last .1 .0) (c .load-row .result .0) (c .load-row .result .1) e (omega (arith, middle-room (c .before .before .before .before)))
-    (omega (arith, mid-room c)) (c .load-row .ensures)
+    let pre = c .before .before .before .before .before .pre in
+    let long = c .before .before .before .before .pass .inv .long in
+    let inside = row-inside (middleAt c) (width c) (middle-below c) in
+    mid-is (width c) (middleAt c) (width c) (started c) (c .before .before .before .before .pass .mid) (copy c) (least c) (greatest c) refl (omega arith)
+    (omega (arith, copy-room c)) (c .load-row .ensures)
 
-row-room : (c : lts.In-loop (load-row-reads.Asked, load-row-reads.Learnt, sums-fit-reads.Asked, sums-fit-reads.Learnt, stretch-end-reads.Asked, stretch-end-reads.Learnt, relax-row-reads.Asked, relax-row-reads.Learnt, less-reads.Asked, less-reads.Learnt) reads.Pre reads.Post Inv-loop2 μ-loop2 Inv-loop μ-loop Inv-pass μ-pass) → c .before .loop .a * c .before .before .before .before .before .before .before .before .before .args .w + c .before .before .before .before .before .before .before .before .before .args .w ≤ length (c .before .loop .t)
+-- ---- in a turn of the loop over rows
+abbrev InRow : Type 0
+InRow = lts.In-loop (
+  load-row-reads.Asked,
+  load-row-reads.Learnt,
+  sums-fit-reads.Asked,
+  sums-fit-reads.Learnt,
+  stretch-end-reads.Asked,
+  stretch-end-reads.Learnt,
+  relax-row-reads.Asked,
+  relax-row-reads.Learnt,
+  less-reads.Asked,
+  less-reads.Learnt,
+) reads.Pre reads.Post Inv-loop2 μ-loop2 Inv-loop μ-loop Inv-pass μ-pass
+
+abbrev rowAt : InRow → ℕ
+rowAt c = c .before .loop .a
+
+abbrev table : InRow → List ℤ
+table c = c .before .loop .t
+
+abbrev from : InRow → ℕ
+from c = rowAt c * width (c .before .before .before)
+
+abbrev size : InRow → ℕ
+size c = from c + width (c .before .before .before) - from c
+
+abbrev part : InRow → List ℤ
+part c = take (size c) (drop (from c) (table c))
+
+abbrev am : InRow → ℤ
+am c = toZ w16 (ofZ w16 (getD (part c) (middleAt (c .before .before .before)) (pos 0)))
+
+size-is : (c : InRow) → size c ≡ width (c .before .before .before)
+size-is c = omega arith
+
+row-room : (c : InRow) → from c + width (c .before .before .before) ≤ length (table c)
 row-room c =
-    let w = c .before .before .before .before .before .before .before .before .before .args .w in
-    let p = c .before .before .before .before .before .before .before .before .pass .inv .long in
+    let pre = c .before .before .before .before .before .before .before .before .pre in
+    let p = c .before .before .before .before .before .before .before .pass .inv .long in
     let l = c .before .loop .inv .long in
-    let pre = c .before .before .before .before .before .before .before .before .before .pre in
-    omega (arith, row-inside (c .before .loop .a) w (c .loop-test .taken))
+    omega (arith, row-inside (rowAt c) (width (c .before .before .before)) (c .loop-test .taken))
 
-row-here : (c : lts.In-loop (load-row-reads.Asked, load-row-reads.Learnt, sums-fit-reads.Asked, sums-fit-reads.Learnt, stretch-end-reads.Asked, stretch-end-reads.Learnt, relax-row-reads.Asked, relax-row-reads.Learnt, less-reads.Asked, less-reads.Learnt) reads.Pre reads.Post Inv-loop2 μ-loop2 Inv-loop μ-loop Inv-pass μ-pass) → RowIs (c .before .before .before .before .before .before .before .before .before .args .w) (c .before .loop .a) (c .before .before .before .before .before .before .before .before .pass .t) (take (c .before .loop .a * c .before .before .before .before .before .before .before .before .before .args .w + c .before .before .before .before .before .before .before .before .before .args .w - c .before .loop .a * c .before .before .before .before .before .before .before .before .before .args .w) (drop (c .before .loop .a * c .before .before .before .before .before .before .before .before .before .args .w) (c .before .loop .t)))
+row-here : (c : InRow) → RowIs (width (c .before .before .before)) (rowAt c) (started (c .before .before .before)) (part c)
 row-here c =
-    let w = c .before .before .before .before .before .before .before .before .before .args .w in
-    let p = c .before .before .before .before .before .before .before .before .pass in
-    let l = c .before .loop in
-    let i = l .a * w in
-    let k = i + w - i in
-    let ek : k ≡ w = omega arith in
-    row-is w (p .m) (p .t) (l .t) (l .outcome) (l .a) (l .inv) k ek (omega (arith, row-room c))
+    let m = c .before .before .before in
+    row-is (width m) (middleAt m) (started m) (table c) (c .before .loop .outcome) (rowAt c) (c .before .loop .inv) (size c) (size-is c) (omega (arith, row-room c, size-is c))
 
-am-here : (c : lts.After-am (load-row-reads.Asked, load-row-reads.Learnt, sums-fit-reads.Asked, sums-fit-reads.Learnt, stretch-end-reads.Asked, stretch-end-reads.Learnt, relax-row-reads.Asked, relax-row-reads.Learnt, less-reads.Asked, less-reads.Learnt) reads.Pre reads.Post Inv-loop2 μ-loop2 Inv-loop μ-loop Inv-pass μ-pass) → (toZ w16 (ofZ w16 (getD (take (c .before .before .before .loop .a * c .before .before .before .before .before .before .before .before .before .before .before .args .w + c .before .before .before .before .before .before .before .before .before .before .before .args .w - c .before .before .before .loop .a * c .before .before .before .before .before .before .before .before .before .before .before .args .w) (drop (c .before .before .before .loop .a * c .before .before .before .before .before .before .before .before .before .before .before .args .w) (c .before .before .before .loop .t))) (c .before .before .before .before .before .before .before .before .before .before .pass .m) (pos 0)))) ≡ entry (c .before .before .before .before .before .before .before .before .before .before .before .args .w) (c .before .before .before .before .before .before .before .before .before .before .pass .t) (c .before .before .before .loop .a) (c .before .before .before .before .before .before .before .before .before .before .pass .m)
+-- ---- a row whose sums were asked
+abbrev Asked : Type 0
+Asked = lts.After-sums-fit (
+  load-row-reads.Asked,
+  load-row-reads.Learnt,
+  sums-fit-reads.Asked,
+  sums-fit-reads.Learnt,
+  stretch-end-reads.Asked,
+  stretch-end-reads.Learnt,
+  relax-row-reads.Asked,
+  relax-row-reads.Learnt,
+  less-reads.Asked,
+  less-reads.Learnt,
+) reads.Pre reads.Post Inv-loop2 μ-loop2 Inv-loop μ-loop Inv-pass μ-pass
+
+am-here : (c : Asked) → am (c .before .before .before) ≡ entry (width (c .before .before .before .before .before .before)) (started (c .before .before .before .before .before .before)) (rowAt (c .before .before .before)) (middleAt (c .before .before .before .before .before .before))
 am-here c =
-    let w = c .before .before .before .before .before .before .before .before .before .before .before .args .w in
-    let p = c .before .before .before .before .before .before .before .before .before .before .pass in
-    let l = c .before .before .before .loop in
-    let i = l .a * w in
-    let k = i + w - i in
-    let part = take k (drop i (l .t)) in
-    let f : SFits w16 (getD part (p .m) (pos 0)) = search needs in
-    toZ-ofZ f ∙ row-here (c .before .before) .at (p .m) (omega (arith, c .before .before .before .before .before .before .before .before .before .pass-test .taken, c .before .before .before .before .before .before .before .before .before .before .before .pre))
+    let m = c .before .before .before .before .before .before in
+    let r = c .before .before .before in
+    let f : SFits w16 (getD (part r) (middleAt m) (pos 0)) = search needs in
+    toZ-ofZ f ∙ row-here r .at (middleAt m) (middle-below m)
 
-asked-here : (c : lts.After-sums-fit (load-row-reads.Asked, load-row-reads.Learnt, sums-fit-reads.Asked, sums-fit-reads.Learnt, stretch-end-reads.Asked, stretch-end-reads.Learnt, relax-row-reads.Asked, relax-row-reads.Learnt, less-reads.Asked, less-reads.Learnt) reads.Pre reads.Post Inv-loop2 μ-loop2 Inv-loop μ-loop Inv-pass μ-pass) → rowInRange (c .before .before .before .before .before .before .before .before .before .before .before .before .args .w) (c .before .before .before .before .before .before .before .before .before .before .before .pass .m) (c .before .before .before .before .before .before .before .before .before .before .before .pass .t) (c .before .before .before .before .loop .a) ≡ c .sums-fit .result
+asked-here : (c : Asked) → rowInRange (width (c .before .before .before .before .before .before)) (middleAt (c .before .before .before .before .before .before)) (started (c .before .before .before .before .before .before)) (rowAt (c .before .before .before)) ≡ c .sums-fit .result
 asked-here c =
-    let w = c .before .before .before .before .before .before .before .before .before .before .before .before .args .w in
-    let p = c .before .before .before .before .before .before .before .before .before .before .before .pass in
-    let l = c .before .before .before .before .loop in
-    let mid = c .before .before .before .before .before .before .load-row .last .1 .0 in
-    let ends = c .before .before .before .before .before .before .load-row .result in
-    let i = l .a * w in
-    let k = i + w - i in
-    let part = take k (drop i (l .t)) in
-    let am = toZ w16 (ofZ w16 (getD part (p .m) (pos 0))) in
-    row-asked w (p .m) (l .a) (p .t) mid (ends .0) (ends .1) am (omega (arith, c .before .before .before .before .before .before .before .before .before .before .before .before .pre)) (mid-here (c .before .before .before .before .before .before)) (am-here (c .before))
+    let m = c .before .before .before .before .before .before in
+    let r = c .before .before .before in
+    row-asked (width m) (middleAt m) (rowAt r) (started m) (copy m) (least m) (greatest m) (am r) (omega (arith, middle-below m)) (mid-here m) (am-here c)
     ∙ sym (c .sums-fit .ensures)
 
-stretch-here : (c : lts.After-stretch-end (load-row-reads.Asked, load-row-reads.Learnt, sums-fit-reads.Asked, sums-fit-reads.Learnt, stretch-end-reads.Asked, stretch-end-reads.Learnt, relax-row-reads.Asked, relax-row-reads.Learnt, less-reads.Asked, less-reads.Learnt) reads.Pre reads.Post Inv-loop2 μ-loop2 Inv-loop μ-loop Inv-pass μ-pass) → (c .before .before .loop2 .b < c .stretch-end .result) × (c .stretch-end .result ≤ c .before .before .before .before .before .before .before .before .before .before .before .before .before .before .before .before .args .w)
+-- ---- in a turn of the loop over stretches, and after the row step
+abbrev InStretch : Type 0
+InStretch = lts.After-stretch-end (
+  load-row-reads.Asked,
+  load-row-reads.Learnt,
+  sums-fit-reads.Asked,
+  sums-fit-reads.Learnt,
+  stretch-end-reads.Asked,
+  stretch-end-reads.Learnt,
+  relax-row-reads.Asked,
+  relax-row-reads.Learnt,
+  less-reads.Asked,
+  less-reads.Learnt,
+) reads.Pre reads.Post Inv-loop2 μ-loop2 Inv-loop μ-loop Inv-pass μ-pass
+
+stretch-here : (c : InStretch) → (c .before .before .loop2 .b < c .stretch-end .result) × (c .stretch-end .result ≤ width (c .before .before .before .before .before .before .before .before .before .before))
 stretch-here c = (omega (arith, c .stretch-end .ensures, c .before .loop2-test .taken), omega (arith, c .stretch-end .ensures))
 
-low-here : (c : lts.After-less (load-row-reads.Asked, load-row-reads.Learnt, sums-fit-reads.Asked, sums-fit-reads.Learnt, stretch-end-reads.Asked, stretch-end-reads.Learnt, relax-row-reads.Asked, relax-row-reads.Learnt, less-reads.Asked, less-reads.Learnt) reads.Pre reads.Post Inv-loop2 μ-loop2 Inv-loop μ-loop Inv-pass μ-pass) → c .less .result ≡ ltZ (getD (back (c .before .before .before .before .before .before .before .before .before .loop2 .b) (c .before .before .before .before .before .before .before .stretch-end .result - c .before .before .before .before .before .before .before .before .before .loop2 .b) (c .before .before .before .relax-row .last .0) (c .before .before .before .before .before .before .before .before .before .loop2 .row)) (c .before .before .before .before .before .before .before .before .before .before .before .before .before .before .before .loop .a) (pos 0)) (pos 0)
+-- ---- after the row step
+abbrev Stepped : Type 0
+Stepped = lts.After-less (
+  load-row-reads.Asked,
+  load-row-reads.Learnt,
+  sums-fit-reads.Asked,
+  sums-fit-reads.Learnt,
+  stretch-end-reads.Asked,
+  stretch-end-reads.Learnt,
+  relax-row-reads.Asked,
+  relax-row-reads.Learnt,
+  less-reads.Asked,
+  less-reads.Learnt,
+) reads.Pre reads.Post Inv-loop2 μ-loop2 Inv-loop μ-loop Inv-pass μ-pass
+
+abbrev begin : Stepped → ℕ
+begin c = c .before .before .before .before .before .before .before .before .before .loop2 .b
+
+abbrev stop : Stepped → ℕ
+stop c = c .before .before .before .before .before .before .before .stretch-end .result
+
+abbrev stepped : Stepped → List ℤ
+stepped c = back (begin c) (stop c - begin c) (c .before .before .before .relax-row .last .0) (c .before .before .before .before .before .before .before .before .before .loop2 .row)
+
+low-here : (c : Stepped) → c .less .result ≡ ltZ (getD (stepped c) (rowAt (c .before .before .before .before .before .before .before .before .before .before .before .before .before .before)) (pos 0)) (pos 0)
 low-here c =
-    let f : SFits w16 (getD (back (c .before .before .before .before .before .before .before .before .before .loop2 .b) (c .before .before .before .before .before .before .before .stretch-end .result - c .before .before .before .before .before .before .before .before .before .loop2 .b) (c .before .before .before .relax-row .last .0) (c .before .before .before .before .before .before .before .before .before .loop2 .row)) (c .before .before .before .before .before .before .before .before .before .before .before .before .before .before .before .loop .a) (pos 0)) = search needs in
+    let f : SFits w16 (getD (stepped c) (rowAt (c .before .before .before .before .before .before .before .before .before .before .before .before .before .before)) (pos 0)) = search needs in
     simp (toZ-ofZ f) at (c .less .ensures)
 
+-- ---- the needs
 pass-holds : tie.Need-pass-holds Inv-loop2 μ-loop2 Inv-loop μ-loop Inv-pass μ-pass
 pass-holds c =
     record { at-least = omega arith; at-most = omega arith; none = refl; room = refl; long = refl; past = refl; rest = refl }
 
-mul-first : tie.Need-mul-first Inv-loop2 μ-loop2 Inv-loop μ-loop Inv-pass μ-pass
-mul-first c = omega (arith, middle-room c)
-
-add-last : tie.Need-add-last Inv-loop2 μ-loop2 Inv-loop μ-loop Inv-pass μ-pass
-add-last c = omega (arith, middle-room c)
-
-mul-load-row : tie.Need-mul-load-row Inv-loop2 μ-loop2 Inv-loop μ-loop Inv-pass μ-pass
-mul-load-row c = omega (arith, middle-room c)
-
-sub-load-row : tie.Need-sub-load-row Inv-loop2 μ-loop2 Inv-loop μ-loop Inv-pass μ-pass
-sub-load-row c = omega arith
-
-part-load-row-start :
-    tie.Need-part-load-row-start Inv-loop2 μ-loop2 Inv-loop μ-loop Inv-pass μ-pass
-part-load-row-start c = omega arith
-
-part-load-row-end : tie.Need-part-load-row-end Inv-loop2 μ-loop2 Inv-loop μ-loop Inv-pass μ-pass
-part-load-row-end c = middle-room (c .before)
-
 slice-aggregate-load-row :
     tie.Need-slice-aggregate-load-row Inv-loop2 μ-loop2 Inv-loop μ-loop Inv-pass μ-pass
-slice-aggregate-load-row c = sym (c .before .before .before .before .pass .inv .room)
+slice-aggregate-load-row c = sym (c .before .before .before .pass .inv .room)
 
 load-row-requires : tie.Need-load-row-requires Inv-loop2 μ-loop2 Inv-loop μ-loop Inv-pass μ-pass
 load-row-requires c κs =
-    let w = c .before .before .before .before .before .args .w in
-    let p = c .before .before .before .before .pass in
-    let pre = c .before .before .before .before .before .pre in
-    let n = part-length (p .m * w) (p .m * w + w - p .m * w) (p .t) (omega (arith, middle-room (c .before .before .before))) in
-    (omega arith, omega arith)
+    let pre = c .before .before .before .before .pre in
+    let p = c .before .before .before .pass .inv in
+    (omega (arith, c .before .before .pass-test .taken), omega (arith, p .long), omega (arith, p .room))
 
 loop-holds : tie.Need-loop-holds Inv-loop2 μ-loop2 Inv-loop μ-loop Inv-pass μ-pass
-loop-holds c = rows-start (c .before .before .before .before .before .before .before .args .w) (c .before .before .before .before .before .before .pass .m) (c .before .before .before .before .before .before .pass .t) (c .before .before .before .before .before .before .pass .outcome) (c .before .before .before .before .before .before .pass .inv .none)
+loop-holds c =
+    let m = c .before in
+    rows-start (width m) (middleAt m) (started m) (c .before .before .before .before .before .pass .outcome) (c .before .before .before .before .before .pass .inv .none)
 
 mul-start : tie.Need-mul-start Inv-loop2 μ-loop2 Inv-loop μ-loop Inv-pass μ-pass
 mul-start c = omega (arith, row-room c)
@@ -166,98 +258,82 @@ part-row-end : tie.Need-part-row-end Inv-loop2 μ-loop2 Inv-loop μ-loop Inv-pas
 part-row-end c = row-room c
 
 mul-am : tie.Need-mul-am Inv-loop2 μ-loop2 Inv-loop μ-loop Inv-pass μ-pass
-mul-am c = omega (arith, c .before .before .before .before .before .before .before .before .pass-test .taken, c .before .before .before .before .before .before .before .before .before .before .pre)
+mul-am c = omega (arith, middle-below (c .before .before .before .before), c .before .before .before .before .before .before .before .before .before .pre)
 
 slice-copy-out-am : tie.Need-slice-copy-out-am Inv-loop2 μ-loop2 Inv-loop μ-loop Inv-pass μ-pass
-slice-copy-out-am c = omega (arith, row-here (c .before) .long, c .before .before .before .before .before .before .before .before .pass-test .taken, c .before .before .before .before .before .before .before .before .before .before .pre)
+slice-copy-out-am c = omega (arith, row-here (c .before) .long, middle-below (c .before .before .before .before))
 
 sums-fit-requires : tie.Need-sums-fit-requires Inv-loop2 μ-loop2 Inv-loop μ-loop Inv-pass μ-pass
 sums-fit-requires c κs = tt
 
 loop2-holds : tie.Need-loop2-holds Inv-loop2 μ-loop2 Inv-loop μ-loop Inv-pass μ-pass
 loop2-holds c =
-    let w = c .before .before .before .before .before .before .before .before .before .before .before .before .before .args .w in
-    let p = c .before .before .before .before .before .before .before .before .before .before .before .before .pass in
-    let l = c .before .before .before .before .before .loop in
-    let mid = c .before .before .before .before .before .before .before .load-row .last .1 .0 in
-    let i = l .a * w in
-    let k = i + w - i in
-    let part = take k (drop i (l .t)) in
-    let am = toZ w16 (ofZ w16 (getD part (p .m) (pos 0))) in
-    cols-start am mid part w (l .a) (l .outcome) (l .inv .none) (row-here (c .before .before .before .before) .long)
+    let m = c .before .before .before .before .before .before .before in
+    let r = c .before .before .before .before in
+    cols-start (am r) (copy m) (part r) (width m) (rowAt r) (c .before .before .before .before .before .loop .outcome) (c .before .before .before .before .before .loop .inv .none) (row-here r .long)
 
 stretch-end-requires :
     tie.Need-stretch-end-requires Inv-loop2 μ-loop2 Inv-loop μ-loop Inv-pass μ-pass
 stretch-end-requires c κs = omega (arith, c .loop2-test .taken)
 
 mul-relax-row : tie.Need-mul-relax-row Inv-loop2 μ-loop2 Inv-loop μ-loop Inv-pass μ-pass
-mul-relax-row c = omega (arith, stretch-here (c), c .before .before .before .before .before .before .before .before .before .before .before .before .before .before .before .before .pre)
+mul-relax-row c = omega (arith, stretch-here (c), c .before .before .before .before .before .before .before .before .before .before .before .before .before .before .before .pre)
 
 sub-relax-row : tie.Need-sub-relax-row Inv-loop2 μ-loop2 Inv-loop μ-loop Inv-pass μ-pass
-sub-relax-row c = omega (arith, stretch-here (c), c .before .before .before .before .before .before .before .before .before .before .before .before .before .before .before .before .pre)
+sub-relax-row c = omega (arith, stretch-here (c), c .before .before .before .before .before .before .before .before .before .before .before .before .before .before .before .pre)
 
 part-relax-row-start :
     tie.Need-part-relax-row-start Inv-loop2 μ-loop2 Inv-loop μ-loop Inv-pass μ-pass
-part-relax-row-start c = omega (arith, stretch-here (c), c .before .before .before .before .before .before .before .before .before .before .before .before .before .before .before .before .pre)
+part-relax-row-start c = omega (arith, stretch-here (c), c .before .before .before .before .before .before .before .before .before .before .before .before .before .before .before .pre)
 
 part-relax-row-end : tie.Need-part-relax-row-end Inv-loop2 μ-loop2 Inv-loop μ-loop Inv-pass μ-pass
 part-relax-row-end c = omega (arith, stretch-here (c), c .before .before .loop2 .inv .long)
 
 mul-relax-row-2 : tie.Need-mul-relax-row-2 Inv-loop2 μ-loop2 Inv-loop μ-loop Inv-pass μ-pass
-mul-relax-row-2 c = omega (arith, stretch-here (c .before), c .before .before .before .before .before .before .before .before .before .before .before .before .before .before .before .before .before .pre)
+mul-relax-row-2 c = omega (arith, stretch-here (c .before), c .before .before .before .before .before .before .before .before .before .before .before .before .before .before .before .before .pre)
 
 sub-relax-row-2 : tie.Need-sub-relax-row-2 Inv-loop2 μ-loop2 Inv-loop μ-loop Inv-pass μ-pass
-sub-relax-row-2 c = omega (arith, stretch-here (c .before), c .before .before .before .before .before .before .before .before .before .before .before .before .before .before .before .before .before .pre)
+sub-relax-row-2 c = omega (arith, stretch-here (c .before), c .before .before .before .before .before .before .before .before .before .before .before .before .before .before .before .before .pre)
 
 part-relax-row-start-2 :
     tie.Need-part-relax-row-start-2 Inv-loop2 μ-loop2 Inv-loop μ-loop Inv-pass μ-pass
-part-relax-row-start-2 c = omega (arith, stretch-here (c .before .before), c .before .before .before .before .before .before .before .before .before .before .before .before .before .before .before .before .before .before .pre)
+part-relax-row-start-2 c = omega (arith, stretch-here (c .before .before), c .before .before .before .before .before .before .before .before .before .before .before .before .before .before .before .before .before .pre)
 
 part-relax-row-end-2 :
     tie.Need-part-relax-row-end-2 Inv-loop2 μ-loop2 Inv-loop μ-loop Inv-pass μ-pass
-part-relax-row-end-2 c = omega (arith, stretch-here (c .before .before), mid-room (c .before .before .before .before .before .before .before .before .before .before .before .before), c .before .before .before .before .before .before .before .before .before .before .before .before .before .before .before .before .before .before .pre)
+part-relax-row-end-2 c = omega (arith, stretch-here (c .before .before), copy-room (c .before .before .before .before .before .before .before .before .before .before .before .before), c .before .before .before .before .before .before .before .before .before .before .before .before .before .before .before .before .before .pre)
 
 relax-row-requires : tie.Need-relax-row-requires Inv-loop2 μ-loop2 Inv-loop μ-loop Inv-pass μ-pass
 relax-row-requires c κs =
-    let w = c .before .before .before .before .before .before .before .before .before .before .before .before .before .before .before .before .before .before .before .args .w in
-    let p = c .before .before .before .before .before .before .before .before .before .before .before .before .before .before .before .before .before .before .pass in
-    let l = c .before .before .before .before .before .before .before .before .before .before .before .loop in
-    let mid = c .before .before .before .before .before .before .before .before .before .before .before .before .before .load-row .last .1 .0 in
-    let ends = c .before .before .before .before .before .before .before .before .before .before .before .before .before .load-row .result in
+    let m = c .before .before .before .before .before .before .before .before .before .before .before .before .before in
+    let r = c .before .before .before .before .before .before .before .before .before .before in
     let q = c .before .before .before .before .before .loop2 in
     let e = c .before .before .before .stretch-end .result in
-    let pre = c .before .before .before .before .before .before .before .before .before .before .before .before .before .before .before .before .before .before .before .pre in
-    let i = l .a * w in
-    let k = i + w - i in
-    let part = take k (drop i (l .t)) in
-    let am = toZ w16 (ofZ w16 (getD part (p .m) (pos 0))) in
     let s = stretch-here (c .before .before .before) in
+    let pre = c .before .before .before .before .before .before .before .before .before .before .before .before .before .before .before .before .before .before .pre in
+    let asked = c .before .before .before .before .before .before .before in
     let n = part-length (q .b) (e - q .b) (q .row) (omega (arith, s, q .inv .long)) in
-    let o = part-length (q .b) (e - q .b) mid (omega (arith, s, mid-room (c .before .before .before .before .before .before .before .before .before .before .before .before .before), pre)) in (
+    let o = part-length (q .b) (e - q .b) (copy m) (omega (arith, s, copy-room m, pre)) in (
       omega (arith, n, o),
-      stretch-in-range w (p .m) (l .a) (p .t) mid (ends .0) (ends .1) am (mid-here (c .before .before .before .before .before .before .before .before .before .before .before .before .before)) (am-here (c .before .before .before .before .before .before .before .before))
-          (asked-here (c .before .before .before .before .before .before .before) ∙ c .before .before .before .before .before .before .if1 .taken) (q .b) (e - q .b) (omega (arith, s)),
+      stretch-in-range (width m) (middleAt m) (rowAt r) (started m) (copy m) (least m) (greatest m) (am r) (mid-here m) (am-here asked)
+          (asked-here asked ∙ c .before .before .before .before .before .before .if1 .taken) (q .b) (e - q .b) (omega (arith, s)),
     )
 
 mul-less : tie.Need-mul-less Inv-loop2 μ-loop2 Inv-loop μ-loop Inv-pass μ-pass
-mul-less c = omega (arith, c .before .before .before .before .before .before .before .before .before .before .before .before .loop-test .taken, c .before .before .before .before .before .before .before .before .before .before .before .before .before .before .before .before .before .before .before .before .before .pre)
+mul-less c = omega (arith, (c .before .before .before .before .before .before .before .before .before .before .before .before) .loop-test .taken, c .before .before .before .before .before .before .before .before .before .before .before .before .before .before .before .before .before .before .before .before .pre)
 
 slice-copy-out-less :
     tie.Need-slice-copy-out-less Inv-loop2 μ-loop2 Inv-loop μ-loop Inv-pass μ-pass
 slice-copy-out-less c =
-    let w = c .before .before .before .before .before .before .before .before .before .before .before .before .before .before .before .before .before .before .before .before .before .args .w in
-    let p = c .before .before .before .before .before .before .before .before .before .before .before .before .before .before .before .before .before .before .before .before .pass in
-    let l = c .before .before .before .before .before .before .before .before .before .before .before .before .before .loop in
-    let mid = c .before .before .before .before .before .before .before .before .before .before .before .before .before .before .before .load-row .last .1 .0 in
+    let m = c .before .before .before .before .before .before .before .before .before .before .before .before .before .before .before in
+    let r = c .before .before .before .before .before .before .before .before .before .before .before .before in
     let q = c .before .before .before .before .before .before .before .loop2 in
     let e = c .before .before .before .before .before .stretch-end .result in
     let ys = c .before .relax-row .last .0 in
-    let i = l .a * w in
-    let k = i + w - i in
-    let part = take k (drop i (l .t)) in
-    let am = toZ w16 (ofZ w16 (getD part (p .m) (pos 0))) in
     let s = stretch-here (c .before .before .before .before .before) in
-    omega (arith, cols-long am mid part w (l .a) (q .outcome) (q .row) (q .b) e (e - q .b) ys (q .inv) refl (s .0) (s .1) (c .before .relax-row .ensures), c .before .before .before .before .before .before .before .before .before .before .before .before .loop-test .taken)
+    let long = cols-long (am r) (copy m) (part r) (width m) (rowAt r) (q .outcome) (q .row) (q .b) e (e - q .b) ys (q .inv) refl (s .0) (s .1)
+    (c .before .relax-row .ensures) in
+    omega (arith, long, r .loop-test .taken)
 
 less-requires : tie.Need-less-requires Inv-loop2 μ-loop2 Inv-loop μ-loop Inv-pass μ-pass
 less-requires c κs = tt
@@ -267,149 +343,135 @@ loop2-less c = omega (arith, stretch-here (c .before .before .before .before .be
 
 loop2-again : tie.Need-loop2-again Inv-loop2 μ-loop2 Inv-loop μ-loop Inv-pass μ-pass
 loop2-again c =
-    let w = c .before .before .before .before .before .before .before .before .before .before .before .before .before .before .before .before .before .before .before .before .before .before .before .before .args .w in
-    let p = c .before .before .before .before .before .before .before .before .before .before .before .before .before .before .before .before .before .before .before .before .before .before .before .pass in
-    let l = c .before .before .before .before .before .before .before .before .before .before .before .before .before .before .before .before .loop in
-    let mid = c .before .before .before .before .before .before .before .before .before .before .before .before .before .before .before .before .before .before .load-row .last .1 .0 in
+    let m = c .before .before .before .before .before .before .before .before .before .before .before .before .before .before .before .before .before .before in
+    let r = c .before .before .before .before .before .before .before .before .before .before .before .before .before .before .before in
     let q = c .before .before .before .before .before .before .before .before .before .before .loop2 in
     let e = c .before .before .before .before .before .before .before .before .stretch-end .result in
     let ys = c .before .before .before .before .relax-row .last .0 in
-    let i = l .a * w in
-    let k = i + w - i in
-    let part = take k (drop i (l .t)) in
-    let am = toZ w16 (ofZ w16 (getD part (p .m) (pos 0))) in
     let s = stretch-here (c .before .before .before .before .before .before .before .before) in
-    cols-again am mid part w (l .a) (q .outcome) (q .row) (q .b) e (e - q .b) ys (q .inv) refl (s .0) (s .1) (c .before .before .before .before .relax-row .ensures) (sym (low-here (c .before)) ∙ c .if2 .left)
+    cols-again (am r) (copy m) (part r) (width m) (rowAt r) (q .outcome) (q .row) (q .b) e (e - q .b) ys (q .inv) refl (s .0) (s .1)
+    (c .before .before .before .before .relax-row .ensures)
+    (sym (low-here (c .before)) ∙ c .if2 .left)
 
 add-a : tie.Need-add-a Inv-loop2 μ-loop2 Inv-loop μ-loop Inv-pass μ-pass
-add-a c = omega (arith, c .before .before .before .before .before .before .before .loop-test .taken, c .before .before .before .before .before .before .before .before .before .before .before .before .before .before .before .before .pre)
+add-a c = omega (arith, (c .before .before .before .before .before .before .before) .loop-test .taken, c .before .before .before .before .before .before .before .before .before .before .before .before .before .before .before .pre)
 
 loop-less : tie.Need-loop-less Inv-loop2 μ-loop2 Inv-loop μ-loop Inv-pass μ-pass
-loop-less c = omega (arith, c .before .before .before .before .before .before .before .loop-test .taken)
+loop-less c = omega (arith, (c .before .before .before .before .before .before .before) .loop-test .taken)
 
 loop-again : tie.Need-loop-again Inv-loop2 μ-loop2 Inv-loop μ-loop Inv-pass μ-pass
 loop-again c =
-    let w = c .before .before .before .before .before .before .before .before .before .before .before .before .before .before .before .before .args .w in
-    let p = c .before .before .before .before .before .before .before .before .before .before .before .before .before .before .before .pass in
-    let l = c .before .before .before .before .before .before .before .before .loop in
-    let mid = c .before .before .before .before .before .before .before .before .before .before .load-row .last .1 .0 in
-    let ends = c .before .before .before .before .before .before .before .before .before .before .load-row .result in
+    let m = c .before .before .before .before .before .before .before .before .before .before in
+    let r = c .before .before .before .before .before .before .before in
     let q = c .before .before .loop2 in
-    let i = l .a * w in
-    let k = i + w - i in
-    let part = take k (drop i (l .t)) in
-    let am = toZ w16 (ofZ w16 (getD part (p .m) (pos 0))) in
-    let hb : w ≤ q .b = c .before .loop2-test .left in
-    let ha = c .before .before .before .before .before .before .before .loop-test .taken in
-    let ek : k ≡ w = omega arith in
-    rows-again w (p .m) (p .t) (l .t) (l .outcome) (l .a) (l .inv) ha (q .outcome) k (q .row) (q .inv .none) ek (omega (arith, row-room (c .before .before .before .before .before .before .before)))
-    (row-done w (p .m) (l .a) (p .t) mid part (ends .0) (ends .1) am (mid-here (c .before .before .before .before .before .before .before .before .before .before)) (row-here (c .before .before .before .before .before .before .before)) (am-here (c .before .before .before .before .before)) (q .outcome) (q .row) (q .b) (q .inv) hb) (asked-here (c .before .before .before .before) ∙ c .before .before .before .if1 .taken)
-    (row-low w (p .m) (l .a) (p .t) mid part (ends .0) (ends .1) am (mid-here (c .before .before .before .before .before .before .before .before .before .before)) (row-here (c .before .before .before .before .before .before .before)) (am-here (c .before .before .before .before .before)) ha false (q .inv .fine (omega (arith, ha, hb))))
+    let asked = c .before .before .before .before in
+    let hb : width m ≤ q .b = c .before .loop2-test .left in
+    let ha = r .loop-test .taken in
+    rows-again (width m) (middleAt m) (started m) (table r) (c .before .before .before .before .before .before .before .before .loop .outcome) (rowAt r) (c .before .before .before .before .before .before .before .before .loop .inv) ha (q .outcome) (size r) (q .row) (q .inv .none) (size-is r)
+    (omega (arith, row-room r, size-is r))
+    (row-done (width m) (middleAt m) (rowAt r) (started m) (copy m) (part r) (least m) (greatest m) (am r) (mid-here m) (row-here r) (am-here asked)
+    (q .outcome) (q .row) (q .b) (q .inv) hb)
+    (asked-here asked ∙ c .before .before .before .if1 .taken)
+    (row-low (width m) (middleAt m) (rowAt r) (started m) (copy m) (part r) (least m) (greatest m) (am r) (mid-here m) (row-here r) (am-here asked)
+    ha false (q .inv .fine (omega (arith, ha, hb))))
 
 add-m : tie.Need-add-m Inv-loop2 μ-loop2 Inv-loop μ-loop Inv-pass μ-pass
-add-m c = omega (arith, c .before .before .before .before .before .before .before .pass-test .taken, c .before .before .before .before .before .before .before .before .before .pre)
+add-m c = omega (arith, c .before .before .before .before .before .before .pass-test .taken, c .before .before .before .before .before .before .before .before .pre)
 
 pass-less : tie.Need-pass-less Inv-loop2 μ-loop2 Inv-loop μ-loop Inv-pass μ-pass
-pass-less c = omega (arith, c .before .before .before .before .before .before .before .pass-test .taken)
+pass-less c = omega (arith, c .before .before .before .before .before .before .pass-test .taken)
 
 pass-again : tie.Need-pass-again Inv-loop2 μ-loop2 Inv-loop μ-loop Inv-pass μ-pass
 pass-again c =
-    let w = c .before .before .before .before .before .before .before .before .before .args .w in
-    let p = c .before .before .before .before .before .before .before .before .pass in
+    let st = c .before .before .before .before .before .before .before .before in
+    let p = c .before .before .before .before .before .before .before .pass in
+    let m = c .before .before .before in
     let l = c .before .loop in
-    let mid = c .before .before .before .load-row .last .1 .0 in
-    middle-again (c .before .before .before .before .before .before .before .before .before .args .t .now) (p .t) w (c .before .before .before .before .before .before .before .before .before .args .from) (c .before .before .before .before .before .before .before .before .before .args .to) (p .outcome) (p .mid) (p .m) (p .inv) (c .before .before .before .before .before .before .before .pass-test .taken) (l .t) (l .outcome) (l .a) (l .inv) (c .loop-test .left) mid (mid-room (c .before .before .before))
+    middle-again (st .args .t .now) (p .t) (st .args .w) (st .args .from) (st .args .to) (p .outcome) (p .mid) (p .m) (p .inv) (c .before .before .before .before .before .before .pass-test .taken)
+    (l .t) (l .outcome) (l .a) (l .inv) (c .loop-test .left) (copy m) (copy-room m)
 
 same-length : tie.Need-same-length Inv-loop2 μ-loop2 Inv-loop μ-loop Inv-pass μ-pass
 same-length c = c .before .pass .inv .long
 
 returns : tie.Need-returns Inv-loop2 μ-loop2 Inv-loop μ-loop Inv-pass μ-pass
 returns c =
-    let w = c .before .before .args .w in
+    let st = c .before .before in
     let p = c .before .pass in
-    pass-ended (c .before .before .args .t .now) (p .t) w (c .before .before .args .from) (c .before .before .args .to) (p .outcome) (p .mid) (p .m) (p .inv) (c .pass-test .left)
+    pass-ended (st .args .t .now) (p .t) (st .args .w) (st .args .from) (st .args .to) (p .outcome) (p .mid) (p .m) (p .inv) (c .pass-test .left)
 
 same-length-2 : tie.Need-same-length-2 Inv-loop2 μ-loop2 Inv-loop μ-loop Inv-pass μ-pass
 same-length-2 c =
-    let w = c .before .before .before .before .before .before .before .before .before .before .before .before .before .before .args .w in
-    let p = c .before .before .before .before .before .before .before .before .before .before .before .before .before .pass in
-    let l = c .before .before .before .before .before .before .loop in
-    let i = l .a * w in
-    let k = i + w - i in
-    let part = take k (drop i (l .t)) in
-    let ek : k ≡ w = omega arith in
-    let ha = c .before .before .before .before .before .loop-test .taken in
-    let fits : i + k ≤ length (l .t) = omega (arith, row-room (c .before .before .before .before .before)) in
-    let n : length (part) ≡ k = row-here (c .before .before .before .before .before) .long ∙ sym ek in
-    let long = back-length i k (part) (l .t) fits n ∙ l .inv .long in
-    long ∙ p .inv .long
+    let m = c .before .before .before .before .before .before .before .before in
+    let r = c .before .before .before .before .before in
+    let fits : from r + size r ≤ length (table r) = omega (arith, row-room r, size-is r) in
+    let n : length (part r) ≡ size r = row-here r .long ∙ sym (size-is r) in
+    let long = back-length (from r) (size r) (part r) (table r) fits n ∙ c .before .before .before .before .before .before .loop .inv .long in
+    long ∙ c .before .before .before .before .before .before .before .before .before .before .before .before .pass .inv .long
 
 returns-2 : tie.Need-returns-2 Inv-loop2 μ-loop2 Inv-loop μ-loop Inv-pass μ-pass
 returns-2 c =
-    let w = c .before .before .before .before .before .before .before .before .before .before .before .before .before .before .args .w in
-    let p = c .before .before .before .before .before .before .before .before .before .before .before .before .before .pass in
-    let l = c .before .before .before .before .before .before .loop in
-    let i = l .a * w in
-    let k = i + w - i in
-    let part = take k (drop i (l .t)) in
-    let ek : k ≡ w = omega arith in
-    let ha = c .before .before .before .before .before .loop-test .taken in
-    let fits : i + k ≤ length (l .t) = omega (arith, row-room (c .before .before .before .before .before)) in
-    let n : length (part) ≡ k = row-here (c .before .before .before .before .before) .long ∙ sym ek in
-    let long = back-length i k (part) (l .t) fits n ∙ l .inv .long in
-    let inside = row-inside (l .a) w ha in
-    let past = back-past i k (part) (l .t) fits n (w * w) (omega arith) ∙ rows-past w (p .m) (p .t) (l .t) (l .outcome) (l .a) (l .inv) (omega arith) in
-    pass-left (c .before .before .before .before .before .before .before .before .before .before .before .before .before .before .args .t .now) (p .t) w (c .before .before .before .before .before .before .before .before .before .before .before .before .before .before .args .from) (c .before .before .before .before .before .before .before .before .before .before .before .before .before .before .args .to) (p .outcome) (p .mid) (p .m) (p .inv) (c .before .before .before .before .before .before .before .before .before .before .before .before .pass-test .taken) outOfRange OutOfRange (back i k part (l .t)) (λ x e. let z : _≡_ {A = ℕ} 0 1 = cc in omega arith)
-    (rows-out w (p .m) (p .t) (l .t) (l .outcome) (l .a) (l .inv) ha (passFrom (c .before .before .before .before .before .before .before .before .before .before .before .before .before .before .args .to - (p .m + 1)) (suc (p .m)) w (middle w (p .m) (p .t))) (asked-here (c .before .before) ∙ c .before .if1 .left)) refl long past
+    let st = c .before .before .before .before .before .before .before .before .before .before .before .before .before in
+    let p = c .before .before .before .before .before .before .before .before .before .before .before .before .pass in
+    let m = c .before .before .before .before .before .before .before .before in
+    let r = c .before .before .before .before .before in
+    let fits : from r + size r ≤ length (table r) = omega (arith, row-room r, size-is r) in
+    let n : length (part r) ≡ size r = row-here r .long ∙ sym (size-is r) in
+    let long = back-length (from r) (size r) (part r) (table r) fits n ∙ c .before .before .before .before .before .before .loop .inv .long in
+    let ha = r .loop-test .taken in
+    let inside = row-inside (rowAt r) (width m) ha in
+    let past = back-past (from r) (size r) (part r) (table r) fits n (width m * width m) (omega (arith, size-is r))
+    ∙ rows-past (width m) (middleAt m) (started m) (table r) (c .before .before .before .before .before .before .loop .outcome) (rowAt r) (c .before .before .before .before .before .before .loop .inv) (omega arith) in
+    pass-left (st .args .t .now) (p .t) (st .args .w) (st .args .from) (st .args .to) (p .outcome) (p .mid) (p .m) (p .inv) (c .before .before .before .before .before .before .before .before .before .before .before .pass-test .taken)
+    outOfRange OutOfRange (back (from r) (size r) (part r) (table r)) (λ x e. let z : _≡_ {A = ℕ} 0 1 = cc in omega arith)
+    (rows-out (width m) (middleAt m) (started m) (table r) (c .before .before .before .before .before .before .loop .outcome) (rowAt r) (c .before .before .before .before .before .before .loop .inv) ha
+    (passFrom (st .args .to - (p .m + 1)) (suc (p .m)) (width m) (middle (width m) (p .m) (p .t))) (asked-here (c .before .before) ∙ c .before .if1 .left))
+    refl long past
 
 same-length-3 : tie.Need-same-length-3 Inv-loop2 μ-loop2 Inv-loop μ-loop Inv-pass μ-pass
 same-length-3 c =
-    let w = c .before .before .before .before .before .before .before .before .before .before .before .before .before .before .before .before .before .before .before .before .before .before .before .before .before .args .w in
-    let p = c .before .before .before .before .before .before .before .before .before .before .before .before .before .before .before .before .before .before .before .before .before .before .before .before .pass in
-    let l = c .before .before .before .before .before .before .before .before .before .before .before .before .before .before .before .before .before .loop in
-    let mid = c .before .before .before .before .before .before .before .before .before .before .before .before .before .before .before .before .before .before .before .load-row .last .1 .0 in
+    let m = c .before .before .before .before .before .before .before .before .before .before .before .before .before .before .before .before .before .before .before in
+    let r = c .before .before .before .before .before .before .before .before .before .before .before .before .before .before .before .before in
     let q = c .before .before .before .before .before .before .before .before .before .before .before .loop2 in
     let e = c .before .before .before .before .before .before .before .before .before .stretch-end .result in
     let ys = c .before .before .before .before .before .relax-row .last .0 in
-    let i = l .a * w in
-    let k = i + w - i in
-    let part = take k (drop i (l .t)) in
-    let am = toZ w16 (ofZ w16 (getD part (p .m) (pos 0))) in
     let s = stretch-here (c .before .before .before .before .before .before .before .before .before) in
-    let row = (back (c .before .before .before .before .before .before .before .before .before .before .before .loop2 .b) (c .before .before .before .before .before .before .before .before .before .stretch-end .result - c .before .before .before .before .before .before .before .before .before .before .before .loop2 .b) (c .before .before .before .before .before .relax-row .last .0) (c .before .before .before .before .before .before .before .before .before .before .before .loop2 .row)) in
-    let ek : k ≡ w = omega arith in
-    let ha = c .before .before .before .before .before .before .before .before .before .before .before .before .before .before .before .before .loop-test .taken in
-    let fits : i + k ≤ length (l .t) = omega (arith, row-room (c .before .before .before .before .before .before .before .before .before .before .before .before .before .before .before .before)) in
-    let n : length (row) ≡ k = cols-long am mid part w (l .a) (q .outcome) (q .row) (q .b) e (e - q .b) ys (q .inv) refl (s .0) (s .1) (c .before .before .before .before .before .relax-row .ensures) ∙ sym ek in
-    let long = back-length i k (row) (l .t) fits n ∙ l .inv .long in
-    long ∙ p .inv .long
+    let row = stepped (c .before .before) in
+    let fits : from r + size r ≤ length (table r) = omega (arith, row-room r, size-is r) in
+    let n : length row ≡ size r = cols-long (am r) (copy m) (part r) (width m) (rowAt r) (q .outcome) (q .row) (q .b) e (e - q .b) ys (q .inv) refl (s .0) (s .1)
+    (c .before .before .before .before .before .relax-row .ensures) ∙ sym (size-is r) in
+    let long = back-length (from r) (size r) row (table r) fits n ∙ c .before .before .before .before .before .before .before .before .before .before .before .before .before .before .before .before .before .loop .inv .long in
+    long ∙ c .before .before .before .before .before .before .before .before .before .before .before .before .before .before .before .before .before .before .before .before .before .before .before .pass .inv .long
 
 returns-3 : tie.Need-returns-3 Inv-loop2 μ-loop2 Inv-loop μ-loop Inv-pass μ-pass
 returns-3 c =
-    let w = c .before .before .before .before .before .before .before .before .before .before .before .before .before .before .before .before .before .before .before .before .before .before .before .before .before .args .w in
-    let p = c .before .before .before .before .before .before .before .before .before .before .before .before .before .before .before .before .before .before .before .before .before .before .before .before .pass in
-    let l = c .before .before .before .before .before .before .before .before .before .before .before .before .before .before .before .before .before .loop in
-    let mid = c .before .before .before .before .before .before .before .before .before .before .before .before .before .before .before .before .before .before .before .load-row .last .1 .0 in
+    let st = c .before .before .before .before .before .before .before .before .before .before .before .before .before .before .before .before .before .before .before .before .before .before .before .before in
+    let p = c .before .before .before .before .before .before .before .before .before .before .before .before .before .before .before .before .before .before .before .before .before .before .before .pass in
+    let m = c .before .before .before .before .before .before .before .before .before .before .before .before .before .before .before .before .before .before .before in
+    let r = c .before .before .before .before .before .before .before .before .before .before .before .before .before .before .before .before in
     let q = c .before .before .before .before .before .before .before .before .before .before .before .loop2 in
     let e = c .before .before .before .before .before .before .before .before .before .stretch-end .result in
     let ys = c .before .before .before .before .before .relax-row .last .0 in
-    let i = l .a * w in
-    let k = i + w - i in
-    let part = take k (drop i (l .t)) in
-    let am = toZ w16 (ofZ w16 (getD part (p .m) (pos 0))) in
     let s = stretch-here (c .before .before .before .before .before .before .before .before .before) in
-    let ends = c .before .before .before .before .before .before .before .before .before .before .before .before .before .before .before .before .before .before .before .load-row .result in
-    let row = (back (c .before .before .before .before .before .before .before .before .before .before .before .loop2 .b) (c .before .before .before .before .before .before .before .before .before .stretch-end .result - c .before .before .before .before .before .before .before .before .before .before .before .loop2 .b) (c .before .before .before .before .before .relax-row .last .0) (c .before .before .before .before .before .before .before .before .before .before .before .loop2 .row)) in
-    let ek : k ≡ w = omega arith in
-    let ha = c .before .before .before .before .before .before .before .before .before .before .before .before .before .before .before .before .loop-test .taken in
-    let fits : i + k ≤ length (l .t) = omega (arith, row-room (c .before .before .before .before .before .before .before .before .before .before .before .before .before .before .before .before)) in
-    let n : length (row) ≡ k = cols-long am mid part w (l .a) (q .outcome) (q .row) (q .b) e (e - q .b) ys (q .inv) refl (s .0) (s .1) (c .before .before .before .before .before .relax-row .ensures) ∙ sym ek in
-    let long = back-length i k (row) (l .t) fits n ∙ l .inv .long in
-    let inside = row-inside (l .a) w ha in
-    let past = back-past i k (row) (l .t) fits n (w * w) (omega arith) ∙ rows-past w (p .m) (p .t) (l .t) (l .outcome) (l .a) (l .inv) (omega arith) in
-    pass-left (c .before .before .before .before .before .before .before .before .before .before .before .before .before .before .before .before .before .before .before .before .before .before .before .before .before .args .t .now) (p .t) w (c .before .before .before .before .before .before .before .before .before .before .before .before .before .before .before .before .before .before .before .before .before .before .before .before .before .args .from) (c .before .before .before .before .before .before .before .before .before .before .before .before .before .before .before .before .before .before .before .before .before .before .before .before .before .args .to) (p .outcome) (p .mid) (p .m) (p .inv) (c .before .before .before .before .before .before .before .before .before .before .before .before .before .before .before .before .before .before .before .before .before .before .before .pass-test .taken) stopped Stopped (back i k row (l .t)) (λ x e. let z : _≡_ {A = ℕ} 0 1 = cc in omega arith)
-    (rows-low w (p .m) (p .t) (l .t) (l .outcome) (l .a) (l .inv) ha (passFrom (c .before .before .before .before .before .before .before .before .before .before .before .before .before .before .before .before .before .before .before .before .before .before .before .before .before .args .to - (p .m + 1)) (suc (p .m)) w (middle w (p .m) (p .t))) (asked-here (c .before .before .before .before .before .before .before .before .before .before .before .before .before) ∙ c .before .before .before .before .before .before .before .before .before .before .before .before .if1 .taken)
-    (row-low w (p .m) (l .a) (p .t) mid part (ends .0) (ends .1) am (mid-here (c .before .before .before .before .before .before .before .before .before .before .before .before .before .before .before .before .before .before .before)) (row-here (c .before .before .before .before .before .before .before .before .before .before .before .before .before .before .before .before)) (am-here (c .before .before .before .before .before .before .before .before .before .before .before .before .before .before)) ha true (cols-low am mid part w (l .a) (q .outcome) (q .row) (q .b) e (e - q .b) ys (q .inv) refl (s .0) (s .1) (c .before .before .before .before .before .relax-row .ensures) (sym (low-here (c .before .before)) ∙ c .before .if2 .taken)))) refl long past
+    let asked = c .before .before .before .before .before .before .before .before .before .before .before .before .before in
+    let row = stepped (c .before .before) in
+    let fits : from r + size r ≤ length (table r) = omega (arith, row-room r, size-is r) in
+    let n : length row ≡ size r = cols-long (am r) (copy m) (part r) (width m) (rowAt r) (q .outcome) (q .row) (q .b) e (e - q .b) ys (q .inv) refl (s .0) (s .1)
+    (c .before .before .before .before .before .relax-row .ensures) ∙ sym (size-is r) in
+    let long = back-length (from r) (size r) row (table r) fits n ∙ c .before .before .before .before .before .before .before .before .before .before .before .before .before .before .before .before .before .loop .inv .long in
+    let ha = r .loop-test .taken in
+    let inside = row-inside (rowAt r) (width m) ha in
+    let past = back-past (from r) (size r) row (table r) fits n (width m * width m) (omega (arith, size-is r))
+    ∙ rows-past (width m) (middleAt m) (started m) (table r) (c .before .before .before .before .before .before .before .before .before .before .before .before .before .before .before .before .before .loop .outcome) (rowAt r) (c .before .before .before .before .before .before .before .before .before .before .before .before .before .before .before .before .before .loop .inv) (omega arith) in
+    let low = cols-low (am r) (copy m) (part r) (width m) (rowAt r) (q .outcome) (q .row) (q .b) e (e - q .b) ys (q .inv) refl (s .0) (s .1)
+    (c .before .before .before .before .before .relax-row .ensures)
+    (sym (low-here (c .before .before)) ∙ c .before .if2 .taken) in
+    pass-left (st .args .t .now) (p .t) (st .args .w) (st .args .from) (st .args .to) (p .outcome) (p .mid) (p .m) (p .inv) (c .before .before .before .before .before .before .before .before .before .before .before .before .before .before .before .before .before .before .before .before .before .before .pass-test .taken)
+    stopped Stopped (back (from r) (size r) row (table r)) (λ x e. let z : _≡_ {A = ℕ} 0 1 = cc in omega arith)
+    (rows-low (width m) (middleAt m) (started m) (table r) (c .before .before .before .before .before .before .before .before .before .before .before .before .before .before .before .before .before .loop .outcome) (rowAt r) (c .before .before .before .before .before .before .before .before .before .before .before .before .before .before .before .before .before .loop .inv) ha
+    (passFrom (st .args .to - (p .m + 1)) (suc (p .m)) (width m) (middle (width m) (p .m) (p .t))) (asked-here asked ∙ c .before .before .before .before .before .before .before .before .before .before .before .before .if1 .taken)
+    (row-low (width m) (middleAt m) (rowAt r) (started m) (copy m) (part r) (least m) (greatest m) (am r) (mid-here m) (row-here r) (am-here asked)
+    ha true low))
+    refl long past
 
 pub run-middles-spec : {M : Type 1} → statement M
 run-middles-spec =
@@ -422,12 +484,6 @@ run-middles-spec =
     Inv-pass
     μ-pass
     pass-holds
-    mul-first
-    add-last
-    mul-load-row
-    sub-load-row
-    part-load-row-start
-    part-load-row-end
     slice-aggregate-load-row
     load-row-requires
     loop-holds
