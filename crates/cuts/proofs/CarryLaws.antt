@@ -1,5 +1,6 @@
 -- The decider's loops, one place at a time.
-use mathlib.Core.Path.{refl, sym, ap, _∙_, subst}
+-- Key idea: a store changes one place, so what is done below i and still to do from i on moves by one.
+use mathlib.Core.Path.{refl, ap, _∙_}
 use mathlib.Core.Logic.{_⊎_, ⊎-elim}
 use mathlib.Core.List.{List}
 use Prim.Native.Nat.{ℕ, _+_, _-_, _≤_, _<_}
@@ -13,7 +14,7 @@ use mir.Syntax.{w16}
 use mir.Val.{SFits}
 use Rattle.integers.specs.Parts.{ints, sum, minℤ, min-is, fits-within}
 use Rattle.cuts.specs.Sink.{Within}
-use Rattle.cuts.specs.Carry.{at, Modest, Carried, LeastSum}
+use Rattle.cuts.specs.Carry.{at, Carried, LeastSum}
 
 -- sums of modest numbers fit
 pub sum-fits : (a b : ℤ) → Within 1000 a → Within 1000 b → SFits w16 (a +ℤ b)
@@ -53,7 +54,3 @@ least-more i xs ys r h s =
       attained = p .0 ∙ s .attained;
     })
     (λ p. record { bound = λ c hc. below c (omega (ints, p .0, p .1)) (omega (ints, p .0)) hc; place = i; inside = h; attained = p .0 }) (min-is r x)
-
-pub least-modest : (n : ℕ) (xs ys : List ℤ) (r : ℤ) → length xs ≤ length ys → Modest xs → Modest ys → LeastSum n xs ys r → SFits w16 r
-least-modest n xs ys r h p q s =
-    subst (SFits w16) (sym (s .attained)) (sum-fits (at xs (s .place)) (at ys (s .place)) (p (s .place) (s .inside)) (q (s .place) (omega (arith, s .inside))))

@@ -44,7 +44,8 @@ module _ (w f v l : ℕ) (d m : List ℤ) (net : Network w d m) (cuts : Cuts w f
       let p = net .closed .small b i (omega arith) (omega arith) in omega arith)
 
   -- carried from 0 before the window, what lies above all rows is the row there
-  pub sunk-first : (z : List ℤ) → Carried (length (part ((f - 1) * w) ((f - 1) * w + w) d)) (pos 0) (part ((f - 1) * w) ((f - 1) * w + w) d) (replicate 49 (pos 1000)) z
+  pub sunk-first : (z : List ℤ) → Carried (length (part ((f - 1) * w) ((f - 1) * w + w) d)) (pos 0) (part ((f - 1) * w) ((f - 1) * w + w) d)
+      (replicate 49 (pos 1000)) z
       → SunkAt w d m f v l z
   sunk-first z r =
       let g = f - 1 in
@@ -87,7 +88,8 @@ module _ (w f v l : ℕ) (d m : List ℤ) (net : Network w d m) (cuts : Cuts w f
           omega (arith, cuts),
           omega arith,
           part-modest v l z (omega (arith, cuts)) (omega (arith, cuts)) (λ i h.
-              let r = sunk-small (w - 1) (entry w d) (into w m) (net .closed) f v l (omega (arith, cuts)) (omega (arith, cuts)) (at z) s (v + i) (omega (arith, cuts)) in
+              let r = sunk-small (w - 1) (entry w d) (into w m) (net .closed) f v l (omega (arith, cuts)) (omega (arith, cuts)) (at z) s (v + i)
+              (omega (arith, cuts)) in
               omega arith),
           part-modest (b * w + v) (b * w + l) m (omega (arith, cuts)) (omega (arith, cuts, inside, net .sizeArcs)) (λ i h.
               let r = net .small b (v + i) (omega (arith, cuts)) (omega (arith, cuts)) in
@@ -120,7 +122,8 @@ module _ (w f v l : ℕ) (d m : List ℤ) (net : Network w d m) (cuts : Cuts w f
       forced-modest : Within 1000 k
       forced-modest =
           let q = from-inside in
-          let r = sunk-small (w - 1) (entry w d) (into w m) (net .closed) f v l (omega (arith, cuts)) (omega (arith, cuts)) (at z) s from (omega (arith, cuts)) in
+          let r = sunk-small (w - 1) (entry w d) (into w m) (net .closed) f v l (omega (arith, cuts)) (omega (arith, cuts)) (at z) s from
+          (omega (arith, cuts)) in
           let t = net .small b from (omega (arith, cuts)) (omega (arith, cuts)) in
           ⊎-elim (λ (e : up k ≡ 0). omega (ints, forced, sum (at z from) (into w m from b)))
           (λ (e : dn k ≡ 0). omega (ints, forced, sum (at z from) (into w m from b))) (apart k)

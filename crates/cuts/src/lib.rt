@@ -23,6 +23,7 @@ fn carry(z: &mut [i16], row: &[i16], k: i16)
     }
 }
 
+// The least sum of two numbers at one place.
 fn least_sum(xs: &[i16], ys: &[i16]) -> i16
     requires { ⌜ (0 < length (now xs)) × (length (now xs) ≤ length (now ys)) × Modest (now xs) × Modest (now ys) ⌝ }
     ensures { λ r. ⌜ LeastSum (length (now (xs .entry))) (now (xs .entry)) (now (ys .entry)) r ⌝ }

@@ -83,7 +83,8 @@ module _ (seat : Seatable) (s : Sheet) (D E : Weights) (solved : Solved s D)
       let i = lawful-iff s (e .0) .0 (e .1) .seated .inside j hj in
       elim (decLe v (earliest s j)) [
         | yes h ↦ omega (arith, earliest-bound s (y .0) (y .1) j, y .3)
-        | no h ↦ absurd (c .least (earliest s j) (omega (arith, e .2)) (omega arith) (plan-admits (e .0) (e .1) (earliest s j) (omega (arith, e .2)) (omega (arith, e .2))))
+        | no h ↦ absurd (c .least (earliest s j) (omega (arith, e .2)) (omega arith)
+            (plan-admits (e .0) (e .1) (earliest s j) (omega (arith, e .2)) (omega (arith, e .2))))
       ]
 
   -- ---- the latest slot, in a network that is D and E seen from the end

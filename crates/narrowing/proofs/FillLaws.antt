@@ -1,4 +1,5 @@
 -- Tables filled in order, one row at a time.
+-- Key idea: a lent row comes back behind the rows that are done, and moves the seam between them and the old table by one row.
 use mathlib.Core.Path.{_≡_, sym, ap, _∙_}
 use mathlib.Core.List.{List, _++_, map}
 use Prim.Native.Nat.{ℕ, _+_, _-_, _*_, _≤_}
@@ -42,7 +43,10 @@ module _ (w : ℕ) (f : Weights) where
       let front : xs ++ row ≡ joined (map (λ b. listOf w (f b)) (run 0 (a + 1))) =
       ap (λ (l : List ℤ). xs ++ l) (r ∙ ap (λ (i : ℕ). listOf w (f i)) (sym here)) ∙ sym snoc
       ∙ ap (λ (i : ℕ). joined (map (λ b. listOf w (f b)) (run 0 i))) (sym (add-one a)) in
-      record { is = moved ∙ ap (λ (l : List ℤ). l ++ drop (a * w + k) t₀) front ∙ ap (λ (i : ℕ). joined (map (λ b. listOf w (f b)) (run 0 (a + 1))) ++ drop i t₀) n }
+      record {
+        is = moved ∙ ap (λ (l : List ℤ). l ++ drop (a * w + k) t₀) front ∙ ap
+            (λ (i : ℕ). joined (map (λ b. listOf w (f b)) (run 0 (a + 1))) ++ drop i t₀) n;
+      }
 
   pub rows-length : (a : ℕ) (t₀ t : List ℤ) → a * w ≤ length t₀ → RowsDone a t₀ t → length t ≡ length t₀
   rows-length a t₀ t h done = front-length (joined (map (λ b. listOf w (f b)) (run 0 a))) (a * w) (done-length a) t₀ t (done .is) h

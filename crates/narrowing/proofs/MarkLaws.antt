@@ -1,4 +1,6 @@
 -- Marks of windows, one unit at a time.
+-- Key idea: a place of the table is one pair of slots, so a store changes the mark of one window only. The slot that stands there in the end is that of
+-- some unit with this window, hence an admitted cut, and its least cut is the least cut of every unit with this window.
 use mathlib.Core.Path.{_≡_, sym, ap, subst}
 use mathlib.Core.Logic.{_⊎_, inl, inr, ⊎-elim, ⊎-map}
 use mathlib.Core.List.{List}
@@ -61,7 +63,8 @@ module _ (w : ℕ) (first last plan : List ℕ) (units : Units w first last plan
     marks-known f l hf hl p = ⊎-elim (λ z. absurd (omega arith)) (λ x.
         let j = x .0 in
         let u = units .inside j (x .1) in
-        let k : KnownCut w d m (getD first j 0) (getD last j 0) (getD plan j 0) = record { opens = u .0; inside = (u .1, u .2); admitted = admitted j (x .1) } in
+        let k : KnownCut w d m (getD first j 0) (getD last j 0) (getD plan j 0) = record
+        { opens = u .0; inside = (u .1, u .2); admitted = admitted j (x .1) } in
         subst (λ (y : ℕ). KnownCut w d m f l y) (sym (x .4))
         (subst (λ (y : ℕ). KnownCut w d m f y (getD plan j 0)) (x .3) (subst (λ (y : ℕ). KnownCut w d m y (getD last j 0) (getD plan j 0)) (x .2) k)))
         (marked .from f l hf hl)

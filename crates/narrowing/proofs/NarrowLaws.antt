@@ -186,19 +186,27 @@ module _ (s : Sheet) (first last plan : List ℕ) (table : List ℤ) (w : ℕ) (
     admitted-late-of j l =
         let i = seated j l in
         let o = window j l in
-        let a = plan-admits-late seat s (entry w table) (into w m) (h .solved) arcs-of j (omega (arith, count)) (mirrored (top s) (entry w table)) (mirrored (top s) (into w m))
-        (λ a b ha hb. refl) (λ a b ha hb. refl) (take n plan) (h .lawfully) (getD plan j 0) (omega (arith, i, ap (λ (x : Window). x .first) o)) (omega (arith, slot-at j l)) in
+        let a = plan-admits-late seat s (entry w table) (into w m) (h .solved) arcs-of j (omega (arith, count)) (mirrored (top s) (entry w table))
+        (mirrored (top s) (into w m))
+        (λ a b ha hb. refl) (λ a b ha hb. refl) (take n plan) (h .lawfully) (getD plan j 0) (omega (arith, i, ap (λ (x : Window). x .first) o))
+        (omega (arith, slot-at j l)) in
         subst (λ (t : ℕ). Admits t (mirrored t (entry w table)) (mirrored t (into w m)) (w - getD last j 0) (w - getD plan j 0) (w - getD first j 0)) tops
-        (subst (λ (k : ℕ). Admits (top s) (mirrored (top s) (entry w table)) (mirrored (top s) (into w m)) (k - getD last j 0) (k - getD plan j 0) (k - getD first j 0)) (sym (h .boundaries))
-        (subst (λ (x : Window). Admits (top s) (mirrored (top s) (entry w table)) (mirrored (top s) (into w m)) (suc (top s) - x .last) (suc (top s) - getD plan j 0) (suc (top s) - x .first)) o a))
+        (subst (λ (k : ℕ). Admits (top s) (mirrored (top s) (entry w table)) (mirrored (top s) (into w m)) (k - getD last j 0) (k - getD plan j 0)
+        (k - getD first j 0)) (sym (h .boundaries))
+        (subst (λ (x : Window). Admits (top s) (mirrored (top s) (entry w table)) (mirrored (top s) (into w m)) (suc (top s) - x .last)
+        (suc (top s) - getD plan j 0) (suc (top s) - x .first)) o a))
 
     latest-at : (out out′ : List ℕ) → GreatestCuts w table m first last out out′ → (j : ℕ) → j < n → getD out′ j 0 ≡ latest s j
     latest-at out out′ c j l =
         let o = window j l in
-        let g = subst (λ (x : Window). LeastCut (top s) (mirrored (top s) (entry w table)) (mirrored (top s) (into w m)) (suc (top s) - x .last) (suc (top s) - x .first) (w - getD out′ j 0)) (sym o)
-        (subst (λ (k : ℕ). LeastCut (top s) (mirrored (top s) (entry w table)) (mirrored (top s) (into w m)) (k - getD last j 0) (k - getD first j 0) (w - getD out′ j 0)) (h .boundaries)
-        (subst (λ (t : ℕ). LeastCut t (mirrored t (entry w table)) (mirrored t (into w m)) (w - getD last j 0) (w - getD first j 0) (w - getD out′ j 0)) (sym tops) (c .each j l))) in
-        let e = latest-is seat s (entry w table) (into w m) (h .solved) arcs-of j (omega (arith, count)) (mirrored (top s) (entry w table)) (mirrored (top s) (into w m))
+        let g = subst (λ (x : Window). LeastCut (top s) (mirrored (top s) (entry w table)) (mirrored (top s) (into w m)) (suc (top s) - x .last)
+        (suc (top s) - x .first) (w - getD out′ j 0)) (sym o)
+        (subst (λ (k : ℕ). LeastCut (top s) (mirrored (top s) (entry w table)) (mirrored (top s) (into w m)) (k - getD last j 0) (k - getD first j 0)
+        (w - getD out′ j 0)) (h .boundaries)
+        (subst (λ (t : ℕ). LeastCut t (mirrored t (entry w table)) (mirrored t (into w m)) (w - getD last j 0) (w - getD first j 0) (w - getD out′ j 0))
+        (sym tops) (c .each j l))) in
+        let e = latest-is seat s (entry w table) (into w m) (h .solved) arcs-of j (omega (arith, count)) (mirrored (top s) (entry w table))
+        (mirrored (top s) (into w m))
         (λ a b ha hb. refl) (λ a b ha hb. refl) (take n plan) (h .lawfully) (w - getD out′ j 0) g in
         omega (arith, e, c .each j l .inside, windows j l, h .boundaries)
 

@@ -59,7 +59,8 @@ module _ (w : ℕ) (first last plan : List ℕ) (units : Units w first last plan
     seatsLong = front-length n (length (take n plan)) (λ j. w - getD (take n plan) j 0) s₀ s plan-length hs fs;
     opensAt = front-at n (length last) (λ j. w - getD last j 0) o₀ o (units .lasts) fo;
     closesAt = front-at n n (λ j. w - getD first j 0) c₀ c refl fc;
-    seatsAt = λ j h. front-at n (length (take n plan)) (λ j. w - getD (take n plan) j 0) s₀ s plan-length fs j h ∙ ap (λ (x : ℕ). w - x) (getD-take n plan j 0 h);
+    seatsAt = λ j h. front-at n (length (take n plan)) (λ j. w - getD (take n plan) j 0) s₀ s plan-length fs j h ∙ ap (λ (x : ℕ). w - x)
+        (getD-take n plan j 0 h);
   }
 
   module _ (opens closes seats : List ℕ) (t : Turned opens closes seats) where
@@ -148,7 +149,8 @@ module _ (w : ℕ) (d m d′ m′ r q : List ℤ) (net : Network w d m) (size : 
     size = size;
     sizeArcs = sizeArcs;
     closed = closed-mirrored (w - 1) (entry w d) (entry w d′) table-mirrored (net .closed);
-    small = λ a b ha hb. subst (Within 301) (sym (arcs-mirrored b a (omega arith) (omega arith))) (net .small (w - 1 - b) (w - 1 - a) (omega arith) (omega arith));
+    small = λ a b ha hb. subst (Within 301) (sym (arcs-mirrored b a (omega arith) (omega arith)))
+        (net .small (w - 1 - b) (w - 1 - a) (omega arith) (omega arith));
   }
 
   module _ (first last plan : List ℕ) (units : Units w first last plan) where

@@ -11,6 +11,7 @@ use Rattle.cuts.specs.Cut.{Admits, LeastCut}
 use Rattle.narrowing.specs.CutSheet.{mirrored}
 use Rattle.cuts.specs.Carry.{into, AdmitsAt, Barred, LeastCutAt}
 
+-- what stands for the window f..l
 abbrev pub slot : ℕ → List ℕ → ℕ → ℕ → ℕ
 slot w marks f l = getD marks (f * w + l) 0
 

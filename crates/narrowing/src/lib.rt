@@ -12,8 +12,12 @@ ghost use Rattle.sheet.specs.LimitTable.{WindowsFit, insideWeights};
 ghost use Rattle.sheet.specs.Limits.{maxUnits};
 ghost use Rattle.cuts.specs.Carry.{Network};
 ghost use Rattle.narrowing.specs.CutSheet.{mirrored, oneLess, ModestTable};
-ghost use Rattle.narrowing.specs.Windows.{slot, Units, Marked, KnownRow, CutRow, Floor, KnownCuts, CutRows, Admitted, LeastCuts, AdmittedTurned, LeastCutsTurned, AdmittedLate, GreatestCuts};
+ghost use Rattle.narrowing.specs.Windows.{slot, Units, Marked, KnownRow, CutRow, Floor, KnownCuts, CutRows};
+ghost use Rattle.narrowing.specs.Windows.{Admitted, LeastCuts, AdmittedTurned, LeastCutsTurned, AdmittedLate, GreatestCuts};
 ghost use Rattle.narrowing.specs.Narrowing.{Narrowable, earliestRoom, latestRoom};
+
+// The entries of the largest table.
+const ENTRIES: usize = sheet::Sheet::MAX_BOUNDARIES * sheet::Sheet::MAX_BOUNDARIES;
 
 // Row a of the table seen from its end.
 fn mirror_row(t: &[i16], w: usize, a: usize, row: &mut [i16])
@@ -26,6 +30,7 @@ fn mirror_row(t: &[i16], w: usize, a: usize, row: &mut [i16])
     }
 }
 
+// The whole table seen from its end.
 fn mirror(t: &[i16], w: usize, out: &mut [i16])
     requires { ⌜ (w * w ≤ length (now t)) × (w * w ≤ length (now out)) ⌝ }
     ensures { λ _. ⌜ now (out .exit) ≡ tableOf w (mirrored (w - 1) (entry w (now (t .entry)))) ++ drop (w * w) (now (out .entry)) ⌝ }
@@ -47,6 +52,7 @@ fn arcs_row(inside: &[i16], w: usize, b: usize, row: &mut [i16])
     }
 }
 
+// The arcs into every boundary.
 fn arcs(inside: &[i16], w: usize, out: &mut [i16])
     requires { ⌜ (w * w ≤ length (now inside)) × (w * w ≤ length (now out)) × ModestTable w (now inside) ⌝ }
     ensures { λ _. ⌜ now (out .exit) ≡ tableOf w (oneLess (entry w (now (inside .entry)))) ++ drop (w * w) (now (out .entry)) ⌝ }
@@ -58,6 +64,7 @@ fn arcs(inside: &[i16], w: usize, out: &mut [i16])
     }
 }
 
+// The larger of a floor that is known and one that is kept in a list.
 fn larger(a: usize, b: u16) -> usize
     ensures { λ r. ⌜ r ≡ max a b ⌝ }
 {
@@ -102,7 +109,8 @@ fn cut_row(d: &[i16], m: &[i16], w: usize, f: usize, row: &mut [u16], floor: &mu
 fn read_marks(first: &[u16], last: &[u16], w: usize, marks: &[u16], out: &mut [u16])
     requires { ⌜ (length (now last) ≡ length (now first)) × (length (now first) ≤ length (now out)) × (w * w ≤ length (now marks)) ⌝ }
     requires { ⌜ ((j : ℕ) → j < length (now first) → (getD (now first) j 0 < w) × (getD (now last) j 0 < w)) ⌝ }
-    ensures { λ _. ⌜ Filled (λ j. slot w (now (marks .entry)) (getD (now (first .entry)) j 0) (getD (now (last .entry)) j 0)) (length (now (first .entry))) (now (out .entry)) (now (out .exit)) ⌝ }
+    ensures { λ _. ⌜ Filled (λ j. slot w (now (marks .entry)) (getD (now (first .entry)) j 0) (getD (now (last .entry)) j 0))
+        (length (now (first .entry))) (now (out .entry)) (now (out .exit)) ⌝ }
 {
     for j in 0..first.len() {
         let f = first[j] as usize;
@@ -117,7 +125,7 @@ fn cut_windows(d: &[i16], m: &[i16], w: usize, marks: &mut [u16])
     requires { ⌜ Network w (now d) (now m) × (w * w ≤ length (now marks)) × KnownCuts w (now d) (now m) (now marks) ⌝ }
     ensures { λ _. ⌜ CutRows w (now (d .entry)) (now (m .entry)) w (now (marks .entry)) (now (marks .exit)) ⌝ }
 {
-    let mut floor = [0u16; 49];
+    let mut floor = [0u16; sheet::Sheet::MAX_BOUNDARIES];
     for f in 1..w {
         let from = f * w;
         let to = from + w;
@@ -150,7 +158,7 @@ fn least_cuts(
     requires { ⌜ Admitted w (now d) (now m) (now first) (now last) (now plan) ⌝ }
     ensures { λ _. ⌜ LeastCuts w (now (d .entry)) (now (m .entry)) (now (first .entry)) (now (last .entry)) (now (out .entry)) (now (out .exit)) ⌝ }
 {
-    let mut marks = [0u16; 2401];
+    let mut marks = [0u16; ENTRIES];
     mark(first, last, plan, w, &mut marks);
     cut_windows(d, m, w, &mut marks);
     read_marks(first, last, w, &marks, out);
@@ -171,13 +179,13 @@ fn least_cuts_turned(
     ensures { λ _. ⌜ LeastCutsTurned w (now (d .entry)) (now (m .entry)) (now (first .entry)) (now (last .entry)) (now (out .entry)) (now (out .exit)) ⌝ }
 {
     let n = first.len();
-    let mut opens = [0u16; 300];
+    let mut opens = [0u16; sheet::Sheet::MAX_UNITS];
     reflect(last, w, &mut opens);
-    let mut closes = [0u16; 300];
+    let mut closes = [0u16; sheet::Sheet::MAX_UNITS];
     reflect(first, w, &mut closes);
-    let mut seats = [0u16; 300];
+    let mut seats = [0u16; sheet::Sheet::MAX_UNITS];
     reflect(&plan[..n], w, &mut seats);
-    let mut cuts = [0u16; 300];
+    let mut cuts = [0u16; sheet::Sheet::MAX_UNITS];
     least_cuts(d, m, w, &opens[..n], &closes[..n], &seats[..n], &mut cuts);
     reflect(&cuts[..n], w, out);
 }
@@ -196,9 +204,9 @@ fn greatest_cuts(
     requires { ⌜ (length (now first) ≤ maxUnits) × AdmittedLate w (now d) (now m) (now first) (now last) (now plan) ⌝ }
     ensures { λ _. ⌜ GreatestCuts w (now (d .entry)) (now (m .entry)) (now (first .entry)) (now (last .entry)) (now (out .entry)) (now (out .exit)) ⌝ }
 {
-    let mut table = [0i16; 2401];
+    let mut table = [0i16; ENTRIES];
     mirror(d, w, &mut table);
-    let mut added = [0i16; 2401];
+    let mut added = [0i16; ENTRIES];
     mirror(m, w, &mut added);
     least_cuts_turned(&table, &added, w, first, last, plan, out);
 }
@@ -206,9 +214,10 @@ fn greatest_cuts(
 // The arcs that cuts may add, from the units' windows.
 fn cut_arcs(first: &[u16], last: &[u16], w: usize, out: &mut [i16])
     requires { ⌜ WindowsFit w (now first) (now last) × (w ≤ 49) × (w * w ≤ length (now out)) ⌝ }
-    ensures { λ _. ⌜ now (out .exit) ≡ tableOf w (oneLess (insideWeights (windowsOf (now (first .entry)) (now (last .entry))))) ++ drop (w * w) (now (out .entry)) ⌝ }
+    ensures { λ _. ⌜ now (out .exit) ≡ tableOf w (oneLess (insideWeights (windowsOf (now (first .entry)) (now (last .entry)))))
+        ++ drop (w * w) (now (out .entry)) ⌝ }
 {
-    let mut inside = [0i16; 2401];
+    let mut inside = [0i16; ENTRIES];
     windows_inside(first, last, w, &mut inside);
     arcs(&inside, w, out);
 }
@@ -225,10 +234,12 @@ pub fn narrow(
 )
     requires { ⌜ ((s : Sheet) × Narrowable s (now first) (now last) (now plan) (now table) w) ⌝ }
     requires rooms { ⌜ (length (now first) ≤ length (now earliest)) × (length (now first) ≤ length (now latest)) ⌝ }
-    ensures early { λ _. ⌜ ((s : Sheet) → Narrowable s (now (first .entry)) (now (last .entry)) (now (plan .entry)) (now (table .entry)) w → now (earliest .exit) ≡ earliestRoom s (now (earliest .entry))) ⌝ }
-    ensures late { λ _. ⌜ ((s : Sheet) → Narrowable s (now (first .entry)) (now (last .entry)) (now (plan .entry)) (now (table .entry)) w → now (latest .exit) ≡ latestRoom s (now (latest .entry))) ⌝ }
+    ensures early { λ _. ⌜ ((s : Sheet) → Narrowable s (now (first .entry)) (now (last .entry)) (now (plan .entry)) (now (table .entry)) w
+        → now (earliest .exit) ≡ earliestRoom s (now (earliest .entry))) ⌝ }
+    ensures late { λ _. ⌜ ((s : Sheet) → Narrowable s (now (first .entry)) (now (last .entry)) (now (plan .entry)) (now (table .entry)) w
+        → now (latest .exit) ≡ latestRoom s (now (latest .entry))) ⌝ }
 {
-    let mut added = [0i16; 2401];
+    let mut added = [0i16; ENTRIES];
     cut_arcs(first, last, w, &mut added);
     least_cuts(table, &added, w, first, last, plan, earliest);
     greatest_cuts(table, &added, w, first, last, plan, latest);

@@ -44,8 +44,12 @@ carry-requires c κs =
     let st = c .before .before in
     let a = st .args in
     let n = row-inside (a .f - 1) (a .w) (omega (arith, st .pre .1)) in
-    let p = part-length ((a .f - 1) * a .w) ((a .f - 1) * a .w + a .w) (a .d .now) (omega arith) (omega (arith, st .pre .0 .size)) in
-    (omega (arith, st .pre .0 .most), row-modest (a .w) (a .f) (a .v) (a .l) (a .d .now) (a .m .now) (st .pre .0) (st .pre .1) (a .f - 1) (omega (arith, st .pre .1)), omega arith)
+    let p = part-length ((a .f - 1) * a .w) ((a .f - 1) * a .w + a .w) (a .d .now) (omega arith) (omega (arith, st .pre .0 .size)) in (
+      omega (arith, st .pre .0 .most),
+      row-modest (a .w) (a .f) (a .v) (a .l) (a .d .now) (a .m .now) (st .pre .0) (st .pre .1) (a .f - 1)
+          (omega (arith, st .pre .1)),
+      omega arith,
+    )
 
 loop-holds : tie.Need-loop-holds Inv-loop μ-loop
 loop-holds c =
@@ -103,8 +107,11 @@ loop-again c =
     let s = c .before .before .before in
     let l = s .before .before .loop in
     let a = s .before .before .before .before .before .before .before .args in
-    let z′ = s .sweep .last .1 .1 .1 .1 .1 .1 .0 in
-    (s .sweep .kept .1 .1 .1 .1 .1 .1 .0 ∙ l .inv .0, subst (Settling (a .w) (a .d .now) (a .m .now) (a .f) (a .v) (a .l) 0 (a .f) (l .z) z′) (c .enum-told3 .given .1) (s .sweep .ensures) .0)
+    let z′ = s .sweep .last .1 .1 .1 .1 .1 .1 .0 in (
+      s .sweep .kept .1 .1 .1 .1 .1 .1 .0 ∙ l .inv .0,
+      subst (Settling (a .w) (a .d .now) (a .m .now) (a .f) (a .v) (a .l) 0 (a .f) (l .z) z′)
+          (c .enum-told3 .given .1) (s .sweep .ensures) .0,
+    )
 
 pub admits-spec : {M : Type 1} → statement M
 admits-spec =

@@ -77,8 +77,11 @@ loop-again c =
     let x = getD (a .inside .now) i (pos 0) in
     let f : SFits w16 x = search needs in
     let n = row-inside (l .a) (a .w) (omega arith) in
-    let g = one-less-fits x (st .pre .3 (l .a) (a .b) (omega arith) (st .pre .0)) in
-    (omega arith, simp (toZ-ofZ f, toZ-ofZ g) (filled-store (oneLess (entry (a .w) (a .inside .now)) (a .b)) (l .a) (a .row .now) (l .row) (l .inv .1) (x +ℤ negsuc 0) (omega arith) refl))
+    let g = one-less-fits x (st .pre .3 (l .a) (a .b) (omega arith) (st .pre .0)) in (
+      omega arith,
+      simp (toZ-ofZ f, toZ-ofZ g) (filled-store (oneLess (entry (a .w) (a .inside .now)) (a .b)) (l .a) (a .row .now) (l .row) (l .inv .1)
+          (x +ℤ negsuc 0) (omega arith) refl),
+    )
 
 same-length : tie.Need-same-length Inv-loop μ-loop
 same-length c =

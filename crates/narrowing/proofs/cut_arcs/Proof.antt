@@ -29,7 +29,8 @@ arcs-requires c κs =
     let k = windowsOf-length (a .first .now) (a .last .now) (st .pre .0 .paired) in (
       omega (arith, square-most (a .w) (st .pre .1)),
       st .pre .2,
-      inside-modest (a .w) (windowsOf (a .first .now) (a .last .now)) (i .last .1 .1 .1 .0) (drop (a .w * a .w) (replicate 2401 (pos 0))) (omega (arith, st .pre .0 .few)) (i .ensures),
+      inside-modest (a .w) (windowsOf (a .first .now) (a .last .now)) (i .last .1 .1 .1 .0) (drop (a .w * a .w) (replicate 2401 (pos 0)))
+          (omega (arith, st .pre .0 .few)) (i .ensures),
     )
 
 same-length : tie.Need-same-length

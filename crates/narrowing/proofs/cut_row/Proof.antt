@@ -16,8 +16,11 @@ abbrev μ-loop : tie.MeasureT-loop
 loop-holds : tie.Need-loop-holds Inv-loop μ-loop
 loop-holds c =
     let st = c .before .before in
-    let a = st .args in
-    (cutting-none (a .w) (a .d .now) (a .m .now) (a .f) (a .row .now) (a .floor .now) (st .pre .0 .3) (st .pre .0 .4) (st .pre .0 .2) (st .pre .1 .0) (st .pre .1 .1), refl)
+    let a = st .args in (
+      cutting-none (a .w) (a .d .now) (a .m .now) (a .f) (a .row .now) (a .floor .now) (st .pre .0 .3) (st .pre .0 .4) (st .pre .0 .2) (st .pre .1 .0)
+          (st .pre .1 .1),
+      refl,
+    )
 
 mul-larger : tie.Need-mul-larger Inv-loop μ-loop
 mul-larger c = omega (arith, c .loop-test .taken, c .before .before .before .before .pre .0 .0 .most)
@@ -58,22 +61,35 @@ cast-row c =
     omega (arith, c .least-cut .ensures .inside, c .before .before .before .before .before .loop-test .taken, at .before .before .before .pre .0 .0 .most)
 
 mul-row : tie.Need-mul-row Inv-loop μ-loop
-mul-row c = omega (arith, c .before .before .before .before .before .loop-test .taken, c .before .before .before .before .before .before .before .before .before .pre .0 .0 .most)
+mul-row c = omega (
+  arith,
+  c .before .before .before .before .before .loop-test .taken,
+  c .before .before .before .before .before .before .before .before
+      .before .pre .0 .0 .most,
+)
 
 slice-write-row : tie.Need-slice-write-row Inv-loop μ-loop
-slice-write-row c = omega (arith, c .before .before .before .before .before .loop-test .taken, c .before .before .before .before .before .before .loop .inv .0 .long)
+slice-write-row c = omega (
+  arith,
+  c .before .before .before .before .before .loop-test .taken,
+  c .before .before .before .before .before .before .loop .inv
+      .0 .long,
+)
 
 -- the window that closes in l is done, marked or not
-moved : (c : tie.Joined1 Inv-loop μ-loop) → let a = c .before .before .before .before .before .before .before .before .args in let l = c .before .before .before .before .before .loop in
+moved : (c : tie.Joined1 Inv-loop μ-loop) → let a = c .before .before .before .before .before .before .before .before .args in let l = c .before .before
+    .before .before .before .loop in
     Cutting (a .w) (a .d .now) (a .m .now) (a .f) (a .row .now) (c .if1 .row) (set (l .floor) (l .l) (c .if1 .low)) (c .if1 .low) (l .l + 1)
 moved c =
     let at = c .before .before .before .before .before in
     let a = at .before .before .before .args in
     let l = at .loop in
     let h = c .before .before .before .before .loop-test .taken in
-    ⊎-elim (λ w. rw (w .2, w .3) (cutting-mark (a .w) (a .d .now) (a .m .now) (a .f) (a .row .now) (l .row) (l .floor) (l .low) (l .l) (l .inv .0) h (w .1 .result) (w .0 .taken) (w .1 .ensures)))
+    ⊎-elim (λ w. rw (w .2, w .3) (cutting-mark (a .w) (a .d .now) (a .m .now) (a .f) (a .row .now) (l .row) (l .floor) (l .low) (l .l) (l .inv .0) h
+    (w .1 .result) (w .0 .taken) (w .1 .ensures)))
     (λ w. let e = c .before .before .larger .ensures in
-    rw (w .1, w .2, e) (cutting-skip (a .w) (a .d .now) (a .m .now) (a .f) (a .row .now) (l .row) (l .floor) (l .low) (l .l) (l .inv .0) h (omega (arith, w .0 .left))))
+    rw (w .1, w .2, e) (cutting-skip (a .w) (a .d .now) (a .m .now) (a .f) (a .row .now) (l .row) (l .floor) (l .low) (l .l) (l .inv .0) h
+    (omega (arith, w .0 .left))))
     (c .if1 .came)
 
 cast-floor : tie.Need-cast-floor Inv-loop μ-loop
@@ -82,13 +98,28 @@ cast-floor c =
     omega (arith, moved (c .before) .level, c .before .before .before .before .before .loop-test .taken, at .before .before .before .pre .0 .0 .most)
 
 mul-floor : tie.Need-mul-floor Inv-loop μ-loop
-mul-floor c = omega (arith, c .before .before .before .before .before .loop-test .taken, c .before .before .before .before .before .before .before .before .before .pre .0 .0 .most)
+mul-floor c = omega (
+  arith,
+  c .before .before .before .before .before .loop-test .taken,
+  c .before .before .before .before .before .before .before .before
+      .before .pre .0 .0 .most,
+)
 
 slice-write-floor : tie.Need-slice-write-floor Inv-loop μ-loop
-slice-write-floor c = omega (arith, c .before .before .before .before .before .loop-test .taken, c .before .before .before .before .before .before .loop .inv .0 .wide)
+slice-write-floor c = omega (
+  arith,
+  c .before .before .before .before .before .loop-test .taken,
+  c .before .before .before .before .before .before .loop
+      .inv .0 .wide,
+)
 
 add-l : tie.Need-add-l Inv-loop μ-loop
-add-l c = omega (arith, c .before .before .before .before .before .loop-test .taken, c .before .before .before .before .before .before .before .before .before .pre .0 .0 .most)
+add-l c = omega (
+  arith,
+  c .before .before .before .before .before .loop-test .taken,
+  c .before .before .before .before .before .before .before .before
+      .before .pre .0 .0 .most,
+)
 
 loop-less : tie.Need-loop-less Inv-loop μ-loop
 loop-less c = omega (arith, c .before .before .before .before .before .loop-test .taken)

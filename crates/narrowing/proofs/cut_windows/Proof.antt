@@ -72,7 +72,8 @@ cut-row-requires c κs =
     )
 
 add-f : tie.Need-add-f Inv-loop μ-loop
-add-f c = let at = c .before .before .before .before .before .before .before in omega (arith, c .before .before .before .before .before .before .loop-test .taken, at .before .before .pre .0 .most)
+add-f c = let at = c .before .before .before .before .before .before .before in omega
+    (arith, c .before .before .before .before .before .before .loop-test .taken, at .before .before .pre .0 .most)
 
 loop-less : tie.Need-loop-less Inv-loop μ-loop
 loop-less c = omega (arith, c .before .before .before .before .before .before .loop-test .taken)
@@ -89,7 +90,8 @@ loop-again c =
     let e : k ≡ a .w = omega arith in
     let n = row-length (a .w) (a .d .now) (a .m .now) (a .marks .now) (st .pre .1) (st .pre .2) (l .marks) (l .floor) (l .f) k (l .inv) h e in
     windows-more (a .w) (a .d .now) (a .m .now) (a .marks .now) (st .pre .1) (st .pre .2) (l .marks) (l .floor) (l .f) k (l .inv) h e
-    (r .last .1 .1 .1 .1 .0) (r .last .1 .1 .1 .1 .1 .0) (r .kept .1 .1 .1 .1 .0 ∙ n ∙ sym e) (r .kept .1 .1 .1 .1 .1 .0 ∙ l .inv .wide) (r .ensures .0) (r .ensures .1)
+    (r .last .1 .1 .1 .1 .0) (r .last .1 .1 .1 .1 .1 .0) (r .kept .1 .1 .1 .1 .0 ∙ n ∙ sym e) (r .kept .1 .1 .1 .1 .1 .0 ∙ l .inv .wide) (r .ensures .0)
+    (r .ensures .1)
 
 same-length : tie.Need-same-length Inv-loop μ-loop
 same-length c = c .before .loop .inv .long

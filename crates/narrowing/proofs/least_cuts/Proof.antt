@@ -27,7 +27,8 @@ cut-windows-requires c κs =
     let n : length (mk .mark .last .1 .1 .1 .1 .0) ≡ 2401 = mk .mark .kept .1 .1 .1 .1 .0 in (
       st .pre .0 .0,
       omega (arith, square-most (a .w) (st .pre .0 .0 .most)),
-      marks-known (a .w) (a .first .now) (a .last .now) (a .plan .now) (st .pre .0 .1) (a .d .now) (a .m .now) (st .pre .1) (mk .mark .last .1 .1 .1 .1 .0) (mk .mark .ensures),
+      marks-known (a .w) (a .first .now) (a .last .now) (a .plan .now) (st .pre .0 .1) (a .d .now) (a .m .now) (st .pre .1) (mk .mark .last .1 .1 .1 .1 .0)
+          (mk .mark .ensures),
     )
 
 slice-aggregate-read-marks : tie.Need-slice-aggregate-read-marks
@@ -54,8 +55,10 @@ returns c =
     let mk = cut .before .before .before in
     let st = mk .before .before .before .before .before .before in
     let a = st .args in
-    cuts-least (a .w) (a .first .now) (a .last .now) (a .plan .now) (st .pre .0 .1) (a .d .now) (a .m .now) (st .pre .1) (mk .mark .last .1 .1 .1 .1 .0) (mk .mark .ensures)
-    (cut .cut-windows .last .1 .1 .1 .0) (a .out .now) (rd .read-marks .last .1 .1 .1 .1 .0) (st .pre .0 .2) (cut .cut-windows .ensures) (rd .read-marks .ensures)
+    cuts-least (a .w) (a .first .now) (a .last .now) (a .plan .now) (st .pre .0 .1) (a .d .now) (a .m .now) (st .pre .1) (mk .mark .last .1 .1 .1 .1 .0)
+    (mk .mark .ensures)
+    (cut .cut-windows .last .1 .1 .1 .0) (a .out .now) (rd .read-marks .last .1 .1 .1 .1 .0) (st .pre .0 .2) (cut .cut-windows .ensures)
+    (rd .read-marks .ensures)
 
 pub least-cuts-spec : {M : Type 1} → statement M
 least-cuts-spec =

@@ -8,7 +8,8 @@ use Rattle.narrowing.proofs.mark.Statement.{statement}
 use Rattle.narrowing.proofs.mark.Tie as tie
 
 abbrev Inv-loop : tie.InvT-loop
-Inv-loop first last plan w marks₀ j₀ j-end marks j = (j ≤ length first) × (j-end ≡ length first) × (length marks ≡ length marks₀) × Marked j w first last plan marks
+Inv-loop first last plan w marks₀ j₀ j-end marks j = (j ≤ length first) × (j-end ≡ length first) × (length marks ≡ length marks₀) × Marked j w first last
+    plan marks
 
 abbrev μ-loop : tie.MeasureT-loop
 μ-loop first last plan w marks₀ j₀ j-end marks j = length first - j
@@ -57,13 +58,23 @@ mul-marks-2 : tie.Need-mul-marks-2 Inv-loop μ-loop
 mul-marks-2 c =
     let st = c .before .before .before .before .before in
     let a = st .args in
-    omega (arith, place-inside (a .w) (a .first .now) (a .last .now) (a .plan .now) (st .pre .0) (c .before .before .before .before .loop .j) (omega arith), st .pre .1, c .before .before .before .before .loop .inv .2)
+    omega (
+      arith,
+      place-inside (a .w) (a .first .now) (a .last .now) (a .plan .now) (st .pre .0) (c .before .before .before .before .loop .j) (omega arith),
+      st .pre .1,
+      c .before .before .before .before .loop .inv .2,
+    )
 
 slice-write-marks : tie.Need-slice-write-marks Inv-loop μ-loop
 slice-write-marks c =
     let st = c .before .before .before .before .before in
     let a = st .args in
-    omega (arith, place-inside (a .w) (a .first .now) (a .last .now) (a .plan .now) (st .pre .0) (c .before .before .before .before .loop .j) (omega arith), st .pre .1, c .before .before .before .before .loop .inv .2)
+    omega (
+      arith,
+      place-inside (a .w) (a .first .now) (a .last .now) (a .plan .now) (st .pre .0) (c .before .before .before .before .loop .j) (omega arith),
+      st .pre .1,
+      c .before .before .before .before .loop .inv .2,
+    )
 
 add-j : tie.Need-add-j Inv-loop μ-loop
 add-j c = omega arith
@@ -75,8 +86,13 @@ loop-again : tie.Need-loop-again Inv-loop μ-loop
 loop-again c =
     let st = c .before .before .before .before .before in
     let a = st .args in
-    let l = c .before .before .before .before .loop in
-    (omega arith, refl, length-set (l .marks) _ _ ∙ l .inv .2, marked-more (a .w) (a .first .now) (a .last .now) (a .plan .now) (st .pre .0) (l .j) (l .marks) (omega arith) (omega (arith, st .pre .1, l .inv .2)) (l .inv .3))
+    let l = c .before .before .before .before .loop in (
+      omega arith,
+      refl,
+      length-set (l .marks) _ _ ∙ l .inv .2,
+      marked-more (a .w) (a .first .now) (a .last .now) (a .plan .now) (st .pre .0) (l .j)
+          (l .marks) (omega arith) (omega (arith, st .pre .1, l .inv .2)) (l .inv .3),
+    )
 
 same-length : tie.Need-same-length Inv-loop μ-loop
 same-length c = c .before .loop .inv .2

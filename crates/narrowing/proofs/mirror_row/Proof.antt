@@ -78,8 +78,12 @@ loop-again c =
     let l = c .before .before .loop in
     let t = a .t .now in
     let i = (a .w - 1 - l .b) * a .w + (a .w - 1 - a .a) in
-    let f : SFits w16 (getD t i (pos 0)) = search needs in
-    (omega arith, refl, simp (toZ-ofZ f) (filled-store (mirrored (a .w - 1) (entry (a .w) t) (a .a)) (l .b) (a .row .now) (l .row) (l .inv .2) (getD t i (pos 0)) (omega arith) refl))
+    let f : SFits w16 (getD t i (pos 0)) = search needs in (
+      omega arith,
+      refl,
+      simp (toZ-ofZ f) (filled-store (mirrored (a .w - 1) (entry (a .w) t) (a .a)) (l .b) (a .row .now) (l .row) (l .inv .2)
+          (getD t i (pos 0)) (omega arith) refl),
+    )
 
 same-length : tie.Need-same-length Inv-loop μ-loop
 same-length c =

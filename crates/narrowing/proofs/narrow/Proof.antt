@@ -1,13 +1,53 @@
-use Rattle.narrowing.proofs.NarrowLaws.{windows-fit, units-of, network-of, admitted-of, admitted-late-of, earliest-room, latest-room}
-use Rattle.narrowing.proofs.MarkLaws.{square-most}
-use lib.IntN.{pos}
-use lib.ListN.{length, drop, replicate}
 use mathlib.Core.Path.{_≡_}
-use Prim.Native.Nat.{_≤_, _-_, _*_}
+use mathlib.Core.List.{List}
+use Prim.Native.Nat.{_*_, _≤_}
 use native.Mathlib.Omega.{arith}
 use borrow.Author.Needs.{needs}
+use lib.ListN.{length, drop, replicate}
+use lib.IntN.{ℤ, pos}
+use Rattle.cuts.specs.Carry.{Network}
+use Rattle.narrowing.specs.Windows.{Admitted, AdmittedLate}
+use Rattle.narrowing.proofs.MarkLaws.{square-most}
+use Rattle.narrowing.proofs.NarrowLaws.{windows-fit, units-of, network-of, admitted-of, admitted-late-of, earliest-room, latest-room}
 use Rattle.narrowing.proofs.narrow.Statement.{statement}
 use Rattle.narrowing.proofs.narrow.Tie as tie
+
+-- ---- the network of the sheet that the caller has, with the arcs
+abbrev start : tie.After-cut-arcs → tie.Start
+start c = c .before .before .before .before .before .before .before
+
+abbrev added : tie.After-cut-arcs → List ℤ
+added c = c .cut-arcs .last .1 .1 .1 .0
+
+abbrev zeros : tie.After-cut-arcs → List ℤ
+zeros c = let w = start c .args .w in drop (w * w) (replicate 2401 (pos 0))
+
+long : (c : tie.After-cut-arcs) → let w = start c .args .w in w * w ≤ length (added c)
+long c =
+    let st = start c in
+    let n : length (added c) ≡ 2401 = c .cut-arcs .kept .1 .1 .1 .0 in
+    omega (arith, square-most (st .args .w) (st .pre .0 .1 .most))
+
+network : (c : tie.After-cut-arcs) → let a = start c .args in Network (a .w) (a .table .now) (added c)
+network c =
+    let st = start c in
+    let a = st .args in
+    network-of (st .pre .0 .0) (a .first .now) (a .last .now) (a .plan .now) (a .table .now) (a .w) (st .pre .0 .1) (added c) (zeros c) (long c)
+    (c .cut-arcs .ensures)
+
+early : (c : tie.After-cut-arcs) → let a = start c .args in Admitted (a .w) (a .table .now) (added c) (a .first .now) (a .last .now) (a .plan .now)
+early c =
+    let st = start c in
+    let a = st .args in
+    admitted-of (st .pre .0 .0) (a .first .now) (a .last .now) (a .plan .now) (a .table .now) (a .w) (st .pre .0 .1) (added c) (zeros c) (long c)
+    (c .cut-arcs .ensures)
+
+late : (c : tie.After-cut-arcs) → let a = start c .args in AdmittedLate (a .w) (a .table .now) (added c) (a .first .now) (a .last .now) (a .plan .now)
+late c =
+    let st = start c in
+    let a = st .args in
+    admitted-late-of (st .pre .0 .0) (a .first .now) (a .last .now) (a .plan .now) (a .table .now) (a .w) (st .pre .0 .1) (added c) (zeros c) (long c)
+    (c .cut-arcs .ensures)
 
 slice-aggregate-cut-arcs : tie.Need-slice-aggregate-cut-arcs
 slice-aggregate-cut-arcs c = search needs
@@ -16,43 +56,30 @@ cut-arcs-requires : tie.Need-cut-arcs-requires
 cut-arcs-requires c κs =
     let st = c .before .before .before .before .before .before in
     let a = st .args in
-    let s = st .pre .0 .0 in
     let h = st .pre .0 .1 in
-    (windows-fit s (a .first .now) (a .last .now) (a .plan .now) (a .table .now) (a .w) h, h .most, square-most (a .w) (h .most))
+    (windows-fit (st .pre .0 .0) (a .first .now) (a .last .now) (a .plan .now) (a .table .now) (a .w) h, h .most, square-most (a .w) (h .most))
 
 slice-aggregate-least-cuts : tie.Need-slice-aggregate-least-cuts
 slice-aggregate-least-cuts c = search needs
 
 least-cuts-requires : tie.Need-least-cuts-requires
 least-cuts-requires c κs =
-    let st = c .before .before .before .before .before .before .before .before .before .before in
+    let r = c .before .before .before in
+    let st = start r in
     let a = st .args in
-    let s = st .pre .0 .0 in
-    let h = st .pre .0 .1 in
-    let m = c .before .before .before .cut-arcs .last .1 .1 .1 .0 in
-    let r = drop (a .w * a .w) (replicate 2401 (pos 0)) in
-    let n : length m ≡ 2401 = c .before .before .before .cut-arcs .kept .1 .1 .1 .0 in
-    let size = square-most (a .w) (h .most) in
-    let long : a .w * a .w ≤ length m = omega arith in
-    let e = c .before .before .before .cut-arcs .ensures in
-    ((network-of s (a .first .now) (a .last .now) (a .plan .now) (a .table .now) (a .w) h m r long e, units-of s (a .first .now) (a .last .now) (a .plan .now) (a .table .now) (a .w) h, st .pre .1 .0), admitted-of s (a .first .now) (a .last .now) (a .plan .now) (a .table .now) (a .w) h m r long e)
+    ((network r, units-of (st .pre .0 .0) (a .first .now) (a .last .now) (a .plan .now) (a .table .now) (a .w) (st .pre .0 .1), st .pre .1 .0), early r)
 
 slice-aggregate-greatest-cuts : tie.Need-slice-aggregate-greatest-cuts
 slice-aggregate-greatest-cuts c = search needs
 
 greatest-cuts-requires : tie.Need-greatest-cuts-requires
 greatest-cuts-requires c κs =
-    let st = c .before .before .before .before .before .before .before .before .before .before .before .before .before .before .before in
-    let a = st .args in
-    let s = st .pre .0 .0 in
-    let h = st .pre .0 .1 in
-    let m = c .before .before .before .before .before .before .before .before .cut-arcs .last .1 .1 .1 .0 in
-    let r = drop (a .w * a .w) (replicate 2401 (pos 0)) in
-    let n : length m ≡ 2401 = c .before .before .before .before .before .before .before .before .cut-arcs .kept .1 .1 .1 .0 in
-    let size = square-most (a .w) (h .most) in
-    let long : a .w * a .w ≤ length m = omega arith in
-    let e = c .before .before .before .before .before .before .before .before .cut-arcs .ensures in
-    ((network-of s (a .first .now) (a .last .now) (a .plan .now) (a .table .now) (a .w) h m r long e, units-of s (a .first .now) (a .last .now) (a .plan .now) (a .table .now) (a .w) h, st .pre .1 .1), (h .few, admitted-late-of s (a .first .now) (a .last .now) (a .plan .now) (a .table .now) (a .w) h m r long e))
+    let r = c .before .before .before .before .before .before .before .before in
+    let st = start r in
+    let a = st .args in (
+      (network r, units-of (st .pre .0 .0) (a .first .now) (a .last .now) (a .plan .now) (a .table .now) (a .w) (st .pre .0 .1), st .pre .1 .1),
+      (st .pre .0 .1 .few, late r),
+    )
 
 same-length : tie.Need-same-length
 same-length c = search needs
@@ -62,16 +89,15 @@ same-length-2 c = search needs
 
 returns : tie.Need-returns
 returns c =
-    let st = c .before .before .before .before .before .before .before .before .before .before .before .before .before .before .before .before .before .before in
+    let r = c .before .before .before .before .before .before .before .before .before .before .before in
+    let st = start r in
     let a = st .args in
-    let m = c .before .before .before .before .before .before .before .before .before .before .before .cut-arcs .last .1 .1 .1 .0 in
-    let r = drop (a .w * a .w) (replicate 2401 (pos 0)) in
-    let n : length m ≡ 2401 = c .before .before .before .before .before .before .before .before .before .before .before .cut-arcs .kept .1 .1 .1 .0 in
-    let size = square-most (a .w) (st .pre .0 .1 .most) in
-    let long : a .w * a .w ≤ length m = omega arith in
-    let e = c .before .before .before .before .before .before .before .before .before .before .before .cut-arcs .ensures in (
-      λ s′ h′. earliest-room s′ (a .first .now) (a .last .now) (a .plan .now) (a .table .now) (a .w) h′ m r long e (a .earliest .now) (c .before .before .before .before .before .before .before .least-cuts .last .1 .1 .1 .1 .1 .1 .0) (st .pre .1 .0) (c .before .before .before .before .before .before .before .least-cuts .ensures),
-      λ s′ h′. latest-room s′ (a .first .now) (a .last .now) (a .plan .now) (a .table .now) (a .w) h′ m r long e (a .latest .now) (c .before .before .greatest-cuts .last .1 .1 .1 .1 .1 .1 .0) (st .pre .1 .1) (c .before .before .greatest-cuts .ensures),
+    let e = c .before .before .before .before .before .before .before .least-cuts in
+    let l = c .before .before .greatest-cuts in (
+      λ s h. earliest-room s (a .first .now) (a .last .now) (a .plan .now) (a .table .now) (a .w) h (added r) (zeros r) (long r) (r .cut-arcs .ensures)
+          (a .earliest .now) (e .last .1 .1 .1 .1 .1 .1 .0) (st .pre .1 .0) (e .ensures),
+      λ s h. latest-room s (a .first .now) (a .last .now) (a .plan .now) (a .table .now) (a .w) h (added r) (zeros r) (long r) (r .cut-arcs .ensures)
+          (a .latest .now) (l .last .1 .1 .1 .1 .1 .1 .0) (st .pre .1 .1) (l .ensures),
     )
 
 pub narrow-spec : {M : Type 1} → statement M

@@ -9,7 +9,8 @@ use Rattle.narrowing.proofs.read_marks.Statement.{statement}
 use Rattle.narrowing.proofs.read_marks.Tie as tie
 
 abbrev Inv-loop : tie.InvT-loop
-Inv-loop first last w marks out₀ j₀ j-end out j = (j ≤ length first) × (j-end ≡ length first) × Filled (λ i. slot w marks (getD first i 0) (getD last i 0)) j out₀ out
+Inv-loop first last w marks out₀ j₀ j-end out j = (j ≤ length first) × (j-end ≡ length first) × Filled (λ i. slot w marks (getD first i 0) (getD last i 0))
+    j out₀ out
 
 abbrev μ-loop : tie.MeasureT-loop
 μ-loop first last w marks out₀ j₀ j-end out j = length first - j
@@ -75,7 +76,12 @@ slice-write-out c =
     let st = c .before .before .before .before .before in
     let a = st .args in
     let l = c .before .before .before .before .loop in
-    omega (arith, filled-length (λ i. slot (a .w) (a .marks .now) (getD (a .first .now) i 0) (getD (a .last .now) i 0)) (l .j) (a .out .now) (l .out) (l .inv .2) (omega (arith, st .pre .0)), st .pre .0)
+    omega (
+      arith,
+      filled-length (λ i. slot (a .w) (a .marks .now) (getD (a .first .now) i 0) (getD (a .last .now) i 0)) (l .j) (a .out .now) (l .out)
+          (l .inv .2) (omega (arith, st .pre .0)),
+      st .pre .0,
+    )
 
 add-j : tie.Need-add-j Inv-loop μ-loop
 add-j c = omega arith
@@ -95,7 +101,8 @@ same-length : tie.Need-same-length Inv-loop μ-loop
 same-length c =
     let a = c .before .before .args in
     let l = c .before .loop in
-    filled-length (λ i. slot (a .w) (a .marks .now) (getD (a .first .now) i 0) (getD (a .last .now) i 0)) (l .j) (a .out .now) (l .out) (l .inv .2) (omega (arith, c .before .before .pre .0))
+    filled-length (λ i. slot (a .w) (a .marks .now) (getD (a .first .now) i 0) (getD (a .last .now) i 0)) (l .j) (a .out .now) (l .out) (l .inv .2)
+    (omega (arith, c .before .before .pre .0))
 
 returns : tie.Need-returns Inv-loop μ-loop
 returns c =

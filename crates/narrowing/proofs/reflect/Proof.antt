@@ -47,8 +47,13 @@ loop-again : tie.Need-loop-again Inv-loop μ-loop
 loop-again c =
     let st = c .before .before .before in
     let a = st .args in
-    let l = c .before .before .loop in
-    (omega arith, refl, refl, filled-store (λ i. a .w - getD (a .xs .now) i 0) (l .j) (a .out .now) (l .out) (l .inv .3) (a .w - getD (a .xs .now) (l .j) 0) (omega arith) refl)
+    let l = c .before .before .loop in (
+      omega arith,
+      refl,
+      refl,
+      filled-store (λ i. a .w - getD (a .xs .now) i 0) (l .j) (a .out .now) (l .out) (l .inv .3) (a .w - getD (a .xs .now) (l .j) 0)
+          (omega arith) refl,
+    )
 
 same-length : tie.Need-same-length Inv-loop μ-loop
 same-length c =
