@@ -43,7 +43,7 @@ pub enum Pair {
 }
 
 // The form reader over the bytes from a place to the next line feed or the text's end.
-fn scan(text: &[u8], at: usize, grid: &[[u8; 19]; 59], table: &[[u8; 16]; 16]) -> Scanned
+fn scan(text: &[u8], at: usize, grid: &[[u8; 19]; 59], table: &[u8; 256]) -> Scanned
     requires { ⌜ (at ≤ length (now text)) × Tables (now grid) (now table) ⌝ }
     ensures { λ r. ⌜ (r .end ≡ lineEnd (now (text .entry)) at) × (r .kind ≡ kindOf (firstLine (drop at (now (text .entry))))) ⌝ }
 {
@@ -224,7 +224,7 @@ fn read_line(s: &[u8], kind: Kind, ended: bool) -> Line
 }
 
 // The line that starts at a place of a text.
-pub fn line_at(text: &[u8], at: usize, grid: &[[u8; 19]; 59], table: &[[u8; 16]; 16]) -> Found
+pub fn line_at(text: &[u8], at: usize, grid: &[[u8; 19]; 59], table: &[u8; 256]) -> Found
     requires { ⌜ (at ≤ length (now text)) × Tables (now grid) (now table) ⌝ }
     ensures { λ r. ⌜ r .line ≡ lineOf (firstLine (drop at (now (text .entry)))) (hasFeed (drop at (now (text .entry)))) ⌝ }
     ensures { λ r. ⌜ r .next ≡ lineEnd (now (text .entry)) at + 1 ⌝ }

@@ -1,8 +1,8 @@
 -- The table of classes is right at every byte, by one computed test.
 use native.Mathlib.Omega.{arith}
-use Prim.Native.Nat.{ℕ, _<_, _/_, _%_}
+use Prim.Native.Nat.{ℕ, _<_}
 use mathlib.Core.Path.{_≡_, ap, _∙_}
-use mathlib.Core.List.{List, []}
+use mathlib.Core.List.{List}
 use lib.Dec.{eqb, eqb→eq}
 use lib.ListN.{getD}
 use borrow.Author.Needs.{needs}
@@ -11,30 +11,15 @@ use Rattle.form.specs.GridLaws.{below, class-small}
 use Rattle.form.proofs.class_of.Statement.{statement}
 use Rattle.form.proofs.class_of.Tie as tie
 
-abbrev entry : List (List ℕ) → ℕ → ℕ
-entry table b = getD (getD table (b / 16) []) (b % 16) 0
-
-right : (b : ℕ) → b < 256 → entry classes b ≡ classOf b
+right : (b : ℕ) → b < 256 → getD classes b 0 ≡ classOf b
 unfolding classes classOf place
-right b h = eqb→eq (entry classes b) (classOf b) (below 256 (λ k. eqb (entry classes k) (classOf k)) tt b h)
+right b h = eqb→eq (getD classes b 0) (classOf b) (below 256 (λ k. eqb (getD classes k 0) (classOf k)) tt b h)
 
-at : (table : List (List ℕ)) (b : ℕ) → table ≡ classes → b < 256 → entry table b ≡ classOf b
-at table b e h = ap (λ (k : List (List ℕ)). entry k b) e ∙ right b h
+at : (table : List ℕ) (b : ℕ) → table ≡ classes → b < 256 → getD table b 0 ≡ classOf b
+at table b e h = ap (λ (k : List ℕ). getD k b 0) e ∙ right b h
 
-cast-row : tie.Need-cast-row
-cast-row c = search needs
-
-cast-column : tie.Need-cast-column
-cast-column c = search needs
-
-mul-c : tie.Need-mul-c
-mul-c c = search needs
-
-index-1-c : tie.Need-index-1-c
-index-1-c c = search needs
-
-index-2-c : tie.Need-index-2-c
-index-2-c c = search needs
+element-copy-out-c : tie.Need-element-copy-out-c
+element-copy-out-c c = search needs
 
 cast-result : tie.Need-cast-result
 cast-result c =
@@ -48,4 +33,4 @@ returns c =
     (e, omega (arith, class-small (a .b)))
 
 pub class-of-spec : {M : Type 1} → statement M
-class-of-spec = tie.close (tie.spec cast-row cast-column mul-c index-1-c index-2-c cast-result returns)
+class-of-spec = tie.close (tie.spec element-copy-out-c cast-result returns)
