@@ -1,12 +1,11 @@
-//! Says whether there is a whole planner to measure.
+//! Says whether there is a page to print as well; `reference` makes sure of the reader and the planner.
 
 use std::env;
 
 fn main() {
     println!("cargo:rerun-if-changed=build.rs");
-    println!("cargo:rustc-check-cfg=cfg(has_planner)");
-    let linked = |name: &str| env::var_os(format!("DEP_TUGROKT_{name}")).is_some();
-    if linked("READER") && linked("PLANNER") && linked("PAGE") {
-        println!("cargo:rustc-cfg=has_planner");
+    println!("cargo:rustc-check-cfg=cfg(has_page)");
+    if env::var_os("DEP_TUGROKT_PAGE").is_some() {
+        println!("cargo:rustc-cfg=has_page");
     }
 }

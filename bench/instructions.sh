@@ -11,7 +11,7 @@ count() {
 }
 printf '%-14s %-6s %12s %12s %7s\n' instructions job planner plain ratio
 for name in ${@:-$("$bench" --list)}; do
-    for job in read plan whole; do
+    for job in $("$bench" --jobs); do
         for side in planner plain; do
             many=$(count "$name" $side $job 11)
             once=$(count "$name" $side $job 1)

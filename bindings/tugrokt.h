@@ -4,7 +4,8 @@
  * Any lists, any rooms and any numbers get an answer. The caller's one duty is that of every C function: each pointer has
  * as many places behind it as the length beside it says, and what is lent for writing overlaps nothing else.
  *
- * The reply is 0, or the number of the question that refused the call. A refused call changes no room.
+ * The reply is 0, or the number of the question that refused the call. A refused call changes no room. The numbers that a
+ * call gives beside its reply are always written, with 0 for what the reply does not have.
  * Link libreader.a, libplanner.a and libpage.a (rt staticlib NAME), whichever are called.
  */
 #ifndef TUGROKT_H
@@ -28,27 +29,29 @@ extern "C" {
 
 /*
  * Reads a sheet into six lists: each unit's window, first to last; each rule's stretch, from to to, and its count, low to
- * high. The span and the lengths of the lists stand in *span, *units and *rules. A refusal gives its line in *line.
+ * high. The span and the lengths of the lists stand in *span, *units and *rules, and 0 in *line. A refusal has its line in
+ * *line, and 0 in the other three.
  */
 size_t tugrokt_read(const uint8_t *text, size_t text_length,
                     uint16_t *first, size_t first_length, uint16_t *last, size_t last_length,
                     uint16_t *from, size_t from_length, uint16_t *to, size_t to_length,
                     uint16_t *low, size_t low_length, uint16_t *high, size_t high_length,
-                    size_t *span, size_t *units, size_t *rules, size_t *line);
+                    size_t *line, size_t *span, size_t *units, size_t *rules);
 
 /*
- * Plans from lists. With a plan, *ring_length is 0, plan has each unit's slot, earliest and latest its narrowed window, and
- * table, with w = span + 1 numbers a row, the greatest count of the slots a+1 to b at a*w + b, and minus the least at b*w + a.
- * With none, *ring_length boundaries stand in ring, whose steps' limits add up to less than 0.
+ * Plans from lists. With a plan, *length is 0, seats has each unit's slot, earliest and latest its narrowed window, and table,
+ * with w = span + 1 numbers a row, the greatest count of the slots a+1 to b at a*w + b, and minus the least at b*w + a.
+ * With none, *length boundaries stand in ring, whose steps' limits add up to less than 0, and the w*w places of table are 0.
+ * A refusal has *length 0.
  * Rooms needed: w*w in table, w in ring, a place for each unit in the others.
  */
 size_t tugrokt_plan(size_t span,
                     const uint16_t *first, size_t first_length, const uint16_t *last, size_t last_length,
                     const uint16_t *from, size_t from_length, const uint16_t *to, size_t to_length,
                     const uint16_t *low, size_t low_length, const uint16_t *high, size_t high_length,
-                    int16_t *table, size_t table_length, uint16_t *plan, size_t plan_length,
+                    int16_t *table, size_t table_length, uint16_t *seats, size_t seats_length,
                     uint16_t *earliest, size_t earliest_length, uint16_t *latest, size_t latest_length,
-                    uint16_t *ring, size_t ring_room, size_t *ring_length);
+                    uint16_t *ring, size_t ring_length, size_t *length);
 
 /*
  * Plans from lists, prints the answer on the page from *place on, and moves *place just past it. The rooms are left as by
@@ -58,9 +61,9 @@ size_t tugrokt_print(size_t span,
                      const uint16_t *first, size_t first_length, const uint16_t *last, size_t last_length,
                      const uint16_t *from, size_t from_length, const uint16_t *to, size_t to_length,
                      const uint16_t *low, size_t low_length, const uint16_t *high, size_t high_length,
-                     int16_t *table, size_t table_length, uint16_t *plan, size_t plan_length,
+                     int16_t *table, size_t table_length, uint16_t *seats, size_t seats_length,
                      uint16_t *earliest, size_t earliest_length, uint16_t *latest, size_t latest_length,
-                     uint16_t *ring, size_t ring_room, uint8_t *page, size_t page_length, size_t *place);
+                     uint16_t *ring, size_t ring_length, uint8_t *page, size_t page_length, size_t *place);
 
 #ifdef __cplusplus
 }

@@ -3,11 +3,12 @@
 //!     cargo run --release                        all cases: times and ratios
 //!     cargo run --release -- CASE..              some cases, by the start of their names
 //!     cargo run --release -- --list              the names of the cases
+//!     cargo run --release -- --jobs              the names of the jobs
 //!     cargo run --release -- --count CASE SIDE JOB N     does one job N times and prints nothing, for an instruction counter
 //!
 //! Both sides get the same texts and lists. The planner's rooms and page are made once and lent again and again without being
 //! cleared; the plain implementation returns vectors of its own. A time is the least of many rounds, in which the two sides take
-//! turns. Before anything is measured the two sides' pages are compared.
+//! turns. Before anything is measured the two sides' answers are compared.
 
 mod cases;
 
@@ -22,14 +23,22 @@ use cases::Case;
 enum Job {
     Read,
     Plan,
+    #[cfg(has_page)]
     Whole,
 }
 
-const JOBS: [(Job, &str); 3] = [(Job::Read, "read"), (Job::Plan, "plan"), (Job::Whole, "whole")];
+const JOBS: &[(Job, &str)] = &[
+    (Job::Read, "read"),
+    (Job::Plan, "plan"),
+    #[cfg(has_page)]
+    (Job::Whole, "whole"),
+];
 
 /// A side does a job on each sheet of a case.
 trait Side {
     fn run(&mut self, case: &Case, job: Job);
+    fn answer(&mut self, sheet: &plain::Sheet) -> plain::Answer;
+    #[cfg(has_page)]
     fn page(&mut self, text: &[u8]) -> Vec<u8>;
 }
 
@@ -41,22 +50,27 @@ impl Side for Plain {
             match job {
                 Job::Read => drop(black_box(plain::read(black_box(text)))),
                 Job::Plan => drop(black_box(plain::plan(black_box(sheet)))),
+                #[cfg(has_page)]
                 Job::Whole => drop(black_box(self.page(black_box(text)))),
             }
         }
     }
 
+    fn answer(&mut self, sheet: &plain::Sheet) -> plain::Answer {
+        plain::plan(sheet)
+    }
+
+    #[cfg(has_page)]
     fn page(&mut self, text: &[u8]) -> Vec<u8> {
         let sheet = plain::read(text).expect("the cases are sheets");
         plain::print(&sheet, &plain::plan(&sheet))
     }
 }
 
-#[cfg(has_planner)]
 mod planner {
     use super::{black_box, Case, Job, Side};
     use tugrokt::entry::{self, Counts, ListRooms, Lists, Rooms};
-    use tugrokt::{LONGEST_PAGE, MOST_RULES, MOST_SLOTS, MOST_UNITS};
+    use tugrokt::{MOST_RULES, MOST_SLOTS, MOST_UNITS};
 
     /// The planner, with rooms that are lent again and again.
     pub struct Planner {
@@ -64,6 +78,7 @@ mod planner {
         table: Vec<i16>,
         rooms: [Vec<u16>; 3],
         ring: Vec<u16>,
+        #[cfg(has_page)]
         page: Vec<u8>,
     }
 
@@ -75,7 +90,8 @@ mod planner {
                 table: vec![0; (MOST_SLOTS + 1) * (MOST_SLOTS + 1)],
                 rooms: [u, u, u].map(|length| vec![0; length]),
                 ring: vec![0; MOST_SLOTS + 1],
-                page: vec![0; LONGEST_PAGE],
+                #[cfg(has_page)]
+                page: vec![0; tugrokt::LONGEST_PAGE],
             }
         }
 
@@ -100,6 +116,7 @@ mod planner {
             length
         }
 
+        #[cfg(has_page)]
         fn whole(&mut self, text: &[u8]) -> usize {
             let Counts { span, units, rules, .. } = self.read(text);
             let [first, last, from, to, low, high] = &self.lists;
@@ -130,11 +147,23 @@ mod planner {
                 match job {
                     Job::Read => drop(black_box(self.read(black_box(text)))),
                     Job::Plan => drop(black_box(self.plan(black_box(sheet)))),
+                    #[cfg(has_page)]
                     Job::Whole => drop(black_box(self.whole(black_box(text)))),
                 }
             }
         }
 
+        fn answer(&mut self, sheet: &plain::Sheet) -> plain::Answer {
+            let length = self.plan(sheet);
+            if length > 0 {
+                return plain::Answer::None { ring: self.ring[..length].to_vec() };
+            }
+            let [plan, earliest, latest] = self.rooms.clone().map(|room| room[..sheet.first.len()].to_vec());
+            let table = self.table[..(sheet.span + 1) * (sheet.span + 1)].to_vec();
+            plain::Answer::Plan { plan, earliest, latest, table }
+        }
+
+        #[cfg(has_page)]
         fn page(&mut self, text: &[u8]) -> Vec<u8> {
             let place = self.whole(text);
             self.page[..place].to_vec()
@@ -144,11 +173,7 @@ mod planner {
 
 /// The sides' names, the planner first.
 fn sides() -> Vec<(&'static str, Box<dyn Side>)> {
-    vec![
-        #[cfg(has_planner)]
-        ("planner", Box::new(planner::Planner::new()) as Box<dyn Side>),
-        ("plain", Box::new(Plain) as Box<dyn Side>),
-    ]
+    vec![("planner", Box::new(planner::Planner::new())), ("plain", Box::new(Plain))]
 }
 
 /// The least time of a job, a sheet, for each side, in nanoseconds.
@@ -172,13 +197,18 @@ fn measure(case: &Case, job: Job, sides: &mut [(&'static str, Box<dyn Side>)]) -
     least
 }
 
-/// Both sides print the same page, or different rings of one sheet.
+/// Both sides give the same answer and print the same page, or show different rings of one sheet.
 fn compare(case: &Case, sides: &mut [(&'static str, Box<dyn Side>)]) {
-    for text in &case.texts {
-        let pages: Vec<Vec<u8>> = sides.iter_mut().map(|side| side.1.page(text)).collect();
-        let head = b"(answer none)\n";
-        let agree = pages.iter().all(|p| *p == pages[0] || (p.starts_with(head) && pages[0].starts_with(head)));
-        assert!(agree, "{}: the two sides' pages differ on\n{}", case.name, String::from_utf8_lossy(text));
+    for (i, sheet) in case.sheets.iter().enumerate() {
+        let answers: Vec<plain::Answer> = sides.iter_mut().map(|side| side.1.answer(sheet)).collect();
+        let same = answers[0] == answers[1];
+        let both_none = answers.iter().all(|a| matches!(a, plain::Answer::None { .. }));
+        assert!(same || both_none, "{}: the two sides' answers to sheet {i} differ", case.name);
+        #[cfg(has_page)]
+        {
+            let pages: Vec<Vec<u8>> = sides.iter_mut().map(|side| side.1.page(&case.texts[i])).collect();
+            assert!(!same || pages[0] == pages[1], "{}: the two sides' pages of sheet {i} differ", case.name);
+        }
     }
 }
 
@@ -187,6 +217,7 @@ fn main() {
     let mut sides = sides();
     match words.first().map(String::as_str) {
         Some("--list") => cases::NAMES.iter().for_each(|name| println!("{name}")),
+        Some("--jobs") => JOBS.iter().for_each(|job| println!("{}", job.1)),
         Some("--count") => {
             let [_, name, side, job, times] = &words[..] else { panic!("--count CASE SIDE JOB N") };
             let case = cases::make(name);
@@ -202,7 +233,7 @@ fn main() {
             for name in cases::NAMES.iter().filter(chosen) {
                 let case = cases::make(name);
                 compare(&case, &mut sides);
-                for (job, job_name) in JOBS {
+                for &(job, job_name) in JOBS {
                     let least = measure(&case, job, &mut sides);
                     let (ours, theirs) = (least[0], least[least.len() - 1]);
                     println!("{name:14} {job_name:6} {ours:12.0} {theirs:12.0} {:7.2}", ours / theirs);

@@ -1,5 +1,5 @@
-//! The C interface, as the Rattle crates export it. Nothing checks these declarations against the Rattle source, so this is
-//! the only place that has them; `tugrokt.h` says the same in C.
+//! The C interface, as the Rattle crates export it. This is the only place in Rust that has it; `tugrokt.h` says the same in C.
+//! No compiler checks these declarations against the Rattle source. `tests/tests/declarations.rs` does.
 //!
 //! A slice passes as a pointer and its length, a number that is written passes as a pointer.
 
@@ -20,10 +20,10 @@ extern "C" {
         low_length: usize,
         high: *mut u16,
         high_length: usize,
+        line: *mut usize,
         span: *mut usize,
         units: *mut usize,
         rules: *mut usize,
-        line: *mut usize,
     ) -> usize;
 }
 
@@ -45,15 +45,15 @@ extern "C" {
         high_length: usize,
         table: *mut i16,
         table_length: usize,
-        plan: *mut u16,
-        plan_length: usize,
+        seats: *mut u16,
+        seats_length: usize,
         earliest: *mut u16,
         earliest_length: usize,
         latest: *mut u16,
         latest_length: usize,
         ring: *mut u16,
-        ring_room: usize,
-        ring_length: *mut usize,
+        ring_length: usize,
+        length: *mut usize,
     ) -> usize;
 }
 
@@ -75,14 +75,14 @@ extern "C" {
         high_length: usize,
         table: *mut i16,
         table_length: usize,
-        plan: *mut u16,
-        plan_length: usize,
+        seats: *mut u16,
+        seats_length: usize,
         earliest: *mut u16,
         earliest_length: usize,
         latest: *mut u16,
         latest_length: usize,
         ring: *mut u16,
-        ring_room: usize,
+        ring_length: usize,
         page: *mut u8,
         page_length: usize,
         place: *mut usize,

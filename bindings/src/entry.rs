@@ -50,14 +50,15 @@ pub struct ListRooms<'a> {
 /// The numbers that reading gives beside its reply.
 #[derive(Clone, Copy, Debug, Default, PartialEq, Eq)]
 pub struct Counts {
+    /// The line that a refusal names, and 0 for a sheet.
+    pub line: usize,
+    /// The sheet's numbers, and 0 for a refusal.
     pub span: usize,
     pub units: usize,
     pub rules: usize,
-    /// The line that a refusal names.
-    pub line: usize,
 }
 
-/// Reads a sheet. The reply is 0, or the number of the question that refused it.
+/// Reads a sheet. The reply is 0, or the number of the question that refused it. All four counts are written.
 #[cfg(has_reader)]
 pub fn read(text: &[u8], lists: ListRooms, counts: &mut Counts) -> usize {
     let ListRooms { first, last, from, to, low, high } = lists;
@@ -78,16 +79,16 @@ pub fn read(text: &[u8], lists: ListRooms, counts: &mut Counts) -> usize {
             low.len(),
             high.as_mut_ptr(),
             high.len(),
+            &mut counts.line,
             &mut counts.span,
             &mut counts.units,
             &mut counts.rules,
-            &mut counts.line,
         )
     }
 }
 
-/// Plans from lists. The reply is the number of the question that refused the call, or 0; then `ring_length` is 0 if there is
-/// a plan, and the length of the ring if there is none.
+/// Plans from lists. The reply is 0, or the number of the question that refused the call. `ring_length` becomes the length of the
+/// ring where there is no plan, and 0 for a plan and for a refusal.
 #[cfg(has_planner)]
 pub fn plan(lists: Lists, rooms: Rooms, ring_length: &mut usize) -> usize {
     let Lists { span, first, last, from, to, low, high } = lists;

@@ -118,7 +118,7 @@ pub fn planning_fault(lists: &Lists, lengths: &Lengths, solved: Option<&Solved>)
         return Some(fault);
     }
     if refusal != 0 {
-        return differ("ring length", &ring_length, &MARK)
+        return differ("ring length", &ring_length, &0)
             .or_else(|| rooms_fault(&rooms, &Rooms::marked(lengths)));
     }
     if let Some(solved) = solved {
@@ -218,11 +218,11 @@ pub fn reading_fault(text: &[u8], units: [usize; 2], rules: [usize; 4]) -> Optio
     let marked = || [units[0], units[1], rules[0], rules[1], rules[2], rules[3]].map(marked_u16);
     let mut rooms = marked();
     let mut expected_rooms = marked();
-    let mut counts = entry::Counts { span: MARK, units: MARK, rules: MARK, line: MARK };
+    let mut counts = entry::Counts { line: MARK, span: MARK, units: MARK, rules: MARK };
     let [first, last, from, to, low, high] = &mut rooms;
     let reply = entry::read(text, entry::ListRooms { first, last, from, to, low, high }, &mut counts);
     let (number, expected_counts) = match read_into(text, units, rules) {
-        Err(Refusal { number, line }) => (number, entry::Counts { span: MARK, units: MARK, rules: MARK, line }),
+        Err(Refusal { number, line }) => (number, entry::Counts { line, ..entry::Counts::default() }),
         Ok(sheet) => {
             let lists = Lists::from(&sheet);
             let all = [&lists.first, &lists.last, &lists.from, &lists.to, &lists.low, &lists.high];
@@ -230,7 +230,7 @@ pub fn reading_fault(text: &[u8], units: [usize; 2], rules: [usize; 4]) -> Optio
                 room[..list.len()].copy_from_slice(list);
             }
             let (units, rules) = (sheet.units.len(), sheet.rules.len());
-            (0, entry::Counts { span: sheet.span, units, rules, line: 0 })
+            (0, entry::Counts { line: 0, span: sheet.span, units, rules })
         }
     };
     differ("reply", &(reply, counts.line), &(number, expected_counts.line))

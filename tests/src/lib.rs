@@ -15,6 +15,7 @@ pub mod questions;
 pub mod random;
 pub mod reading;
 pub mod sheet;
+pub mod tally;
 
 /// How many random cases a test runs: `default`, times `TUGROKT_EFFORT` where that is set.
 pub fn effort(default: usize) -> usize {

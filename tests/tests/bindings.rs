@@ -1,20 +1,17 @@
 //! The border crate's own functions, and the examples.
-#![cfg(all(has_reader, has_planner, has_page))]
+#![cfg(all(has_reader, has_planner))]
 
 use std::io::Write;
 use std::path::{Path, PathBuf};
 use std::process::{Command, Stdio};
 
 use reference::cases::{self, Says};
-use reference::{enumerated, page};
 use tugrokt::{Answer, Refusal, Sheet};
 
 #[test]
 fn document_cases() {
     for case in cases::all() {
         let sheet = Sheet::read(&case.sheet.text()).unwrap();
-        let page = sheet.page().unwrap();
-        assert_eq!(page::fault(&case.sheet, enumerated::solve(&case.sheet).as_ref(), &page), None, "{}", case.name);
         match (sheet.plan().unwrap(), case.says) {
             (Answer::Plan(plan), Says::Plan(slots, windows)) => {
                 assert_eq!(plan.slot, slots);
@@ -25,6 +22,17 @@ fn document_cases() {
             (answer, says) => panic!("{}: {answer:?}, but {says:?}", case.name),
         }
     }
+}
+
+#[cfg(has_page)]
+#[test]
+fn pages() {
+    use reference::{enumerated, page};
+    for case in cases::all() {
+        let page = Sheet::read(&case.sheet.text()).unwrap().page().unwrap();
+        assert_eq!(page::fault(&case.sheet, enumerated::solve(&case.sheet).as_ref(), &page), None, "{}", case.name);
+    }
+    assert_eq!(Sheet::new(usize::MAX).page(), Err(Refusal { question: 6, line: 0 }));
 }
 
 #[test]
@@ -46,7 +54,7 @@ fn refusals() {
     assert_eq!(Sheet::read(b""), Err(Refusal { question: 5, line: 0 }));
     assert_eq!(Sheet::read(b"(sheet 4)\n(unit (window 4 3))\n"), Err(Refusal { question: 7, line: 2 }));
     assert_eq!(Sheet::new(0).plan(), Err(Refusal { question: 6, line: 0 }));
-    assert_eq!(Sheet::new(usize::MAX).page(), Err(Refusal { question: 6, line: 0 }));
+    assert_eq!(Sheet::new(usize::MAX).plan(), Err(Refusal { question: 6, line: 0 }));
     let mut lopsided = Sheet::new(4);
     lopsided.first.push(1);
     assert_eq!(lopsided.plan(), Err(Refusal { question: 13, line: 0 }));

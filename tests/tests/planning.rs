@@ -4,8 +4,12 @@
 use reference::calls::planning_fault;
 use reference::questions::{planning_refusal, Lengths, Lists};
 use reference::random::{any_sheet, largest_sheet, paper_sheet, small_sheet, Random};
-use reference::sheet::Sheet;
+use reference::sheet::{Sheet, Solved, Unit};
+use reference::tally::Tally;
 use reference::{cases, computed, effort, enumerated, seed};
+
+const PLAN: &str = "with a plan";
+const NONE: &str = "with none";
 
 /// The lengths that are asked for, with some places more here and there.
 fn roomy(r: &mut Random, sheet: &Sheet) -> Lengths {
@@ -20,53 +24,108 @@ fn roomy(r: &mut Random, sheet: &Sheet) -> Lengths {
     }
 }
 
+/// Plans, counts the case, and fails where anything differs from the model.
+fn hold(tally: &mut Tally, lists: &Lists, lengths: &Lengths, solved: Option<&Solved>) {
+    let case = tally.all();
+    tally.add(planning_refusal(lists, lengths), if solved.is_some() { PLAN } else { NONE });
+    if let Some(fault) = planning_fault(lists, lengths, solved) {
+        panic!("seed {} case {case}: {lists:?} {lengths:?}\n{fault}", tally.seed());
+    }
+}
+
+/// The same for a sheet whose rooms have no place too many.
+fn hold_sheet(tally: &mut Tally, sheet: &Sheet, solved: Option<&Solved>) {
+    hold(tally, &Lists::from(sheet), &Lengths::exact(sheet), solved);
+}
+
 #[test]
 fn document_cases() {
+    let mut tally = Tally::new("planning P1 to P10", 0);
     for case in cases::all() {
-        let solved = enumerated::solve(&case.sheet);
-        let fault = planning_fault(&Lists::from(&case.sheet), &Lengths::exact(&case.sheet), solved.as_ref());
-        assert_eq!(fault, None, "{}", case.name);
+        hold_sheet(&mut tally, &case.sheet, enumerated::solve(&case.sheet).as_ref());
     }
+    tally.report();
 }
 
 #[test]
 fn small_sheets_against_all_plans() {
+    let mut tally = Tally::new("planning small sheets, all plans tried", seed(101));
     for i in 0..effort(60_000) {
         let mut r = Random::of_case(seed(101), i);
         let sheet = small_sheet(&mut r);
         let solved = enumerated::solve(&sheet);
-        if let Some(fault) = planning_fault(&Lists::from(&sheet), &roomy(&mut r, &sheet), solved.as_ref()) {
-            panic!("seed {} case {i}: {sheet:?}\n{fault}", seed(101));
+        hold(&mut tally, &Lists::from(&sheet), &roomy(&mut r, &sheet), solved.as_ref());
+    }
+    tally.report();
+    let frequent = |answer| 4 * tally.count(answer) > tally.all();
+    assert!(frequent(PLAN) && frequent(NONE));
+}
+
+/// All lists of at most `most` elements.
+fn lists_of<T: Copy>(elements: &[T], most: usize) -> Vec<Vec<T>> {
+    let mut all = vec![vec![]];
+    let mut from = 0;
+    for _ in 0..most {
+        let to = all.len();
+        for i in from..to {
+            for &element in elements {
+                let mut longer = all[i].clone();
+                longer.push(element);
+                all.push(longer);
+            }
+        }
+        from = to;
+    }
+    all
+}
+
+/// Every sheet of few slots with few units and at most two rules, whose counts go up to 3.
+#[test]
+fn all_tiny_sheets() {
+    let mut tally = Tally::new("planning all tiny sheets, all plans tried", 0);
+    for (span, most_units) in [(1u16, 3), (2, 3), (3, 2)] {
+        let stretches: Vec<(u16, u16)> = (1..=span).flat_map(|a| (a..=span).map(move |b| (a, b))).collect();
+        let counts: Vec<(u16, u16)> = (0..=3).flat_map(|low| (low..=3).map(move |high| (low, high))).collect();
+        let rules: Vec<(u16, u16, u16, u16)> =
+            stretches.iter().flat_map(|&(a, b)| counts.iter().map(move |&(low, high)| (a, b, low, high))).collect();
+        let rules = lists_of(&rules, 2);
+        for windows in lists_of(&stretches, most_units) {
+            for rules in &rules {
+                let sheet = Sheet::new(span as usize, &windows, rules);
+                hold_sheet(&mut tally, &sheet, enumerated::solve(&sheet).as_ref());
+            }
         }
     }
+    tally.report();
 }
 
 #[test]
 fn sheets_of_all_sizes() {
+    let mut tally = Tally::new("planning sheets of all sizes", seed(102));
     for i in 0..effort(3_000) {
         let mut r = Random::of_case(seed(102), i);
         let sheet = any_sheet(&mut r);
         let solved = computed::solve(&sheet);
-        if let Some(fault) = planning_fault(&Lists::from(&sheet), &roomy(&mut r, &sheet), solved.as_ref()) {
-            panic!("seed {} case {i}: {sheet:?}\n{fault}", seed(102));
-        }
+        hold(&mut tally, &Lists::from(&sheet), &roomy(&mut r, &sheet), solved.as_ref());
     }
+    tally.report();
 }
 
 /// 001, section 4.
 #[test]
 fn sheets_of_the_source_paper() {
+    let mut tally = Tally::new("planning sheets of the source paper", seed(103));
     for i in 0..effort(460) {
         let sheet = paper_sheet(&mut Random::of_case(seed(103), i), 10 + i % 23);
-        let solved = computed::solve(&sheet);
-        assert!(solved.is_some());
-        let fault = planning_fault(&Lists::from(&sheet), &Lengths::exact(&sheet), solved.as_ref());
-        assert_eq!(fault, None, "seed {} case {i}: {sheet:?}", seed(103));
+        hold_sheet(&mut tally, &sheet, computed::solve(&sheet).as_ref());
     }
+    tally.report();
+    assert_eq!(tally.count(PLAN), tally.all());
 }
 
 #[test]
 fn largest_sheets() {
+    let mut tally = Tally::new("planning largest sheets", seed(104));
     for i in 0..effort(24) {
         let mut r = Random::of_case(seed(104), i);
         let mut sheet = largest_sheet(&mut r, [0, 1, 3][i % 3], [48, 24, 6, 3][i % 4]);
@@ -76,10 +135,9 @@ fn largest_sheets() {
             let c = sheet.rules[rule].high;
             (sheet.rules[rule].low, sheet.rules[rule].high) = (c + 1, c + 1);
         }
-        let solved = computed::solve(&sheet);
-        let fault = planning_fault(&Lists::from(&sheet), &Lengths::exact(&sheet), solved.as_ref());
-        assert_eq!(fault, None, "seed {} case {i}: {sheet:?}", seed(104));
+        hold_sheet(&mut tally, &sheet, computed::solve(&sheet).as_ref());
     }
+    tally.report();
 }
 
 /// The greatest limits: every unit anywhere, or everywhere one by one.
@@ -102,16 +160,41 @@ fn extreme_sheets() {
         Sheet::new(48, &vec![(1, 1); 300], &[(2, 48, 0, 0)]),
         Sheet::new(48, &vec![(48, 48); 300], &[(1, 47, 1, 300)]),
     ];
+    let mut tally = Tally::new("planning extreme sheets", 0);
     for sheet in sheets {
-        let solved = computed::solve(&sheet);
-        let fault = planning_fault(&Lists::from(&sheet), &Lengths::exact(&sheet), solved.as_ref());
-        assert_eq!(fault, None, "{sheet:?}");
+        hold_sheet(&mut tally, &sheet, computed::solve(&sheet).as_ref());
     }
+    tally.report();
+}
+
+/// Many separate stretches that each ask for 300: no sheet makes a sum that question 14 would refuse.
+#[test]
+fn the_greatest_sums() {
+    let mut tally = Tally::new("planning sheets with the greatest sums", seed(107));
+    for i in 0..effort(400) {
+        let mut r = Random::of_case(seed(107), i);
+        let windows = if r.chance(50) { vec![(1, 48); 300] } else { vec![] };
+        let width = r.between(1, 4) as u16;
+        let mut rules: Vec<(u16, u16, u16, u16)> = (0..48 / width).map(|j| (j * width + 1, (j + 1) * width, 300, 300)).collect();
+        for _ in 0..r.below(12) {
+            let (from, to) = r.interval(48, 48);
+            rules.push((from, to, 0, *r.pick(&[0, 1, 299, 300])));
+        }
+        // The order of rules is free, and some of the stretches may be left out.
+        for j in (1..rules.len()).rev() {
+            rules.swap(j, r.below(j + 1));
+        }
+        rules.truncate(r.between(1, rules.len()));
+        let sheet = Sheet::new(48, &windows, &rules);
+        hold_sheet(&mut tally, &sheet, computed::solve(&sheet).as_ref());
+    }
+    tally.report();
 }
 
 /// Windows that nest and chain, where a cut window pushes many others: narrowing has much to do.
 #[test]
 fn narrowing_through_chains() {
+    let mut tally = Tally::new("planning chains", seed(105));
     for i in 0..effort(200) {
         let mut r = Random::of_case(seed(105), i);
         let span = r.between(6, 48);
@@ -125,12 +208,12 @@ fn narrowing_through_chains() {
         }
         for _ in 0..r.below(3) {
             let (first, last) = r.interval(span, span);
-            sheet.units.push(reference::sheet::Unit { first, last });
+            sheet.units.push(Unit { first, last });
         }
         let solved = computed::solve(&sheet);
-        let fault = planning_fault(&Lists::from(&sheet), &roomy(&mut r, &sheet), solved.as_ref());
-        assert_eq!(fault, None, "seed {} case {i}: {sheet:?}", seed(105));
+        hold(&mut tally, &Lists::from(&sheet), &roomy(&mut r, &sheet), solved.as_ref());
     }
+    tally.report();
 }
 
 /// A fault of each kind, by the question that it fails.
@@ -186,9 +269,10 @@ fn refusals_alone_and_in_pairs() {
     let sheet = Sheet::new(5, &[(1, 3), (2, 5)], &[(1, 2, 0, 2), (2, 4, 1, 2)]);
     let none = Sheet::new(5, &[(1, 3), (2, 5)], &[(1, 5, 0, 1), (2, 4, 1, 2)]);
     let all = faults();
+    let mut tally = Tally::new("planning refusals alone and in pairs", 0);
     for sheet in [sheet, none] {
         let solved = enumerated::solve(&sheet);
-        assert_eq!(planning_fault(&Lists::from(&sheet), &Lengths::exact(&sheet), solved.as_ref()), None);
+        hold_sheet(&mut tally, &sheet, solved.as_ref());
         for (one, make_one) in &all {
             for (other, make_other) in &all {
                 let mut lists = Lists::from(&sheet);
@@ -205,16 +289,17 @@ fn refusals_alone_and_in_pairs() {
                 if rank(*one) != rank(*other) {
                     assert_eq!(rank(refusal), rank(*one).min(rank(*other)), "{one} and {other}");
                 }
-                assert_eq!(planning_fault(&lists, &rooms, solved.as_ref()), None, "{one} and {other}");
+                hold(&mut tally, &lists, &rooms, solved.as_ref());
             }
         }
     }
+    tally.report();
 }
 
 /// Lists and rooms with faults at random, also in the middle and at the end of long lists.
 #[test]
 fn refusals_at_random() {
-    let mut seen = [0; 16];
+    let mut tally = Tally::new("planning lists and rooms at random", seed(106));
     for i in 0..effort(40_000) {
         let mut r = Random::of_case(seed(106), i);
         let sheet = if r.chance(90) { small_sheet(&mut r) } else { any_sheet(&mut r) };
@@ -263,14 +348,11 @@ fn refusals_at_random() {
                 }
             }
         }
-        let refusal = planning_refusal(&lists, &rooms);
-        seen[refusal] += 1;
-        let solved = if refusal == 0 { computed::solve(&lists.sheet()) } else { None };
-        if let Some(fault) = planning_fault(&lists, &rooms, solved.as_ref()) {
-            panic!("seed {} case {i}: {lists:?} {rooms:?}\n{fault}", seed(106));
-        }
+        let solved = if planning_refusal(&lists, &rooms) == 0 { computed::solve(&lists.sheet()) } else { None };
+        hold(&mut tally, &lists, &rooms, solved.as_ref());
     }
-    for number in [0, 6, 7, 8, 9, 10, 12, 13] {
-        assert!(seen[number] > 20, "{seen:?}");
+    tally.report();
+    for number in [6, 7, 8, 9, 10, 12, 13] {
+        assert!(2_000 * tally.refused_by(number) > tally.all(), "{number} refuses too seldom");
     }
 }

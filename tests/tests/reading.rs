@@ -4,10 +4,21 @@
 use reference::calls::reading_fault;
 use reference::damage::{any_text, note_of_depth, valid};
 use reference::random::{largest_sheet, Random};
+use reference::reading::read_into;
+use reference::tally::Tally;
 use reference::{cases, effort, seed};
 
 const UNITS: [usize; 2] = [300; 2];
 const RULES: [usize; 4] = [60; 4];
+
+/// Reads, counts the case, and fails where anything differs from the model.
+fn hold(tally: &mut Tally, text: &[u8], units: [usize; 2], rules: [usize; 4]) {
+    let case = tally.all();
+    tally.add(read_into(text, units, rules).map_or_else(|r| r.number, |_| 0), "read");
+    if let Some(fault) = reading_fault(text, units, rules) {
+        panic!("seed {} case {case}: {:?}\n{fault}", tally.seed(), String::from_utf8_lossy(text));
+    }
+}
 
 #[test]
 fn document_cases() {
@@ -20,14 +31,17 @@ fn document_cases() {
 
 #[test]
 fn texts_at_random() {
+    let mut tally = Tally::new("reading texts at random", seed(201));
     for i in 0..effort(60_000) {
         let mut r = Random::of_case(seed(201), i);
         let text = any_text(&mut r);
         let mut length = |usual: usize| if r.chance(90) { usual } else { r.below(8) };
         let (units, rules) = (UNITS.map(&mut length), RULES.map(&mut length));
-        if let Some(fault) = reading_fault(&text, units, rules) {
-            panic!("seed {} case {i}: {:?}\n{fault}", seed(201), String::from_utf8_lossy(&text));
-        }
+        hold(&mut tally, &text, units, rules);
+    }
+    tally.report();
+    for number in [2, 3, 4, 5, 6, 7, 8, 11, 12] {
+        assert!(2_000 * tally.refused_by(number) > tally.all(), "{number} refuses too seldom");
     }
 }
 
@@ -35,30 +49,86 @@ fn texts_at_random() {
 #[test]
 fn every_single_byte() {
     let text = b"(note a (b))\n(sheet 12)\n(unit (window 1 10))\n(rule (slots 3 12) (count 0 300))\n(note)\n";
-    assert_eq!(reading_fault(text, UNITS, RULES), None);
+    let mut tally = Tally::new("reading every single byte", 0);
+    hold(&mut tally, text, UNITS, RULES);
     for at in 0..text.len() {
         for byte in 0..=255 {
             let mut changed = text.to_vec();
             changed[at] = byte;
-            let fault = reading_fault(&changed, UNITS, RULES);
-            assert_eq!(fault, None, "{:?}", String::from_utf8_lossy(&changed));
+            hold(&mut tally, &changed, UNITS, RULES);
             changed.insert(at, text[at]);
-            let fault = reading_fault(&changed, UNITS, RULES);
-            assert_eq!(fault, None, "{:?}", String::from_utf8_lossy(&changed));
+            hold(&mut tally, &changed, UNITS, RULES);
         }
         let mut dropped = text.to_vec();
         dropped.remove(at);
-        assert_eq!(reading_fault(&dropped, UNITS, RULES), None, "{:?}", String::from_utf8_lossy(&dropped));
-        assert_eq!(reading_fault(&text[..at], UNITS, RULES), None, "the first {at} bytes");
-        assert_eq!(reading_fault(&text[at..], UNITS, RULES), None, "from byte {at} on");
+        hold(&mut tally, &dropped, UNITS, RULES);
+        hold(&mut tally, &text[..at], UNITS, RULES);
+        hold(&mut tally, &text[at..], UNITS, RULES);
     }
+    tally.report();
+}
+
+/// A line for each question that it can fail, and lines that pass; with two faults in one line the question that comes first
+/// decides.
+const LINES: [&str; 30] = [
+    "(sheet 4)",
+    "(sheet 48)",
+    "(sheet 49)",
+    "(sheet 0)",
+    "(sheet 04)",
+    "(sheet 00049)",
+    "(sheet  4)",
+    "(sheet )",
+    "(unit (window 1 4))",
+    "(unit (window 4 3))",
+    "(unit (window 0 3))",
+    "(unit (window 1 5))",
+    "(unit (window 01 5))",
+    "(unit (window 1 4)) ",
+    "(unit (window 1\t04))",
+    "(rule (slots 1 4) (count 0 300))",
+    "(rule (slots 2 1) (count 0 301))",
+    "(rule (slots 1 4) (count 0 301))",
+    "(rule (slots 1 4) (count 2 1))",
+    "(rule (slots 05 6) (count 0 1))",
+    "(rule (slots 1 4) (count 0 10000))",
+    "(rule (slots 1 4) (count 0 1)",
+    "(note)",
+    "(note (a) (sheet 49))",
+    "(note (a)",
+    "(note (a))) ",
+    "(note \x7f",
+    "(noted)",
+    "(note",
+    "",
+];
+
+/// All texts of at most three such lines, the last with a line feed and without.
+#[test]
+fn all_texts_of_three_lines() {
+    let mut tally = Tally::new("reading all texts of three lines", 0);
+    let mut texts = vec![String::new()];
+    let mut from = 0;
+    for _ in 0..3 {
+        let to = texts.len();
+        for i in from..to {
+            for line in LINES {
+                hold(&mut tally, format!("{}{line}", texts[i]).as_bytes(), UNITS, RULES);
+                texts.push(format!("{}{line}\n", texts[i]));
+            }
+        }
+        from = to;
+    }
+    for text in &texts {
+        hold(&mut tally, text.as_bytes(), UNITS, RULES);
+    }
+    tally.report();
 }
 
 #[test]
 fn limits_of_the_text() {
-    let fits = |text: String, units, rules| {
-        assert_eq!(reading_fault(text.as_bytes(), units, rules), None, "{:?}", &text[..text.len().min(200)]);
-    };
+    let mut tally = Tally::new("reading at the limits", 0);
+    let mut fits = |text: String, units, rules| hold(&mut tally, text.as_bytes(), units, rules);
     for length in [15_999, 16_000, 16_001, 16_002, 20_000, 70_000] {
         fits(format!("(sheet 4)\n(note {})\n", "x".repeat(length - 18)), UNITS, RULES);
         fits("\n".repeat(length), UNITS, RULES);
@@ -86,6 +156,7 @@ fn limits_of_the_text() {
             fits(format!("(sheet 4)\n{}", "(rule (slots 1 4) (count 0 1))\n".repeat(k)), UNITS, room);
         }
     }
+    tally.report();
 }
 
 #[test]

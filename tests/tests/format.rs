@@ -1,0 +1,121 @@
+//! Every example of docs/FORMAT.md: the sheet goes in, exactly the answer comes out.
+#![cfg(all(has_reader, has_planner))]
+
+use std::fs;
+use std::path::Path;
+
+use reference::page;
+use reference::reading::{refusal_page, Refusal};
+use reference::sheet::{Sheet, Solved};
+use tugrokt::Answer;
+
+struct Example {
+    /// The line of the document that opens it.
+    line: usize,
+    sheet: Vec<u8>,
+    answer: Vec<u8>,
+}
+
+/// A line `301 × (..)` stands for that line 301 times.
+fn line_of_sheet(line: &str) -> String {
+    match line.split_once('×') {
+        Some((times, line)) => {
+            let times = times.trim().parse().expect("a number of times");
+            format!("{}\n", line.strip_prefix(' ').unwrap_or(line)).repeat(times)
+        }
+        None => format!("{line}\n"),
+    }
+}
+
+fn examples() -> Vec<Example> {
+    let text = fs::read_to_string(Path::new(env!("ROOT")).join("docs/FORMAT.md")).expect("the document is read");
+    let mut all: Vec<Example> = Vec::new();
+    let mut open: Option<(&str, String)> = None;
+    for (i, line) in text.lines().enumerate() {
+        match (&mut open, line.strip_prefix("```")) {
+            (None, Some("sheet")) => {
+                assert!(all.iter().all(|e| !e.answer.is_empty()), "line {i}: the sheet before has no answer");
+                all.push(Example { line: i + 1, sheet: vec![], answer: vec![] });
+                open = Some(("sheet", String::new()));
+            }
+            (None, Some("answer")) => open = Some(("answer", String::new())),
+            (None, Some(kind)) => panic!("line {}: a block {kind}", i + 1),
+            (Some((kind, block)), Some("")) => {
+                let example = all.last_mut().expect("a sheet before its answer");
+                let place = if *kind == "sheet" { &mut example.sheet } else { &mut example.answer };
+                assert!(place.is_empty() && !block.is_empty(), "line {}: a second block {kind}", i + 1);
+                *place = std::mem::take(block).into_bytes();
+                open = None;
+            }
+            (Some((kind, block)), None) => block.push_str(&if *kind == "sheet" { line_of_sheet(line) } else { format!("{line}\n") }),
+            (Some(_), Some(_)) => panic!("line {}: a block in a block", i + 1),
+            (None, None) => (),
+        }
+    }
+    assert!(open.is_none() && all.iter().all(|e| !e.answer.is_empty()), "a block stays open");
+    all
+}
+
+/// The page that reading and planning lead to, laid out here.
+fn page_by_calls(text: &[u8]) -> Vec<u8> {
+    let lists = match tugrokt::Sheet::read(text) {
+        Err(refusal) => return refusal_page(Refusal { number: refusal.question, line: refusal.line }),
+        Ok(lists) => lists,
+    };
+    let windows: Vec<(u16, u16)> = lists.first.iter().copied().zip(lists.last.iter().copied()).collect();
+    let rules: Vec<(u16, u16, u16, u16)> =
+        (0..lists.from.len()).map(|i| (lists.from[i], lists.to[i], lists.low[i], lists.high[i])).collect();
+    let sheet = Sheet::new(lists.span, &windows, &rules);
+    match lists.plan().expect("what is read is planned") {
+        Answer::None { ring } => page::of_ring(&sheet, &ring),
+        Answer::Plan(plan) => {
+            let w = sheet.boundaries();
+            let mut table = vec![0; w * w];
+            for a in 0..w {
+                for b in a + 1..w {
+                    let (least, greatest) = plan.range(a + 1, b);
+                    (table[a * w + b], table[b * w + a]) = (greatest as i16, -(least as i16));
+                }
+            }
+            page::of_plan(&sheet, &Solved { plan: plan.slot, earliest: plan.earliest, latest: plan.latest, table })
+        }
+    }
+}
+
+fn check(answer: fn(&[u8]) -> Vec<u8>) {
+    for Example { line, sheet, answer: expected } in examples() {
+        let got = answer(&sheet);
+        assert_eq!(String::from_utf8_lossy(&got), String::from_utf8_lossy(&expected), "docs/FORMAT.md, line {line}");
+    }
+}
+
+/// There is an example of each kind of answer, and of each question that a sheet can fail.
+#[test]
+fn the_examples_cover_every_answer() {
+    let heads: Vec<String> = examples().iter().map(|e| String::from_utf8_lossy(&e.answer).into_owned()).collect();
+    let has = |start: &str| heads.iter().any(|h| h.starts_with(start));
+    assert!(has("(answer plan ") && has("(answer none)\n"));
+    for number in 1..=11 {
+        assert!(has(&format!("(refused {number} (line ")), "no example of {number}");
+    }
+}
+
+#[test]
+fn by_reading_and_planning() {
+    check(page_by_calls);
+}
+
+#[cfg(has_page)]
+#[test]
+fn by_printing() {
+    check(|text| match tugrokt::Sheet::read(text).and_then(|sheet| sheet.page()) {
+        Ok(page) => page,
+        Err(refusal) => refusal_page(Refusal { number: refusal.question, line: refusal.line }),
+    });
+}
+
+#[cfg(has_wave)]
+#[test]
+fn by_the_program() {
+    check(|text| reference::program::run(text, &[], None));
+}
