@@ -3,3 +3,4 @@ pub mod LevelLaws
 pub mod CycleLaws
 pub mod WalkLaws
 pub mod Finder
+pub mod Codes
