@@ -1,11 +1,11 @@
-//! Says whether there is a page to print as well; `reference` makes sure of the reader and the planner.
+//! Says whether there is a printer as well; `reference` makes sure of the reader and the planner.
 
 use std::env;
 
 fn main() {
     println!("cargo:rerun-if-changed=build.rs");
-    println!("cargo:rustc-check-cfg=cfg(has_page)");
-    if env::var_os("DEP_TUGROKT_PAGE").is_some() {
-        println!("cargo:rustc-cfg=has_page");
+    println!("cargo:rustc-check-cfg=cfg(has_printer)");
+    if env::var_os("DEP_TUGROKT_PRINTER").is_some() {
+        println!("cargo:rustc-cfg=has_printer");
     }
 }

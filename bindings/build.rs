@@ -11,7 +11,7 @@ use std::time::SystemTime;
 use std::{env, fs};
 
 /// Each crate that has an open entry, and the entry's name.
-const ENTRIES: [(&str, &str); 3] = [("reader", "tugrokt_read"), ("planner", "tugrokt_plan"), ("page", "tugrokt_print")];
+const ENTRIES: [(&str, &str); 3] = [("reader", "tugrokt_read"), ("planner", "tugrokt_plan"), ("printer", "tugrokt_print")];
 
 fn main() {
     let root = Path::new(&env::var("CARGO_MANIFEST_DIR").unwrap()).join("..").canonicalize().unwrap();

@@ -6,7 +6,7 @@
  *
  * The reply is 0, or the number of the question that refused the call. A refused call changes no room. The numbers that a
  * call gives beside its reply are always written, with 0 for what the reply does not have.
- * Link libreader.a, libplanner.a and libpage.a (rt staticlib NAME), whichever are called.
+ * Link libreader.a, libplanner.a and libprinter.a (rt staticlib NAME), whichever are called.
  */
 #ifndef TUGROKT_H
 #define TUGROKT_H

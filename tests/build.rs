@@ -9,12 +9,12 @@ use std::path::{Path, PathBuf};
 use std::process::Command;
 
 /// Parts that may be missing: their tests are left out with a warning.
-const MAY_BE_MISSING: &[&str] = &["page", "wave"];
+const MAY_BE_MISSING: &[&str] = &["printer", "wave"];
 
 fn main() {
     println!("cargo:rerun-if-changed=build.rs");
     println!("cargo:rerun-if-env-changed=TUGROKT_WAVE");
-    for name in ["reader", "planner", "page"] {
+    for name in ["reader", "planner", "printer"] {
         let upper = name.to_uppercase();
         let archive = env::var(format!("DEP_TUGROKT_{upper}"));
         println!("cargo:rustc-env=LIBRARY_{upper}={}", archive.as_deref().unwrap_or_default());

@@ -57,7 +57,7 @@ extern "C" {
     ) -> usize;
 }
 
-#[cfg(has_page)]
+#[cfg(has_printer)]
 extern "C" {
     pub fn tugrokt_print(
         span: usize,

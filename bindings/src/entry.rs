@@ -3,7 +3,7 @@
 //! The entries ask nothing of their caller: any lists, any rooms and any numbers get an answer. So the only duty here is the
 //! one that Rust's references already meet, that slices are valid and those lent for writing do not overlap.
 
-#[cfg(any(has_reader, has_planner, has_page))]
+#[cfg(any(has_reader, has_planner, has_printer))]
 use crate::border;
 
 /// The lists that planning takes. Lists that belong together have equal length, or the call is refused (13).
@@ -126,7 +126,7 @@ pub fn plan(lists: Lists, rooms: Rooms, ring_length: &mut usize) -> usize {
 
 /// Plans from lists and prints the answer on the page from `place` on; then `place` is just past it. The reply is 0, or the
 /// number of the question that refused the call.
-#[cfg(has_page)]
+#[cfg(has_printer)]
 pub fn print(lists: Lists, rooms: Rooms, page: &mut [u8], place: &mut usize) -> usize {
     let Lists { span, first, last, from, to, low, high } = lists;
     let Rooms { table, plan, earliest, latest, ring } = rooms;

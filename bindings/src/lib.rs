@@ -12,7 +12,7 @@
 //! ```
 //! `examples/` has a whole program, and the same in C.
 
-#[cfg(any(has_reader, has_planner, has_page))]
+#[cfg(any(has_reader, has_planner, has_printer))]
 mod border;
 pub mod entry;
 
@@ -157,7 +157,7 @@ impl Sheet {
     }
 
     /// Plans the sheet and prints the answer page.
-    #[cfg(has_page)]
+    #[cfg(has_printer)]
     pub fn page(&self) -> Result<Vec<u8>, Refusal> {
         let mut own = OwnRooms::new(self);
         let mut page = vec![0; LONGEST_PAGE];
@@ -172,7 +172,7 @@ impl Sheet {
 }
 
 /// Rooms that are long enough for one sheet.
-#[cfg(any(has_planner, has_page))]
+#[cfg(any(has_planner, has_printer))]
 struct OwnRooms {
     table: Vec<i16>,
     plan: Vec<u16>,
@@ -181,7 +181,7 @@ struct OwnRooms {
     ring: Vec<u16>,
 }
 
-#[cfg(any(has_planner, has_page))]
+#[cfg(any(has_planner, has_printer))]
 impl OwnRooms {
     fn new(sheet: &Sheet) -> OwnRooms {
         // A span that is no span is refused before any room is asked for.

@@ -1,6 +1,6 @@
 //! Calls of the planner's open entries with marked rooms, and what must stand in every place afterwards.
 
-#![cfg_attr(not(all(has_reader, has_planner, has_page)), allow(unused))]
+#![cfg_attr(not(all(has_reader, has_planner, has_printer)), allow(unused))]
 
 use crate::questions::{planning_refusal, Lengths, Lists};
 use crate::reading::{read_into, Refusal};
@@ -137,7 +137,7 @@ pub fn planning_fault(lists: &Lists, lengths: &Lengths, solved: Option<&Solved>)
 }
 
 /// What one call of print left.
-#[cfg(has_page)]
+#[cfg(has_printer)]
 #[derive(Clone, Debug, PartialEq, Eq)]
 pub struct Printed {
     pub reply: usize,
@@ -147,7 +147,7 @@ pub struct Printed {
 }
 
 /// Prints in marked rooms of these lengths onto a marked page of this length, from this place on.
-#[cfg(has_page)]
+#[cfg(has_printer)]
 pub fn print(lists: &Lists, lengths: &Lengths, page_length: usize, place: usize) -> Printed {
     let mut printed =
         Printed { reply: 0, rooms: Rooms::marked(lengths), page: marked_u8(page_length), place };
@@ -156,7 +156,7 @@ pub fn print(lists: &Lists, lengths: &Lengths, page_length: usize, place: usize)
 }
 
 /// Is this what a refused call leaves?
-#[cfg(has_page)]
+#[cfg(has_printer)]
 pub fn refused_print_fault(printed: &Printed, number: usize, lengths: &Lengths, place: usize) -> Option<String> {
     differ("reply", &printed.reply, &number)
         .or_else(|| differ("place", &printed.place, &place))
@@ -166,7 +166,7 @@ pub fn refused_print_fault(printed: &Printed, number: usize, lengths: &Lengths, 
 
 /// Prints, and says what is wrong: with all questions answered yes, with a page that is just long enough, and with one that is
 /// a byte too short. `before` is the place to print from, `extra` what the longer page has beyond the answer.
-#[cfg(has_page)]
+#[cfg(has_printer)]
 pub fn printing_fault(
     lists: &Lists,
     lengths: &Lengths,

@@ -52,6 +52,9 @@ impl Tally {
         for (number, times) in self.refused.iter().enumerate().filter(|(_, &times)| times > 0) {
             line += &format!(", {times} refused by {number}");
         }
+        if let Ok(shift) = std::env::var("TUGROKT_SEED") {
+            line += &format!("; TUGROKT_SEED={shift}");
+        }
         let _ = writeln!(std::io::stderr(), "{line}; seed {}", self.seed);
     }
 }

@@ -24,7 +24,7 @@ fn document_cases() {
     }
 }
 
-#[cfg(has_page)]
+#[cfg(has_printer)]
 #[test]
 fn pages() {
     use reference::{enumerated, page};
@@ -61,27 +61,52 @@ fn refusals() {
     assert_eq!(Refusal { question: 7, line: 3 }.to_string(), "(refused 7 (line 3))");
 }
 
+/// What a command writes when it is given this text.
+fn written(command: &mut Command, text: &[u8]) -> String {
+    let mut child = command.stdin(Stdio::piped()).stdout(Stdio::piped()).spawn().expect("the command starts");
+    // A program that reads nothing may have ended.
+    let _ = child.stdin.take().unwrap().write_all(text);
+    String::from_utf8(child.wait_with_output().unwrap().stdout).unwrap()
+}
+
+fn bindings() -> PathBuf {
+    Path::new(env!("ROOT")).join("bindings")
+}
+
 /// The C example, compiled with all warnings against the header and the libraries.
 #[test]
 fn c_example() {
-    let bindings = Path::new(env!("ROOT")).join("bindings");
     let program = PathBuf::from(env!("CARGO_TARGET_TMPDIR")).join("plan");
     let compiled = Command::new("cc")
         .args(["-std=c99", "-pedantic", "-Wall", "-Wextra", "-Werror", "-O1", "-I"])
-        .arg(&bindings)
-        .arg(bindings.join("examples/plan.c"))
+        .arg(bindings())
+        .arg(bindings().join("examples/plan.c"))
         .args([env!("LIBRARY_READER"), env!("LIBRARY_PLANNER"), "-o"])
         .arg(&program)
         .output()
         .expect("cc runs");
     assert!(compiled.status.success(), "{}", String::from_utf8_lossy(&compiled.stderr));
-    let run = |text: &[u8]| {
-        let mut child = Command::new(&program).stdin(Stdio::piped()).stdout(Stdio::piped()).spawn().unwrap();
-        child.stdin.take().unwrap().write_all(text).unwrap();
-        String::from_utf8(child.wait_with_output().unwrap().stdout).unwrap()
-    };
+    let run = |text: &[u8]| written(&mut Command::new(&program), text);
     let all = cases::all();
     assert_eq!(run(&all[1].sheet.text()), "unit 1: slot 1, from 1 to 2\nunit 2: slot 3, from 3 to 4\n");
     assert_eq!(run(&all[3].sheet.text()), "boundary 0\nboundary 3\n");
     assert_eq!(run(b"(sheet 49)\n"), "(refused 6 (line 1))\n");
+}
+
+#[test]
+fn rust_examples() {
+    let run = |example: &str, text: &[u8]| {
+        let mut cargo = Command::new(env!("CARGO"));
+        cargo.args(["run", "--offline", "--release", "--quiet", "--example", example]).current_dir(bindings());
+        cargo.env("CARGO_TARGET_DIR", Path::new(env!("CARGO_TARGET_TMPDIR")).join("examples"));
+        written(&mut cargo, text)
+    };
+    let slots = |text: &str| text.lines().filter(|l| l.starts_with("unit ")).map(str::to_string).collect::<Vec<_>>();
+    assert_eq!(slots(&run("plan", b"")), ["unit 1: slot 1, from 1 to 2", "unit 2: slot 3, from 3 to 4"]);
+    let all = cases::all();
+    let p2 = run("sheet", &all[1].sheet.text());
+    assert_eq!(slots(&p2), ["unit 1: slot 1, in lawful plans 1 to 2", "unit 2: slot 3, in lawful plans 3 to 4"]);
+    assert!(p2.ends_with("slot 3: 1, in lawful plans 0 to 1\nslot 4: 0, in lawful plans 0 to 1\n"), "{p2}");
+    assert_eq!(run("sheet", &all[3].sheet.text()), "no plan; a ring of boundaries: [0, 3]\n");
+    assert_eq!(run("sheet", b"(sheet 49)\n"), "(refused 6 (line 1))\n");
 }

@@ -105,7 +105,7 @@ fn by_reading_and_planning() {
     check(page_by_calls);
 }
 
-#[cfg(has_page)]
+#[cfg(has_printer)]
 #[test]
 fn by_printing() {
     check(|text| match tugrokt::Sheet::read(text).and_then(|sheet| sheet.page()) {

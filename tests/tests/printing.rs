@@ -1,11 +1,22 @@
 //! Printing, through the border: page, place and rooms against the model, and refusals by every question.
-#![cfg(has_page)]
+#![cfg(has_printer)]
 
 use reference::calls::{print, printing_fault, refused_print_fault, Printed};
 use reference::questions::{planning_refusal, Lengths, Lists};
 use reference::random::{any_sheet, largest_sheet, small_sheet, Random};
-use reference::sheet::Sheet;
+use reference::sheet::{Sheet, Solved};
+use reference::tally::Tally;
 use reference::{cases, computed, effort, enumerated, page, seed};
+
+/// Prints from some place on, counts the case, and fails where anything differs from the model.
+fn hold(tally: &mut Tally, r: &mut Random, sheet: &Sheet, solved: Option<&Solved>) {
+    let case = tally.all();
+    tally.add(0, if solved.is_some() { "with a plan" } else { "with none" });
+    let (before, extra) = (r.below(20), r.below(20));
+    if let Some(fault) = printing_fault(&Lists::from(sheet), &Lengths::exact(sheet), solved, before, extra) {
+        panic!("seed {} case {case}: {sheet:?}\n{fault}", tally.seed());
+    }
+}
 
 #[test]
 fn document_cases() {
@@ -28,30 +39,24 @@ fn document_cases() {
 
 #[test]
 fn small_sheets() {
+    let mut tally = Tally::new("printing small sheets, all plans tried", seed(301));
     for i in 0..effort(6_000) {
         let mut r = Random::of_case(seed(301), i);
         let sheet = small_sheet(&mut r);
-        let solved = enumerated::solve(&sheet);
-        let (before, extra) = (r.below(20), r.below(20));
-        let fault = printing_fault(&Lists::from(&sheet), &Lengths::exact(&sheet), solved.as_ref(), before, extra);
-        if let Some(fault) = fault {
-            panic!("seed {} case {i}: {sheet:?}\n{fault}", seed(301));
-        }
+        hold(&mut tally, &mut r, &sheet, enumerated::solve(&sheet).as_ref());
     }
+    tally.report();
 }
 
 #[test]
 fn sheets_of_all_sizes() {
+    let mut tally = Tally::new("printing sheets of all sizes", seed(302));
     for i in 0..effort(600) {
         let mut r = Random::of_case(seed(302), i);
         let sheet = if i % 20 == 0 { largest_sheet(&mut r, 1, 48) } else { any_sheet(&mut r) };
-        let solved = computed::solve(&sheet);
-        let (before, extra) = (r.below(20), r.below(20));
-        let fault = printing_fault(&Lists::from(&sheet), &Lengths::exact(&sheet), solved.as_ref(), before, extra);
-        if let Some(fault) = fault {
-            panic!("seed {} case {i}: {sheet:?}\n{fault}", seed(302));
-        }
+        hold(&mut tally, &mut r, &sheet, computed::solve(&sheet).as_ref());
     }
+    tally.report();
 }
 
 /// A page of every length up to the answer's own, and places past the page's end.

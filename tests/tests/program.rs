@@ -6,7 +6,18 @@ use std::time::Duration;
 use reference::damage::{any_text, note_of_depth, valid, with_notes};
 use reference::program::{fault, output_fault, run};
 use reference::random::{any_sheet, largest_sheet, Random};
+use reference::reading::read;
+use reference::tally::Tally;
 use reference::{cases, effort, seed};
+
+/// Runs the program on a text, counts the case, and fails where anything differs from the model.
+fn hold(tally: &mut Tally, text: &[u8]) {
+    let case = tally.all();
+    tally.add(read(text).map_or_else(|r| r.number, |_| 0), "answered");
+    if let Some(fault) = fault(text) {
+        panic!("seed {} case {case}: {:?}\n{fault}", tally.seed(), String::from_utf8_lossy(text));
+    }
+}
 
 fn written(text: &str) -> String {
     String::from_utf8_lossy(&run(text.as_bytes(), &[], None)).into_owned()
@@ -92,14 +103,13 @@ fn texts_that_are_too_long() {
 
 #[test]
 fn sheets_at_random() {
+    let mut tally = Tally::new("the program on sheets at random", seed(402));
     for i in 0..effort(600) {
         let mut r = Random::of_case(seed(402), i);
         let sheet = any_sheet(&mut r);
-        let text = with_notes(&mut r, &sheet);
-        if let Some(fault) = fault(&text) {
-            panic!("seed {} case {i}: {:?}\n{fault}", seed(402), String::from_utf8_lossy(&text));
-        }
+        hold(&mut tally, &with_notes(&mut r, &sheet));
     }
+    tally.report();
 }
 
 #[test]
@@ -112,10 +122,9 @@ fn largest_sheets() {
 
 #[test]
 fn damaged_texts() {
+    let mut tally = Tally::new("the program on texts at random", seed(404));
     for i in 0..effort(10_000) {
-        let text = any_text(&mut Random::of_case(seed(404), i));
-        if let Some(fault) = fault(&text) {
-            panic!("seed {} case {i}: {:?}\n{fault}", seed(404), String::from_utf8_lossy(&text));
-        }
+        hold(&mut tally, &any_text(&mut Random::of_case(seed(404), i)));
     }
+    tally.report();
 }
