@@ -10,8 +10,9 @@ use std::process::Command;
 use std::time::SystemTime;
 use std::{env, fs};
 
-/// Each crate that has an open entry, and the entry's name.
-const ENTRIES: [(&str, &str); 3] = [("reader", "tugrokt_read"), ("planner", "tugrokt_plan"), ("printer", "tugrokt_print")];
+/// Each crate that exports an entry, and the entry's name.
+const ENTRIES: [(&str, &str); 4] =
+    [("reader", "tugrokt_read"), ("planner", "tugrokt_plan"), ("printer", "tugrokt_print"), ("cycles", "tugrokt_pass")];
 
 fn main() {
     let root = Path::new(&env::var("CARGO_MANIFEST_DIR").unwrap()).join("..").canonicalize().unwrap();

@@ -65,6 +65,18 @@ size_t tugrokt_print(size_t span,
                      uint16_t *earliest, size_t earliest_length, uint16_t *latest, size_t latest_length,
                      uint16_t *ring, size_t ring_length, uint8_t *page, size_t page_length, size_t *place);
 
+/*
+ * The pass over a table of w rows of w numbers, in place: 0 where it finished, 1 where a diagonal entry fell below 0, 2 where a
+ * sum is out of range; then the w*w places are 0. Needs 1 <= w <= TUGROKT_MOST_BOUNDARIES and w*w places in t. Link libcycles.a.
+ */
+size_t tugrokt_pass(int16_t *t, size_t t_length, size_t w);
+
+/*
+ * A negative cycle of the weights d, at the front of out: its length. Needs 2 <= w <= TUGROKT_MOST_BOUNDARIES, w*w places in d, w in
+ * out, weights from -600 to 600 with zeros on the diagonal, and that tugrokt_pass stops on them.
+ */
+size_t tugrokt_cycle(const int16_t *d, size_t d_length, size_t w, uint16_t *out, size_t out_length);
+
 #ifdef __cplusplus
 }
 #endif

@@ -14,7 +14,7 @@ const MAY_BE_MISSING: &[&str] = &["printer", "wave"];
 fn main() {
     println!("cargo:rerun-if-changed=build.rs");
     println!("cargo:rerun-if-env-changed=TUGROKT_WAVE");
-    for name in ["reader", "planner", "printer"] {
+    for name in ["reader", "planner", "printer", "cycles"] {
         let upper = name.to_uppercase();
         let archive = env::var(format!("DEP_TUGROKT_{upper}"));
         println!("cargo:rustc-env=LIBRARY_{upper}={}", archive.as_deref().unwrap_or_default());

@@ -88,3 +88,9 @@ extern "C" {
         place: *mut usize,
     ) -> usize;
 }
+
+#[cfg(has_cycles)]
+extern "C" {
+    pub fn tugrokt_pass(t: *mut i16, t_length: usize, w: usize) -> usize;
+    pub fn tugrokt_cycle(d: *const i16, d_length: usize, w: usize, out: *mut u16, out_length: usize) -> usize;
+}

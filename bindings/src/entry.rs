@@ -3,7 +3,7 @@
 //! The entries ask nothing of their caller: any lists, any rooms and any numbers get an answer. So the only duty here is the
 //! one that Rust's references already meet, that slices are valid and those lent for writing do not overlap.
 
-#[cfg(any(has_reader, has_planner, has_printer))]
+#[cfg(any(has_reader, has_planner, has_printer, has_cycles))]
 use crate::border;
 
 /// The lists that planning takes. Lists that belong together have equal length, or the call is refused (13).
@@ -161,4 +161,46 @@ pub fn print(lists: Lists, rooms: Rooms, page: &mut [u8], place: &mut usize) -> 
             place,
         )
     }
+}
+
+/// How a pass over a table of weights ends.
+#[derive(Clone, Copy, Debug, PartialEq, Eq)]
+pub enum Outcome {
+    Finished,
+    Stopped,
+    OutOfRange,
+}
+
+/// The greatest number of boundaries of a table.
+pub const MOST_BOUNDARIES: usize = 49;
+
+/// Closes the table of `w` boundaries in place. This function asks something, and tests it here: there is nothing to do where the
+/// table has no boundary, too many, or is too short.
+#[cfg(has_cycles)]
+pub fn pass(table: &mut [i16], w: usize) -> Option<Outcome> {
+    if w == 0 || w > MOST_BOUNDARIES || table.len() < w * w {
+        return None;
+    }
+    // SAFETY: the pointer comes from a reference with the length beside it, and what the function asks was tested.
+    Some(match unsafe { border::tugrokt_pass(table.as_mut_ptr(), table.len(), w) } {
+        0 => Outcome::Finished,
+        1 => Outcome::Stopped,
+        _ => Outcome::OutOfRange,
+    })
+}
+
+/// A negative cycle of the weights, at the front of `out`: its length. `None` where the weights are not such as the function asks:
+/// from -600 to 600, zeros on the diagonal, and no potential feasible, which a pass over a copy tells.
+#[cfg(has_cycles)]
+pub fn negative_cycle(weights: &[i16], w: usize, out: &mut [u16]) -> Option<usize> {
+    let mut copy = weights.to_vec();
+    if w < 2 || out.len() < w || pass(&mut copy, w) != Some(Outcome::Stopped) {
+        return None;
+    }
+    let bounded = weights[..w * w].iter().all(|d| (-600..=600).contains(d));
+    if !bounded || (0..w).any(|a| weights[a * w + a] != 0) {
+        return None;
+    }
+    // SAFETY: the pointers come from references with the lengths beside them, and what the function asks was tested.
+    Some(unsafe { border::tugrokt_cycle(weights.as_ptr(), weights.len(), w, out.as_mut_ptr(), out.len()) })
 }
