@@ -3,7 +3,7 @@
 use mathlib.Core.Path.{_≡_, refl, sym, ap, _∙_, subst}
 use mathlib.Core.Logic.{_⊎_, inl, inr, ⊎-elim}
 use mathlib.Core.Bool.{Bool, true, false, _&&_, not}
-use mathlib.Core.List.{List, [], _∷_, _++_, map, List·Memᴰ·head, List·Memᴰ·tail}
+use mathlib.Core.List.{List, [], _∷_, _++_, map, List·Memᴰ·head, List·Memᴰ·tail, List·Memᴰ·not-nil, List·Memᴰ·cases-cons}
 use Prim.Native.Nat.{ℕ, zero, suc, _+_, _-_, _*_, _≤_, _<_}
 use native.Mathlib.Omega.{arith}
 use native.Mathlib.Nat.{suc-mul, mul-le-mul-right}
@@ -18,7 +18,7 @@ use Rattle.lists.specs.Members.{In, left, right, in-keep, in-map, every-in}
 use Rattle.lists.specs.Extremes.{least-in, greatest-in}
 use Rattle.lists.specs.Counts.{howMany-count, count-most}
 use Rattle.network.specs.Network.{Weights, via, around, distinct, lowestFirst, isNegativeCycle}
-use Rattle.network.specs.NetworkLaws.{upto-of-every}
+use Rattle.network.specs.NetworkLaws.{Upto, upto-of-every}
 use Rattle.cycles.specs.CycleLaws.{Distinct, distinct-length}
 use Rattle.network.specs.Table.{mostBoundaries}
 use Rattle.sheet.specs.Limits.{maxSlots, maxUnits, maxCount}
@@ -106,16 +106,12 @@ module _ {span : ℕ} {slots first last : List ℕ} {low high : ℕ → ℕ} (s 
   unfolding slotLines slotLineAt
   slots-short =
       let e : suc span - 1 ≡ span = omega arith in
-      omega (
-        arith,
-        ap (λ k. k * maxSlotLine) e,
-        lines-short (slotLineAt (unitsIn slots) low high) maxSlotLine 1 (suc span - 1)
-            (λ t p q.
-            let b = s .ranges t in
-            let c = howMany-count (eqb t) 0 slots in
-            slotLine-short t (unitsIn slots t) (low t) (high t) (omega (arith, s .spans))
-            (omega (arith, c, count-most (length slots) (λ i. eqb t (getD slots i 0)), s .units)) (omega arith) (omega arith)),
-      )
+      omega (arith, ap (λ k. k * maxSlotLine) e, lines-short (slotLineAt (unitsIn slots) low high) maxSlotLine 1 (suc span - 1)
+      (λ t p q.
+        let b = s .ranges t in
+        let c = howMany-count (eqb t) 0 slots in
+        slotLine-short t (unitsIn slots t) (low t) (high t) (omega (arith, s .spans))
+        (omega (arith, c, count-most (length slots) (λ i. eqb t (getD slots i 0)), s .units)) (omega arith) (omega arith)))
 
   pub planPage-short : length (planPage span slots first last low high) ≤ maxPage
   unfolding planPage
@@ -209,21 +205,21 @@ module _ (d : Weights) (small : SmallSteps d) where
   unfolding text
   stepLine-short a b ha hb = elim (decLe b a) [
     | yes l ↦ omega (
-      arith,
-      ap length (step-backward d a b l),
-      boundLine-length (text "(at-least ") (dn (d a b)) (suc b) a,
-      three-at-most (dn (d a b)) (omega (arith, small .at a b ha hb)),
-      two-at-most (suc b) (omega arith),
-      two-at-most a (omega arith),
-    )
+        arith,
+        ap length (step-backward d a b l),
+        boundLine-length (text "(at-least ") (dn (d a b)) (suc b) a,
+        three-at-most (dn (d a b)) (omega (arith, small .at a b ha hb)),
+        two-at-most (suc b) (omega arith),
+        two-at-most a (omega arith),
+      )
     | no g ↦ omega (
-      arith,
-      ap length (step-forward d a b (omega arith)),
-      boundLine-length (text "(at-most ") (up (d a b)) (suc a) b,
-      three-at-most (up (d a b)) (omega (arith, small .at a b ha hb)),
-      two-at-most (suc a) (omega arith),
-      two-at-most b (omega arith),
-    )
+        arith,
+        ap length (step-forward d a b (omega arith)),
+        boundLine-length (text "(at-most ") (up (d a b)) (suc a) b,
+        three-at-most (up (d a b)) (omega (arith, small .at a b ha hb)),
+        two-at-most (suc a) (omega arith),
+        two-at-most b (omega arith),
+      )
   ]
 
   stepLines-short : (a : ℕ) (bs : List ℕ) (e : ℕ) → a ≤ maxSlots → ((b : ℕ) → In b bs → b ≤ maxSlots) → e ≤ maxSlots
@@ -269,19 +265,37 @@ distinct-read (a ∷ bs) h =
     clash true p q = q
     clash false p q = p
 
+-- what a ring of a sheet is, as printing asks it
+pub record RingRead (top : ℕ) (ring : List ℕ) : Type 0 where
+  pub long : 2 ≤ length ring
+  pub few : length ring ≤ suc top
+  pub upto : Upto top ring
+
+pub ring-read : (s : Sheet) (ring : List ℕ) → T (isRing s ring) → RingRead (top s) ring
+unfolding isRing isNegativeCycle
+ring-read s ring h =
+    let e = every (λ b. leb b (top s)) ring in
+    let rest = lowestFirst ring && ltZ (around (limit s) ring) (pos 0) in
+    let h₁ = right (leb 2 (length ring)) (e && (distinct ring && rest)) h in
+    let inside = upto-of-every (top s) ring (left e (distinct ring && rest) h₁) in
+    let apart = left (distinct ring) rest (right e (distinct ring && rest) h₁) in
+    record {
+      long = leb→le 2 (length ring) (left (leb 2 (length ring)) (e && (distinct ring && rest)) h);
+      few = distinct-length (top s) ring inside (distinct-read ring apart);
+      upto = inside;
+    }
+
+upto-in : (most : ℕ) (ring : List ℕ) → Upto most ring → (b : ℕ) → In b ring → b ≤ most
+upto-in most [] h b m = absurd (List·Memᴰ·not-nil m)
+upto-in most (a ∷ bs) h b m = ⊎-elim (λ e. omega (arith, h .0)) (upto-in most bs (h .1) b) (List·Memᴰ·cases-cons m)
+
 module _ (s : Sheet) (ok : T (accepted s)) where
   limits-small : SmallSteps (limit s)
   limits-small = record { at = λ a b ha hb. limit-small s ok a b }
 
   pub none-short : (ring : List ℕ) → T (isRing s ring) → length (nonePage (limit s) ring) ≤ maxPage
-  unfolding isRing isNegativeCycle top
+  unfolding top
   none-short ring h =
-      let e = every (λ b. leb b (s .span)) ring in
-      let rest = lowestFirst ring && ltZ (around (limit s) ring) (pos 0) in
-      let h₁ = right (leb 2 (length ring)) (e && (distinct ring && rest)) h in
-      let inside = left e (distinct ring && rest) h₁ in
-      let apart = left (distinct ring) rest (right e (distinct ring && rest) h₁) in
+      let r = ring-read s ring h in
       let most = accepted-sized s ok .slots .1 in
-      nonePage-short (limit s) limits-small ring
-      (omega (arith, distinct-length (s .span) ring (upto-of-every (s .span) ring inside) (distinct-read ring apart)))
-      (λ b m. omega (arith, leb→le b (s .span) (every-in (λ b. leb b (s .span)) b ring m inside)))
+      nonePage-short (limit s) limits-small ring (omega (arith, r .few)) (λ b m. omega (arith, upto-in (top s) ring (r .upto) b m))

@@ -2,18 +2,21 @@
 -- Key idea: an index that walks a ring has behind it what is written, or counted, and before it the steps from its place on and back to the first boundary.
 use mathlib.Core.Path.{_≡_, refl, sym, ap, ap₂, _∙_}
 use mathlib.Core.Logic.{⊎-elim}
+use mathlib.Core.Bool.{cond}
 use mathlib.Core.List.{List, [], _∷_, map, append-nil}
 use Prim.Native.Nat.{ℕ, zero, suc, _+_, _-_, _≤_, _<_}
 use native.Mathlib.Omega.{arith}
 use native.Mathlib.Numerals.{add-one}
 use lib.ListN.{length, drop, getD, length-append, drop-of-length-le}
-use lib.IntN.{ℤ, _+ℤ_}
+use lib.Dec.{ltb}
+use lib.IntN.{ℤ, negℤ, _+ℤ_}
 use lib.Seq.{drop-cons}
 use borrow.Author.Tests.{lt-ltb, le-ltb}
 use Rattle.integers.specs.Parts.{up, dn, sum, neg, apart}
 use Rattle.lists.specs.Lists.{run, joined}
 use Rattle.lists.specs.Values.{values-same}
 use Rattle.network.specs.Network.{Weights, via, around}
+use Rattle.network.specs.NetworkLaws.{Upto}
 use Rattle.writing.specs.Writing.{text, digits, planHead, boundLine, shortfallLine}
 use Rattle.page.specs.Page.{unitLines, slotLineAt, slotLines, planPage, stepLine, stepLines, ringLines, shortfallOf, nonePage}
 
@@ -139,3 +142,26 @@ pub nonePage-length : (d : Weights) (ring : List ℕ)
     → length (nonePage d ring) ≡ 14 + (length (joined (ringLines d ring)) + (13 + length (digits (shortfallOf d ring))))
 unfolding nonePage shortfallLine text
 nonePage-length d ring = simp length-append (omega arith)
+
+-- ---- the page of a ring depends on the limits of its own steps alone
+module _ (top : ℕ) (d e : Weights) (same : (a b : ℕ) → a ≤ top → b ≤ top → d a b ≡ e a b) where
+  stepLine-same : (a b : ℕ) → a ≤ top → b ≤ top → stepLine d a b ≡ stepLine e a b
+  unfolding stepLine
+  stepLine-same a b ha hb =
+      ap (λ v. cond (ltb a b) (boundLine (text "(at-most ") (up v) (suc a) b) (boundLine (text "(at-least ") (up (negℤ v)) (suc b) a)) (same a b ha hb)
+
+  stepLines-same : (a : ℕ) (bs : List ℕ) (z : ℕ) → a ≤ top → Upto top bs → z ≤ top → stepLines d a bs z ≡ stepLines e a bs z
+  unfolding stepLines
+  stepLines-same a [] z ha h hz = ap (λ l. l ∷ []) (stepLine-same a z ha hz)
+  stepLines-same a (b ∷ bs) z ha h hz = ap₂ (λ l ls. l ∷ ls) (stepLine-same a b ha (h .0)) (stepLines-same b bs z (h .0) (h .1) hz)
+
+  via-same : (a : ℕ) (bs : List ℕ) (z : ℕ) → a ≤ top → Upto top bs → z ≤ top → via d a bs z ≡ via e a bs z
+  via-same a [] z ha h hz = same a z ha hz
+  via-same a (b ∷ bs) z ha h hz = ap₂ _+ℤ_ (same a b ha (h .0)) (via-same b bs z (h .0) (h .1) hz)
+
+  pub nonePage-same : (ring : List ℕ) → Upto top ring → nonePage d ring ≡ nonePage e ring
+  unfolding nonePage ringLines
+  nonePage-same [] h = refl
+  nonePage-same (a ∷ bs) h =
+      ap₂ (λ ls k. joined (text "(answer none)\n" ∷ joined ls ∷ shortfallLine (up (negℤ k)) ∷ []))
+      (stepLines-same a bs a (h .0) (h .1) (h .0)) (via-same a bs a (h .0) (h .1) (h .0))

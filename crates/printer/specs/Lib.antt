@@ -1,0 +1,5 @@
+pub mod Printing
+pub mod PrintingLaws
+pub mod AnswerLaws
+pub mod CallLaws
+pub mod OwnLaws
