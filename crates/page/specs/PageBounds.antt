@@ -106,12 +106,16 @@ module _ {span : ℕ} {slots first last : List ℕ} {low high : ℕ → ℕ} (s 
   unfolding slotLines slotLineAt
   slots-short =
       let e : suc span - 1 ≡ span = omega arith in
-      omega (arith, ap (λ k. k * maxSlotLine) e, lines-short (slotLineAt (unitsIn slots) low high) maxSlotLine 1 (suc span - 1)
-      (λ t p q.
-        let b = s .ranges t in
-        let c = howMany-count (eqb t) 0 slots in
-        slotLine-short t (unitsIn slots t) (low t) (high t) (omega (arith, s .spans))
-        (omega (arith, c, count-most (length slots) (λ i. eqb t (getD slots i 0)), s .units)) (omega arith) (omega arith)))
+      omega (
+        arith,
+        ap (λ k. k * maxSlotLine) e,
+        lines-short (slotLineAt (unitsIn slots) low high) maxSlotLine 1 (suc span - 1)
+            (λ t p q.
+            let b = s .ranges t in
+            let c = howMany-count (eqb t) 0 slots in
+            slotLine-short t (unitsIn slots t) (low t) (high t) (omega (arith, s .spans))
+            (omega (arith, c, count-most (length slots) (λ i. eqb t (getD slots i 0)), s .units)) (omega arith) (omega arith)),
+      )
 
   pub planPage-short : length (planPage span slots first last low high) ≤ maxPage
   unfolding planPage
@@ -205,21 +209,21 @@ module _ (d : Weights) (small : SmallSteps d) where
   unfolding text
   stepLine-short a b ha hb = elim (decLe b a) [
     | yes l ↦ omega (
-        arith,
-        ap length (step-backward d a b l),
-        boundLine-length (text "(at-least ") (dn (d a b)) (suc b) a,
-        three-at-most (dn (d a b)) (omega (arith, small .at a b ha hb)),
-        two-at-most (suc b) (omega arith),
-        two-at-most a (omega arith),
-      )
+      arith,
+      ap length (step-backward d a b l),
+      boundLine-length (text "(at-least ") (dn (d a b)) (suc b) a,
+      three-at-most (dn (d a b)) (omega (arith, small .at a b ha hb)),
+      two-at-most (suc b) (omega arith),
+      two-at-most a (omega arith),
+    )
     | no g ↦ omega (
-        arith,
-        ap length (step-forward d a b (omega arith)),
-        boundLine-length (text "(at-most ") (up (d a b)) (suc a) b,
-        three-at-most (up (d a b)) (omega (arith, small .at a b ha hb)),
-        two-at-most (suc a) (omega arith),
-        two-at-most b (omega arith),
-      )
+      arith,
+      ap length (step-forward d a b (omega arith)),
+      boundLine-length (text "(at-most ") (up (d a b)) (suc a) b,
+      three-at-most (up (d a b)) (omega (arith, small .at a b ha hb)),
+      two-at-most (suc a) (omega arith),
+      two-at-most b (omega arith),
+    )
   ]
 
   stepLines-short : (a : ℕ) (bs : List ℕ) (e : ℕ) → a ≤ maxSlots → ((b : ℕ) → In b bs → b ≤ maxSlots) → e ≤ maxSlots

@@ -265,7 +265,6 @@ howMany-append : {A : Type 0} (t : A → Bool) (xs ys : List A) → howMany t (x
 howMany-append t [] ys = omega arith
 howMany-append t (x ∷ xs) ys = omega (arith, howMany-append t xs ys)
 
-
 -- lines one after another, and then more
 read-lines : (f : ℕ → List ℕ) (g : ℕ → Said) → ((j : ℕ) → Says (f j) (g j)) → (i k : ℕ) (t : List ℕ)
     → readLines (joined (map f (run i k)) ++ t) ≡ map g (run i k) ++ readLines t
@@ -328,9 +327,9 @@ module _ (span : ℕ) (slots first last : List ℕ) (low high : ℕ → ℕ) whe
   found s m =
       ⊎-map (λ e. e)
       (λ r. ⊎-map
-        (λ u. let p = in-map unitSaid s (run 0 (length slots)) u in let b = in-run (p .0) 0 (length slots) (p .1) in (p .0, omega arith, p .2))
-        (λ v. let p = in-map slotSaid s (fromTo 1 span) v in let b = in-run (p .0) 1 (suc span - 1) (p .1) in (p .0, b .0, omega arith, p .2))
-        (List·Memᴰ·append-cases (map unitSaid (run 0 (length slots))) r))
+      (λ u. let p = in-map unitSaid s (run 0 (length slots)) u in let b = in-run (p .0) 0 (length slots) (p .1) in (p .0, omega arith, p .2))
+      (λ v. let p = in-map slotSaid s (fromTo 1 span) v in let b = in-run (p .0) 1 (suc span - 1) (p .1) in (p .0, b .0, omega arith, p .2))
+      (List·Memᴰ·append-cases (map unitSaid (run 0 (length slots))) r))
       (List·Memᴰ·cases-cons (subst (In s) plan-read m))
 
   -- On each slot line the count is the number of this answer's unit lines with that slot, and the range is the least and the greatest.
@@ -338,13 +337,14 @@ module _ (span : ℕ) (slots first last : List ℕ) (low high : ℕ → ℕ) whe
   slot-line-true t c l g m = ⊎-elim
       (λ e. absurd (omega (arith, ap kind e)))
       (λ r. ⊎-elim
-        (λ u. absurd (omega (arith, ap kind (u .2))))
-        (λ v.
-          let same = ap (parts 0) (v .3) in
-          (ap (parts 1) (v .3) ∙ ap (unitsIn slots) (sym same) ∙ sym (lines-with t),
-          ap (parts 2) (v .3) ∙ ap low (sym same),
-          ap (parts 3) (v .3) ∙ ap high (sym same)))
-        r)
+      (λ u. absurd (omega (arith, ap kind (u .2))))
+      (λ v.
+      let same = ap (parts 0) (v .3) in (
+        ap (parts 1) (v .3) ∙ ap (unitsIn slots) (sym same) ∙ sym (lines-with t),
+        ap (parts 2) (v .3) ∙ ap low (sym same),
+        ap (parts 3) (v .3) ∙ ap high (sym same),
+      ))
+      r)
       (found (slot t c l g) m)
 
   -- On each unit line stand the unit's slot and its narrowed window.
@@ -353,14 +353,18 @@ module _ (span : ℕ) (slots first last : List ℕ) (low high : ℕ → ℕ) whe
   unit-line-true u x e l m = ⊎-elim
       (λ q. absurd (omega (arith, ap kind q)))
       (λ r. ⊎-elim
-        (λ p.
-          let j = p .0 in
-          let same : u ≡ suc j = ap (parts 0) (p .2) in
-          let k : j ≡ u - 1 = omega arith in
-          (omega arith, omega (arith, p .1), ap (parts 1) (p .2) ∙ ap (λ i. getD slots i 0) k, ap (parts 2) (p .2) ∙ ap (λ i. getD first i 0) k,
-          ap (parts 3) (p .2) ∙ ap (λ i. getD last i 0) k))
-        (λ v. absurd (omega (arith, ap kind (v .3))))
-        r)
+      (λ p.
+      let j = p .0 in
+      let same : u ≡ suc j = ap (parts 0) (p .2) in
+      let k : j ≡ u - 1 = omega arith in (
+        omega arith,
+        omega (arith, p .1),
+        ap (parts 1) (p .2) ∙ ap (λ i. getD slots i 0) k,
+        ap (parts 2) (p .2) ∙ ap (λ i. getD first i 0) k,
+        ap (parts 3) (p .2) ∙ ap (λ i. getD last i 0) k,
+      ))
+      (λ v. absurd (omega (arith, ap kind (v .3))))
+      r)
       (found (unit u x e l) m)
 
 -- ---- the page of a ring, read
@@ -404,6 +408,6 @@ answer-read {page} {at} {bytes} {left} {next} room w =
     let n : next - at ≡ length bytes = omega (arith, w .moved) in
     let front : length (take at page) ≡ at = length-take-le at page (omega (arith, room .fits)) in
     let e : drop at left ≡ bytes ++ drop (at + length bytes) page =
-        ap (drop at) (w .filled ∙ append-assoc (take at page) bytes (drop (at + length bytes) page))
-        ∙ drop-at (take at page) (bytes ++ drop (at + length bytes) page) at front in
+    ap (drop at) (w .filled ∙ append-assoc (take at page) bytes (drop (at + length bytes) page))
+    ∙ drop-at (take at page) (bytes ++ drop (at + length bytes) page) at front in
     ap readLines (ap₂ take n e ∙ take-at bytes (drop (at + length bytes) page) (length bytes) refl)

@@ -7,7 +7,15 @@ ghost use Rattle.network.specs.Table.{entry, mostBoundaries};
 ghost use Rattle.sheet.specs.Limits.{maxSlots, maxUnits};
 ghost use Rattle.writing.specs.Writing.{Room, Written, maxLine};
 ghost use Rattle.page.specs.Page.{unitLines, slotLines, tally, leastFrom, greatestFrom, Printable, tablePage, stepLine, ringLines, shortfallOf, nonePage, RingFits};
-use writing::{bound_length, digit_count, put_bound, put_one_number, put_slot, put_unit, put_word, slot_length, unit_length};
+use writing::bound_length;
+use writing::digit_count;
+use writing::put_bound;
+use writing::put_one_number;
+use writing::put_slot;
+use writing::put_unit;
+use writing::put_word;
+use writing::slot_length;
+use writing::unit_length;
 
 // The answer page: that of a plan and that of a ring, each with its length.
 

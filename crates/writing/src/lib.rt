@@ -170,7 +170,14 @@ pub fn put_slot(
     )
 }
 
-pub fn put_bound(page: &mut [u8], at: usize, word: &[u8], bound: u16, first: u16, last: u16) -> usize
+pub fn put_bound(
+    page: &mut [u8],
+    at: usize,
+    word: &[u8],
+    bound: u16,
+    first: u16,
+    last: u16,
+) -> usize
     requires { ⌜ Room (now page) at (boundLine (now word) bound first last) ⌝ }
     ensures { λ r. ⌜ Written (now (page .entry)) at (boundLine (now (word .entry)) bound first last) (now (page .exit)) r ⌝ }
 {
