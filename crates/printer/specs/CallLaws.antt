@@ -5,22 +5,21 @@ use mathlib.Core.Bool.{Bool, true, false, _&&_}
 use mathlib.Core.List.{List, [], _∷_, _++_}
 use Prim.Native.Nat.{ℕ, suc, _+_, _-_, _*_, _≤_, _<_}
 use native.Mathlib.Omega.{arith}
-use native.Mathlib.Nat.{mul-le-mul}
-use lib.Dec.{T, leb, le→leb}
+use lib.Dec.{T}
 use lib.ListN.{length, take, drop}
 use lib.Seq.{take-at}
 use lib.IntN.{ℤ}
-use Rattle.lists.specs.Members.{both}
 use Rattle.network.specs.Table.{Passed, finished, stopped, outOfRange, cleared, entry}
 use Rattle.sheet.specs.Sheet.{Sheet, printedPlan, earliestSlots, latestSlots, isRing}
 use Rattle.sheet.specs.LimitTable.{boundaries, limitTable}
 use Rattle.sheet.specs.Questions.{accepted}
-use Rattle.sheet.specs.QuestionLaws.{accepted-sized}
-use Rattle.planner.specs.Planning.{Rooms, lent, places, roomsFit, fitsRooms, passed, planned, ringed, refused, Verdict, byPass, Left}
+use Rattle.planner.specs.EntryLaws.{lengthsOf, entry-refused, entry-solved}
+use Rattle.planner.specs.Asking.{askedNo}
+use Rattle.planner.specs.Planning.{Lists, Rooms, given, lent, places, roomsFit, fitsRooms, passed, planned, ringed, refused, Verdict, byPass, Left}
 use Rattle.planner.specs.declared.Answer.{Answer}
 use Rattle.planner.specs.declared.Answer.the-variants as planning
 use Rattle.page.specs.Page.{tablePage, nonePage}
-use Rattle.printer.specs.Printing.{planBytes, ringBytes, onFront, holds, Outcome, Asked, PrintingOf}
+use Rattle.printer.specs.Printing.{planBytes, ringBytes, onFront, holds, Outcome, Asked, PrintingOf, Printing}
 use Rattle.printer.specs.AnswerLaws.{boundaries-span, table-size, seats-size, firsts-size, lasts-size, plan-bytes, ring-bytes}
 use Rattle.printer.specs.declared.Printed.{Printed}
 use Rattle.printer.specs.declared.Printed.the-variants.{Refused, Plan, None}
@@ -110,7 +109,7 @@ module _ (s : Sheet) (ok : T (accepted s)) (table : List ℤ) (plan earliest lat
     plan-printed t e table′ plan′ earliest′ latest′ o =
         let n = length (s .units) in
         let rooms : lent (onFront t table) (onFront (printedPlan s) plan) (onFront (earliestSlots s) earliest) (onFront (latestSlots s) latest) ring ≡ planned s t before =
-        rw (table-size s ok t e, seats-size s ok t e, firsts-size s ok t e, lasts-size s ok t e) refl in
+            rw (table-size s ok t e, seats-size s ok t e, firsts-size s ok t e, lasts-size s ok t e) refl in
         let bytes = tablePage (s .span) (printedPlan s) (earliestSlots s) (latestSlots s) t in
         record {
           answer = planning.Plan;
@@ -133,10 +132,10 @@ module _ (s : Sheet) (ok : T (accepted s)) (table : List ℤ) (plan earliest lat
     ring-printed c h e w sw room fits table′ ring′ o =
         let bytes = nonePage (entry w (limitTable s room)) c in
         let rooms : lent (cleared (w * w) table) plan earliest latest (onFront c ring) ≡ ringed s c before =
-        ap (λ k. lent (cleared (k * k) table) plan earliest latest (onFront c ring)) (sw ∙ sym (boundaries-span s ok)) in
+            ap (λ k. lent (cleared (k * k) table) plan earliest latest (onFront c ring)) (sw ∙ sym (boundaries-span s ok)) in
         let found : take (length c) (ringed s c before .ring) ≡ c = take-at c (drop (length c) ring) (length c) refl in
         let same : bytes ≡ ringBytes s (take (length c) (ringed s c before .ring)) =
-        ap (λ k. nonePage (entry k (limitTable s room)) c) sw ∙ ring-bytes s ok c h room fits ∙ ap (ringBytes s) (sym found) in
+            ap (λ k. nonePage (entry k (limitTable s room)) c) sw ∙ ring-bytes s ok c h room fits ∙ ap (ringBytes s) (sym found) in
         record {
           answer = planning.None (length c);
           planned = ringed s c before;
@@ -146,3 +145,24 @@ module _ (s : Sheet) (ok : T (accepted s)) (table : List ℤ) (plan earliest lat
               (subst (λ r. Asked (holds page at bytes) (None (length c)) bytes before r page at reply (lent table′ plan earliest latest ring′) left) rooms
               (with-plan (holds page at bytes) (None (length c)) bytes table (cleared (w * w) table) table′ plan earliest latest ring (onFront c ring) ring′ page at reply left o));
         }
+
+-- ---- the questions before the pass
+module _ (l : Lists) (before : Rooms) (page : List ℕ) (at : ℕ) where
+  -- one of them is answered no: nothing is changed
+  pub refused-printed : (n : ℕ) → n ≡ askedNo l (lengthsOf before) → (n ≡ 0 → ⊥) → Printing l before page at (Refused n) before page
+  refused-printed n h ne = record {
+    answer = planning.Refused n;
+    planned = before;
+    call = entry-refused l before n h ne;
+    shown = record { replied = refl; lent = refl; shown = refl };
+  }
+
+  -- all are answered yes: the pass decides
+  pub solved-printed : 0 ≡ askedNo l (lengthsOf before) → (reply : Printed) (after : Rooms) (left : List ℕ)
+      → PrintingOf (byPass (passed (given l))) (given l) before page at reply after left → Printing l before page at reply after left
+  solved-printed h reply after left p = record {
+    answer = p .answer;
+    planned = p .planned;
+    call = entry-solved l before h (p .answer) (p .planned) (p .call);
+    shown = p .shown;
+  }

@@ -10,7 +10,7 @@ ghost use Rattle.sheet.specs.Questions.{sheetOf};
 ghost use Rattle.planner.specs.Planning.{listed, lent, passed, byPass};
 ghost use Rattle.planner.specs.Asking.{Solvable};
 ghost use Rattle.page.specs.Page.{Printable, tablePage, RingFits, nonePage};
-ghost use Rattle.printer.specs.Printing.{holds as holdsAnswer, onFront, Asked, PrintingOf};
+ghost use Rattle.printer.specs.Printing.{holds as holdsAnswer, onFront, Asked, PrintingOf, Printing};
 
 // What a call answers: the number of the refusal; a plan; or none, with the length of the ring. An answer has the place just past it.
 pub enum Printed {
@@ -201,5 +201,58 @@ fn print_solved(
             sheet::fill::fill_limits(span, first, last, from, to, low, high, &mut closed);
             print_ring(&closed, w, &found[..k], table, ring, page, at)
         }
+    }
+}
+
+// Prints the answer to a sheet in lists onto the page, from the place on: what planning asks and answers, and then question 15. An answer
+// that is printed leaves the rooms as planning does, and the place just past it is in the reply; a refusal leaves page and place.
+pub fn print(
+    span: usize,
+    first: &[u16],
+    last: &[u16],
+    from: &[u16],
+    to: &[u16],
+    low: &[u16],
+    high: &[u16],
+    table: &mut [i16],
+    plan: &mut [u16],
+    earliest: &mut [u16],
+    latest: &mut [u16],
+    ring: &mut [u16],
+    page: &mut [u8],
+    at: usize,
+) -> Printed
+    ensures { λ r.
+        ⌜ Printing (listed span (now (first .entry)) (now (last .entry)) (now (from .entry)) (now (to .entry)) (now (low .entry)) (now (high .entry)))
+        (lent (now (table .entry)) (now (plan .entry)) (now (earliest .entry)) (now (latest .entry)) (now (ring .entry))) (now (page .entry)) at r
+        (lent (now (table .exit)) (now (plan .exit)) (now (earliest .exit)) (now (latest .exit)) (now (ring .exit))) (now (page .exit)) ⌝ }
+{
+    let rooms = planner::Lengths {
+        table: table.len(),
+        plan: plan.len(),
+        earliest: earliest.len(),
+        latest: latest.len(),
+        ring: ring.len(),
+    };
+    let no = planner::ask(span, first, last, from, to, low, high, rooms);
+    if no == 0 {
+        print_solved(
+            span,
+            first,
+            last,
+            from,
+            to,
+            low,
+            high,
+            table,
+            plan,
+            earliest,
+            latest,
+            ring,
+            page,
+            at,
+        )
+    } else {
+        Printed::Refused(no)
     }
 }

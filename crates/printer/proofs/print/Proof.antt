@@ -1,0 +1,78 @@
+-- The questions before the pass decide, or what is printed of the solved sheet does.
+use mathlib.Core.Path.{sym, _∙_}
+use denote.Ref.{now}
+use Rattle.planner.specs.Planning.{Lists, Rooms, listed, lent}
+use Rattle.planner.specs.EntryLaws.{entry-solvable}
+use Rattle.printer.specs.CallLaws.{refused-printed, solved-printed}
+use borrow.Author.Needs.{needs}
+use Rattle.printer.proofs.print.Statement.{statement}
+use Rattle.printer.proofs.print.Tie as tie
+
+abbrev lists : tie.Start → Lists
+lists c =
+    let a = c .args in
+    listed (a .span) (now (a .first)) (now (a .last)) (now (a .from)) (now (a .to)) (now (a .low)) (now (a .high))
+
+abbrev before : tie.Start → Rooms
+before c =
+    let a = c .args in
+    lent (now (a .table)) (now (a .plan)) (now (a .earliest)) (now (a .latest)) (now (a .ring))
+
+-- src/lib.rt:237:9
+ask-requires : tie.Need-ask-requires
+ask-requires c κs = search needs
+
+-- src/lib.rt:239:9
+print-solved-requires : tie.Need-print-solved-requires
+print-solved-requires c κs = entry-solvable (lists (c .before .before .before .before .before .before .before .before .before .before .before .before .before .before .before .before .before .before .before)) (before (c .before .before .before .before .before .before .before .before .before .before .before .before .before .before .before .before .before .before .before)) (sym (c .before .before .before .before .before .before .if1 .taken) ∙ c .before .before .before .before .before .before .before .ask .ensures)
+
+-- src/lib.rt:209:1
+same-length : tie.Need-same-length
+same-length c = search needs
+
+-- src/lib.rt:209:1
+same-length-2 : tie.Need-same-length-2
+same-length-2 c = search needs
+
+-- src/lib.rt:209:1
+same-length-3 : tie.Need-same-length-3
+same-length-3 c = search needs
+
+-- src/lib.rt:209:1
+same-length-4 : tie.Need-same-length-4
+same-length-4 c = search needs
+
+-- src/lib.rt:209:1
+same-length-5 : tie.Need-same-length-5
+same-length-5 c = search needs
+
+-- src/lib.rt:209:1
+same-length-6 : tie.Need-same-length-6
+same-length-6 c = search needs
+
+-- src/lib.rt:209:1
+returns : tie.Need-returns
+returns c =
+    let s = c .before .before .before .before .before .before .before .before .before .before .before .before .before .before .before .before .before .before .before .before .before .before .before .before .before .before .before .before .before .before .before in
+    solved-printed (lists s) (before s) (now (s .args .page)) (s .args .at) (sym (c .before .before .before .before .before .before .before .before .before .before .before .before .before .before .before .before .before .before .if1 .taken) ∙ c .before .before .before .before .before .before .before .before .before .before .before .before .before .before .before .before .before .before .before .ask .ensures) _ _ _ (c .before .before .before .before .before .before .before .before .before .before .before .print-solved .ensures)
+
+-- src/lib.rt:209:1
+returns-2 : tie.Need-returns-2
+returns-2 c =
+    let s = c .before .before .before .before .before .before .before .before .before .before .before .before .before in
+    refused-printed (lists s) (before s) (now (s .args .page)) (s .args .at) (c .before .ask .result) (c .before .ask .ensures) (c .if1 .left)
+
+pub print-spec : {M : Type 1} → statement M
+print-spec =
+    tie.close
+    (tie.spec
+    ask-requires
+    print-solved-requires
+    same-length
+    same-length-2
+    same-length-3
+    same-length-4
+    same-length-5
+    same-length-6
+    returns
+    returns-2)
