@@ -109,7 +109,7 @@ module _ (s : Sheet) (ok : T (accepted s)) (table : List ℤ) (plan earliest lat
     plan-printed t e table′ plan′ earliest′ latest′ o =
         let n = length (s .units) in
         let rooms : lent (onFront t table) (onFront (printedPlan s) plan) (onFront (earliestSlots s) earliest) (onFront (latestSlots s) latest) ring ≡ planned s t before =
-            rw (table-size s ok t e, seats-size s ok t e, firsts-size s ok t e, lasts-size s ok t e) refl in
+        rw (table-size s ok t e, seats-size s ok t e, firsts-size s ok t e, lasts-size s ok t e) refl in
         let bytes = tablePage (s .span) (printedPlan s) (earliestSlots s) (latestSlots s) t in
         record {
           answer = planning.Plan;
@@ -132,10 +132,10 @@ module _ (s : Sheet) (ok : T (accepted s)) (table : List ℤ) (plan earliest lat
     ring-printed c h e w sw room fits table′ ring′ o =
         let bytes = nonePage (entry w (limitTable s room)) c in
         let rooms : lent (cleared (w * w) table) plan earliest latest (onFront c ring) ≡ ringed s c before =
-            ap (λ k. lent (cleared (k * k) table) plan earliest latest (onFront c ring)) (sw ∙ sym (boundaries-span s ok)) in
+        ap (λ k. lent (cleared (k * k) table) plan earliest latest (onFront c ring)) (sw ∙ sym (boundaries-span s ok)) in
         let found : take (length c) (ringed s c before .ring) ≡ c = take-at c (drop (length c) ring) (length c) refl in
         let same : bytes ≡ ringBytes s (take (length c) (ringed s c before .ring)) =
-            ap (λ k. nonePage (entry k (limitTable s room)) c) sw ∙ ring-bytes s ok c h room fits ∙ ap (ringBytes s) (sym found) in
+        ap (λ k. nonePage (entry k (limitTable s room)) c) sw ∙ ring-bytes s ok c h room fits ∙ ap (ringBytes s) (sym found) in
         record {
           answer = planning.None (length c);
           planned = ringed s c before;

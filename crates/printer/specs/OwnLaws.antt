@@ -189,10 +189,12 @@ module _ (l : Lists) (before : Rooms) (S : Solvable l before) where
         × ((length closed ≤ length (before .table)) × (length seated ≤ length (before .plan)) × (length early ≤ length (before .earliest)) × (length late ≤ length (before .latest)))
     plan-asked = (
       rw (closed-part, seats-part, firsts-part, lasts-part) (subst (λ p. Printable p (printedPlan s) (earliestSlots s) (latestSlots s) t) span-is (plan-printable s (S .sheet) t halts)),
-      (omega (arith, ap length closed-part, cells, cells-lent),
-      omega (arith, ap length seats-part, seats, lends .plan, units-are),
-      omega (arith, ap length firsts-part, firsts, lends .earliest, units-are),
-      omega (arith, ap length lasts-part, lasts, lends .latest, units-are)),
+      (
+        omega (arith, ap length closed-part, cells, cells-lent),
+        omega (arith, ap length seats-part, seats, lends .plan, units-are),
+        omega (arith, ap length firsts-part, firsts, lends .earliest, units-are),
+        omega (arith, ap length lasts-part, lasts, lends .latest, units-are),
+      ),
     )
 
     -- and what the call then leaves

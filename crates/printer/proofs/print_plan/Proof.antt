@@ -50,10 +50,14 @@ slice-aggregate-put-plan c = search needs
 put-plan-requires : tie.Need-put-plan-requires
 put-plan-requires c κs =
     let s = c .before .before .before .before .before .before .before .before .before .before .before .before .before .before .before .before .before .before .before .before .before .before .before .before .before .before .before .before in
-    let a = s .args in
-    (s .pre .0, (c .before .before .before .before .before .before .before .before .before .before .before .before .before .before .before .before .before .before .before .count-slots .ensures,
-    room (now (a .page)) (a .at) (tablePage (a .span) (now (a .seats)) (now (a .firsts)) (now (a .lasts)) (now (a .closed))) (c .before .before .before .before .before .before .before .before .before .before .before .before .before .before .before .before .plan-length .result)
-    (c .before .before .before .before .before .before .before .before .before .before .before .before .before .before .before .before .plan-length .ensures) (c .before .before .before .before .before .before .before .before .before .before .before .before .before .before .before .holds .result) (c .before .before .before .before .before .before .before .before .before .before .before .before .before .before .before .holds .ensures) (c .before .before .before .before .before .before .before .before .before .before .before .before .before .before .if1 .taken)))
+    let a = s .args in (
+      s .pre .0,
+      (
+        c .before .before .before .before .before .before .before .before .before .before .before .before .before .before .before .before .before .before .before .count-slots .ensures,
+        room (now (a .page)) (a .at) (tablePage (a .span) (now (a .seats)) (now (a .firsts)) (now (a .lasts)) (now (a .closed))) (c .before .before .before .before .before .before .before .before .before .before .before .before .before .before .before .before .plan-length .result)
+            (c .before .before .before .before .before .before .before .before .before .before .before .before .before .before .before .before .plan-length .ensures) (c .before .before .before .before .before .before .before .before .before .before .before .before .before .before .before .holds .result) (c .before .before .before .before .before .before .before .before .before .before .before .before .before .before .before .holds .ensures) (c .before .before .before .before .before .before .before .before .before .before .before .before .before .before .if1 .taken),
+      ),
+    )
 
 -- src/lib.rt:65:1
 same-length : tie.Need-same-length

@@ -43,10 +43,11 @@ copy-slots-requires c κs = search needs
 put-none-requires : tie.Need-put-none-requires
 put-none-requires c κs =
     let s = c .before .before .before .before .before .before .before .before .before .before .before .before .before .before in
-    let a = s .args in
-    (s .pre .0,
-    room (now (a .page)) (a .at) (nonePage (entry (a .w) (now (a .limits))) (now (a .found))) (c .before .before .before .before .before .before .before .before .before .before .none-length .result)
-    (c .before .before .before .before .before .before .before .before .before .before .none-length .ensures) (c .before .before .before .before .before .before .before .before .before .holds .result) (c .before .before .before .before .before .before .before .before .before .holds .ensures) (c .before .before .before .before .before .before .before .before .if1 .taken))
+    let a = s .args in (
+      s .pre .0,
+      room (now (a .page)) (a .at) (nonePage (entry (a .w) (now (a .limits))) (now (a .found))) (c .before .before .before .before .before .before .before .before .before .before .none-length .result)
+          (c .before .before .before .before .before .before .before .before .before .before .none-length .ensures) (c .before .before .before .before .before .before .before .before .before .holds .result) (c .before .before .before .before .before .before .before .before .before .holds .ensures) (c .before .before .before .before .before .before .before .before .if1 .taken),
+    )
 
 -- src/lib.rt:103:1
 same-length : tie.Need-same-length

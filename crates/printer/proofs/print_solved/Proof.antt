@@ -84,7 +84,7 @@ slice-aggregate-solve-5 c = search needs
 
 -- src/lib.rt:165:9
 solve-requires : tie.Need-solve-requires
-solve-requires c κs = 
+solve-requires c κs =
     own-solvable (lists (c .before .before .before .before .before .before .before .before .before .before .before .before .before .before .before .before)) (before (c .before .before .before .before .before .before .before .before .before .before .before .before .before .before .before .before)) own (c .before .before .before .before .before .before .before .before .before .before .before .before .before .before .before .before .pre) (length-replicate 2401 (pos 0)) (length-replicate {A = ℕ} 300 0) (length-replicate {A = ℕ} 300 0)
     (length-replicate {A = ℕ} 300 0) (length-replicate {A = ℕ} 49 0)
 
@@ -178,7 +178,7 @@ same-length c = search needs
 
 -- src/lib.rt:136:1
 returns : tie.Need-returns
-returns c = 
+returns c =
     let s = c .before .before .before .before .before .before .before .before .before .before .before .before .before .before .before .before .before .before .before .before .before .before .before .before .before .before .before .before in
     refused-own (lists s) (before s) (s .pre) own (after (c .before .before .before .before .before .before .before .before .before .before .before)) (c .before .before .before .before .before .before .before .before .before .before .before .solve .result) (ends (c .before .before .before .before .before .before .before .before .before .before .before)) (c .before .before .before .before .answer .given .0 .0) (c .before .before .before .before .answer .given .1)
     (c .before .clear .last .1 .0) (c .before .clear .ensures) (now (s .args .page)) (s .args .at)
@@ -205,7 +205,7 @@ same-length-6 c = search needs
 
 -- src/lib.rt:136:1
 returns-2 : tie.Need-returns-2
-returns-2 c = 
+returns-2 c =
     let s = c .before .before .before .before .before .before .before .before .before .before .before .before .before .before .before .before .before .before .before .before .before .before .before .before .before .before .before .before .before .before .before .before .before .before .before .before .before .before .before .before .before .before .before in
     let f = plan-found (c .before .before .before .before .before .before .before .before .before .before .before .before .before .before .before .before .before .before .before) in
     plan-shown (lists s) (before s) (s .pre) own (after (c .before .before .before .before .before .before .before .before .before .before .before .before .before .before .before .before .before .before .before .before .before .before .before .before .before .before)) (f .0) (f .1) (f .2) (now (s .args .page)) (s .args .at) _ _ _ _ _ _ (c .before .before .before .before .before .before .before .before .before .print-plan .ensures)
@@ -224,7 +224,7 @@ same-length-9 c = search needs
 
 -- src/lib.rt:136:1
 returns-3 : tie.Need-returns-3
-returns-3 c = 
+returns-3 c =
     let s = c .before .before .before .before .before .before .before .before .before .before .before .before .before .before .before .before .before .before .before .before .before .before .before .before .before .before .before .before .before .before .before .before .before .before .before .before .before .before .before in
     let f = ring-found (c .before .before .before .before .before .before .before .before .before .before .before .before .before .before .before) in
     ring-shown (lists s) (before s) (s .pre) own (after (c .before .before .before .before .before .before .before .before .before .before .before .before .before .before .before .before .before .before .before .before .before .before)) (f .0) (f .1) (f .3) (f .4) (c .before .before .before .before .before .before .before .before .before .before .before .before .before .before .before .answer2 .given .0 .0) (f .2) (after (c .before .before .before .before .before .before .before .before .before .before .before .before .before .before .before .before .before .before .before .before .before .before) .table) (own-cells (c .before .before .before .before .before .before .before .before .before .before .before .before .before .before .before .before .before .before .before .before .before .before))
