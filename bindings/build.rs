@@ -1,14 +1,15 @@
 //! Finds the planner's static libraries and links them.
 //!
-//! They are looked for in `../target/staticlib`, and `rt staticlib` is run for each that is missing or older than its
-//! sources. Where `TUGROKT_LIB_DIR` names a folder, the libraries of that folder are taken as they are.
+//! They are looked for in `../target/staticlib`, and `rt staticlib` is run for each that is missing or older than the sources:
+//! it proves that library's own crate once more, and those below it only where they are not proved yet. Where `TUGROKT_LIB_DIR`
+//! names a folder, the libraries of that folder are taken as they are.
 //!
 //! A library that no crate of the repository exports yet is left out, and so is the part of this crate that calls it.
 
 use std::path::{Path, PathBuf};
 use std::process::Command;
 use std::time::SystemTime;
-use std::{env, fs};
+use std::{env, fs, thread};
 
 /// Each crate that exports an entry, and the entry's name.
 const ENTRIES: [(&str, &str); 4] =
@@ -25,19 +26,22 @@ fn main() {
         println!("cargo:rerun-if-changed={}", root.join("crates").display());
         println!("cargo:rerun-if-changed={}", root.join("crates.txt").display());
     }
-    for (name, entry) in ENTRIES {
+    let archive = |name: &str| folder.join(format!("lib{name}.a"));
+    let present = |name: &str, entry: &str| match given {
+        Some(_) => archive(name).is_file(),
+        None => exports(&root.join("crates").join(name).join("src"), entry),
+    };
+    for (name, _) in ENTRIES {
         println!("cargo:rustc-check-cfg=cfg(has_{name})");
-        let archive = folder.join(format!("lib{name}.a"));
-        let present = match given {
-            Some(_) => archive.is_file(),
-            None => exports(&root.join("crates").join(name).join("src"), entry),
-        };
-        if !present {
-            continue;
-        }
-        if given.is_none() {
-            build(&root, name, &archive);
-        }
+    }
+    let names: Vec<&str> = ENTRIES.iter().filter(|e| present(e.0, e.1)).map(|e| e.0).collect();
+    if given.is_none() {
+        let sources = newest(&root.join("crates")).max(modified(&root.join("crates.txt")));
+        let stale = |name: &&str| !(modified(&archive(name)) > sources);
+        build(&root, &names.iter().copied().filter(stale).collect::<Vec<_>>());
+    }
+    for name in names {
+        let archive = archive(name);
         println!("cargo:rerun-if-changed={}", archive.display());
         println!("cargo:rustc-link-lib=static={name}");
         println!("cargo:rustc-cfg=has_{name}");
@@ -53,16 +57,24 @@ fn exports(folder: &Path, entry: &str) -> bool {
     files.flatten().any(|f| fs::read_to_string(f.path()).is_ok_and(|text| text.contains(&defined)))
 }
 
-fn build(root: &Path, name: &str, archive: &Path) {
-    let sources = newest(&root.join("crates")).max(modified(&root.join("crates.txt")));
-    if modified(archive).is_some() && modified(archive) > sources {
+/// Builds these libraries, some at a time. What they share is proved before, so that no two of them prove it.
+fn build(root: &Path, names: &[&str]) {
+    if names.is_empty() {
         return;
     }
-    let run = Command::new("rt").args(["staticlib", name]).current_dir(root).output();
-    let run = run.unwrap_or_else(|e| panic!("rt staticlib {name}: {e}. Is the Rattle kit on this machine?"));
+    rt(root, "check", names);
+    let at_a_time = thread::available_parallelism().map_or(1, |n| n.get().min(4));
+    for some in names.chunks(at_a_time) {
+        thread::scope(|s| some.iter().for_each(|name| drop(s.spawn(|| rt(root, "staticlib", &[*name])))));
+    }
+}
+
+fn rt(root: &Path, verb: &str, names: &[&str]) {
+    let run = Command::new("rt").arg(verb).args(names).current_dir(root).output();
+    let run = run.unwrap_or_else(|e| panic!("rt {verb}: {e}. Is the Rattle kit on this machine?"));
     if !run.status.success() {
         let said = String::from_utf8_lossy(&run.stdout);
-        panic!("rt staticlib {name} failed:\n{said}{}", String::from_utf8_lossy(&run.stderr));
+        panic!("rt {verb} {} failed:\n{said}{}", names.join(" "), String::from_utf8_lossy(&run.stderr));
     }
 }
 

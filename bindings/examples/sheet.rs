@@ -7,7 +7,7 @@ fn main() -> std::io::Result<()> {
     use std::io::Read;
     let mut text = Vec::new();
     // One byte more than the longest text is enough to have a longer one refused.
-    std::io::stdin().lock().take(16_001).read_to_end(&mut text)?;
+    std::io::stdin().lock().take(tugrokt::MOST_BYTES as u64 + 1).read_to_end(&mut text)?;
     let answer = tugrokt::Sheet::read(&text).and_then(|sheet| sheet.plan().map(|answer| (sheet, answer)));
     match answer {
         Err(refusal) => println!("{refusal}"),

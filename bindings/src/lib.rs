@@ -12,7 +12,7 @@
 //! ```
 //! `examples/` has a whole program, and the same in C.
 
-#[cfg(any(has_reader, has_planner, has_printer))]
+#[cfg(any(has_reader, has_planner, has_printer, has_cycles))]
 mod border;
 pub mod entry;
 

@@ -79,11 +79,16 @@ fn free_rule(r: &mut Random, stretch: (u16, u16), n: usize) -> Rule {
     Rule { from: stretch.0, to: stretch.1, low: low as u16, high: high as u16 }
 }
 
-/// A sheet small enough to try every plan: at most 5 units and 5 slots. Half of them are built around a plan, with little
-/// room or a little too little, so that plan and none are about as frequent.
+/// A sheet small enough to try every plan: at most 5 units and 5 slots.
 pub fn small_sheet(r: &mut Random) -> Sheet {
-    let span = r.between(1, 5);
-    let n = if r.chance(5) { 0 } else { r.between(1, 5) };
+    sheet_up_to(r, 5, 5)
+}
+
+/// A sheet with at most so many slots and units. Half of them are built around a plan, with little room or a little too little, so
+/// that plan and none are about as frequent.
+pub fn sheet_up_to(r: &mut Random, most_slots: usize, most_units: usize) -> Sheet {
+    let span = r.between(1, most_slots);
+    let n = if r.chance(5) { 0 } else { r.between(1, most_units) };
     let widest = r.between(1, span);
     let units = windows(r, span, n, widest);
     let plan = any_plan(r, &units);

@@ -59,7 +59,7 @@ fn is_negative_cycle(weights: &[i16], w: usize, cycle: &[u16]) -> bool {
 
 #[test]
 fn random_weights_against_a_plain_pass() {
-    let seed = seed(301);
+    let seed = seed(501);
     let mut tally = Tally::new("network: passes over random weights", seed);
     let mut cycles = Tally::new("network: negative cycles of random weights", seed);
     for i in 0..effort(30_000) {
@@ -96,7 +96,7 @@ fn random_weights_against_a_plain_pass() {
     tally.report();
     cycles.report();
     for kind in [FINISHED, STOPPED, OUT_OF_RANGE] {
-        assert!(tally.count(kind) > 100, "too few passes {kind}");
+        assert!(300 * tally.count(kind) > tally.all(), "too few passes {kind}");
     }
-    assert!(cycles.count("found") > 1_000, "too few cycles");
+    assert!(30 * cycles.count("found") > tally.all(), "too few cycles");
 }

@@ -3,7 +3,7 @@
 
 use reference::calls::planning_fault;
 use reference::questions::{planning_refusal, Lengths, Lists};
-use reference::random::{any_sheet, largest_sheet, paper_sheet, small_sheet, Random};
+use reference::random::{any_sheet, largest_sheet, paper_sheet, sheet_up_to, small_sheet, Random};
 use reference::sheet::{Sheet, Solved, Unit};
 use reference::tally::Tally;
 use reference::{cases, computed, effort, enumerated, seed};
@@ -59,6 +59,19 @@ fn small_sheets_against_all_plans() {
     tally.report();
     let frequent = |answer| 4 * tally.count(answer) > tally.all();
     assert!(frequent(PLAN) && frequent(NONE));
+}
+
+/// Fewer sheets, with more plans each.
+#[test]
+fn wider_sheets_against_all_plans() {
+    let mut tally = Tally::new("planning wider sheets, all plans tried", seed(108));
+    for i in 0..effort(10_000) {
+        let mut r = Random::of_case(seed(108), i);
+        let sheet = sheet_up_to(&mut r, 8, 7);
+        let solved = enumerated::solve(&sheet);
+        hold(&mut tally, &Lists::from(&sheet), &roomy(&mut r, &sheet), solved.as_ref());
+    }
+    tally.report();
 }
 
 /// All lists of at most `most` elements.
