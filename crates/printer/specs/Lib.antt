@@ -3,3 +3,4 @@ pub mod PrintingLaws
 pub mod AnswerLaws
 pub mod CallLaws
 pub mod OwnLaws
+pub mod PageConditions

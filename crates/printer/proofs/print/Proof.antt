@@ -4,7 +4,6 @@ use denote.Ref.{now}
 use Rattle.planner.specs.Planning.{Lists, Rooms, listed, lent}
 use Rattle.planner.specs.EntryLaws.{entry-solvable}
 use Rattle.printer.specs.CallLaws.{refused-printed, solved-printed}
-use borrow.Author.Needs.{needs}
 use Rattle.printer.proofs.print.Statement.{statement}
 use Rattle.printer.proofs.print.Tie as tie
 
@@ -18,45 +17,35 @@ before c =
     let a = c .args in
     lent (now (a .table)) (now (a .plan)) (now (a .earliest)) (now (a .latest)) (now (a .ring))
 
--- src/lib.rt:237:9
 ask-requires : tie.Need-ask-requires
-ask-requires c κs = search needs
+ask-requires c κs = tt
 
--- src/lib.rt:239:9
 print-solved-requires : tie.Need-print-solved-requires
 print-solved-requires c κs = entry-solvable (lists (c .before .before .before .before .before .before .before .before .before .before .before .before .before .before .before .before .before .before .before)) (before (c .before .before .before .before .before .before .before .before .before .before .before .before .before .before .before .before .before .before .before)) (sym (c .before .before .before .before .before .before .if1 .taken) ∙ c .before .before .before .before .before .before .before .ask .ensures)
 
--- src/lib.rt:209:1
 same-length : tie.Need-same-length
-same-length c = search needs
+same-length c = c .before .before .before .before .before .before .before .before .before .before .before .print-solved .kept .1 .1 .1 .1 .1 .1 .1 .0
 
--- src/lib.rt:209:1
 same-length-2 : tie.Need-same-length-2
-same-length-2 c = search needs
+same-length-2 c = c .before .before .before .before .before .before .before .before .before .before .before .print-solved .kept .1 .1 .1 .1 .1 .1 .1 .1 .0
 
--- src/lib.rt:209:1
 same-length-3 : tie.Need-same-length-3
-same-length-3 c = search needs
+same-length-3 c = c .before .before .before .before .before .before .before .before .before .before .before .print-solved .kept .1 .1 .1 .1 .1 .1 .1 .1 .1 .0
 
--- src/lib.rt:209:1
 same-length-4 : tie.Need-same-length-4
-same-length-4 c = search needs
+same-length-4 c = c .before .before .before .before .before .before .before .before .before .before .before .print-solved .kept .1 .1 .1 .1 .1 .1 .1 .1 .1 .1 .0
 
--- src/lib.rt:209:1
 same-length-5 : tie.Need-same-length-5
-same-length-5 c = search needs
+same-length-5 c = c .before .before .before .before .before .before .before .before .before .before .before .print-solved .kept .1 .1 .1 .1 .1 .1 .1 .1 .1 .1 .1 .0
 
--- src/lib.rt:209:1
 same-length-6 : tie.Need-same-length-6
-same-length-6 c = search needs
+same-length-6 c = c .before .before .before .before .before .before .before .before .before .before .before .print-solved .kept .1 .1 .1 .1 .1 .1 .1 .1 .1 .1 .1 .1 .0
 
--- src/lib.rt:209:1
 returns : tie.Need-returns
 returns c =
     let s = c .before .before .before .before .before .before .before .before .before .before .before .before .before .before .before .before .before .before .before .before .before .before .before .before .before .before .before .before .before .before .before in
     solved-printed (lists s) (before s) (now (s .args .page)) (s .args .at) (sym (c .before .before .before .before .before .before .before .before .before .before .before .before .before .before .before .before .before .before .if1 .taken) ∙ c .before .before .before .before .before .before .before .before .before .before .before .before .before .before .before .before .before .before .before .ask .ensures) _ _ _ (c .before .before .before .before .before .before .before .before .before .before .before .print-solved .ensures)
 
--- src/lib.rt:209:1
 returns-2 : tie.Need-returns-2
 returns-2 c =
     let s = c .before .before .before .before .before .before .before .before .before .before .before .before .before in

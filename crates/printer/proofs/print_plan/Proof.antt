@@ -7,46 +7,30 @@ use lib.ListN.{length}
 use Rattle.planner.specs.Planning.{lent}
 use Rattle.page.specs.Page.{tablePage}
 use Rattle.printer.specs.PrintingLaws.{room, asked-yes, asked-no}
-use borrow.Author.Needs.{needs}
 use Rattle.printer.proofs.print_plan.Statement.{statement}
 use Rattle.printer.proofs.print_plan.Tie as tie
-use Rattle.printer.proofs.print_plan.Reads as reads
-use Rattle.printer.proofs.print_plan.Lts as lts
-use Rattle.page.proofs.count_slots.Reads as count-slots-reads
-use Rattle.page.proofs.plan_length.Reads as plan-length-reads
-use Rattle.page.proofs.put_plan.Reads as put-plan-reads
-use Rattle.printer.proofs.holds.Reads as holds-reads
-use Rattle.printer.proofs.keep_plan.Reads as keep-plan-reads
 
--- src/lib.rt:91:30
 slice-aggregate-count-slots : tie.Need-slice-aggregate-count-slots
-slice-aggregate-count-slots c = search needs
+slice-aggregate-count-slots c = refl
 
--- src/lib.rt:91:5
 count-slots-requires : tie.Need-count-slots-requires
-count-slots-requires c κs = search needs
+count-slots-requires c κs = (refl, c .before .before .before .before .before .before .before .before .pre .0 .units)
 
--- src/lib.rt:92:64
 slice-aggregate-plan-length : tie.Need-slice-aggregate-plan-length
-slice-aggregate-plan-length c = search needs
+slice-aggregate-plan-length c = sym (c .before .before .count-slots .kept .1 .0)
 
--- src/lib.rt:92:9
 plan-length-requires : tie.Need-plan-length-requires
-plan-length-requires c κs = search needs
+plan-length-requires c κs = (c .before .before .before .before .before .before .before .before .before .before .before .pre .0, c .before .before .count-slots .ensures)
 
--- src/lib.rt:93:8
 holds-requires : tie.Need-holds-requires
-holds-requires c κs = search needs
+holds-requires c κs = tt
 
--- src/lib.rt:94:9
 keep-plan-requires : tie.Need-keep-plan-requires
-keep-plan-requires c κs = search needs
+keep-plan-requires c κs = c .before .before .before .before .before .before .before .before .before .before .before .before .before .before .before .before .before .before .pre .1
 
--- src/lib.rt:95:73
 slice-aggregate-put-plan : tie.Need-slice-aggregate-put-plan
-slice-aggregate-put-plan c = search needs
+slice-aggregate-put-plan c = sym (c .before .before .before .before .before .before .before .before .before .before .before .before .before .before .before .before .before .before .before .count-slots .kept .1 .0)
 
--- src/lib.rt:95:13
 put-plan-requires : tie.Need-put-plan-requires
 put-plan-requires c κs =
     let s = c .before .before .before .before .before .before .before .before .before .before .before .before .before .before .before .before .before .before .before .before .before .before .before .before .before .before .before .before in
@@ -59,27 +43,21 @@ put-plan-requires c κs =
       ),
     )
 
--- src/lib.rt:65:1
 same-length : tie.Need-same-length
-same-length c = search needs
+same-length c = c .before .before .before .before .before .before .before .before .before .before .before .before .keep-plan .kept .1 .1 .1 .1 .0
 
--- src/lib.rt:65:1
 same-length-2 : tie.Need-same-length-2
-same-length-2 c = search needs
+same-length-2 c = c .before .before .before .before .before .before .before .before .before .before .before .before .keep-plan .kept .1 .1 .1 .1 .1 .0
 
--- src/lib.rt:65:1
 same-length-3 : tie.Need-same-length-3
-same-length-3 c = search needs
+same-length-3 c = c .before .before .before .before .before .before .before .before .before .before .before .before .keep-plan .kept .1 .1 .1 .1 .1 .1 .0
 
--- src/lib.rt:65:1
 same-length-4 : tie.Need-same-length-4
-same-length-4 c = search needs
+same-length-4 c = c .before .before .before .before .before .before .before .before .before .before .before .before .keep-plan .kept .1 .1 .1 .1 .1 .1 .1 .0
 
--- src/lib.rt:65:1
 same-length-5 : tie.Need-same-length-5
-same-length-5 c = search needs
+same-length-5 c = c .before .before .put-plan .kept .0
 
--- src/lib.rt:65:1
 returns : tie.Need-returns
 returns c =
     let a = c .before .before .before .before .before .before .before .before .before .before .before .before .before .before .before .before .before .before .before .before .before .before .before .before .before .before .before .before .before .before .before .args in
@@ -88,7 +66,6 @@ returns c =
     (c .before .before .before .before .before .before .before .before .before .before .before .before .before .before .before .before .before .before .before .plan-length .ensures) (c .before .before .before .before .before .before .before .before .before .before .before .before .before .before .before .before .before .before .holds .result) (c .before .before .before .before .before .before .before .before .before .before .before .before .before .before .before .before .before .before .holds .ensures) _ _ _ _ _ _ (c .before .before .before .before .before .before .before .before .before .before .before .before .before .before .before .before .before .if1 .taken)
     (c .before .before .put-plan .result) (c .before .before .put-plan .ensures) refl (rw (k .0, k .1, k .2, k .3) refl)
 
--- src/lib.rt:65:1
 returns-2 : tie.Need-returns-2
 returns-2 c =
     let a = c .before .before .before .before .before .before .before .before .before .before .before .before .before .before .args in

@@ -11,35 +11,22 @@ use Rattle.printer.specs.PrintingLaws.{room, asked-yes, asked-no}
 use borrow.Author.Needs.{needs}
 use Rattle.printer.proofs.print_ring.Statement.{statement}
 use Rattle.printer.proofs.print_ring.Tie as tie
-use Rattle.printer.proofs.print_ring.Reads as reads
-use Rattle.printer.proofs.print_ring.Lts as lts
-use Rattle.network.proofs.clear.Reads as clear-reads
-use Rattle.page.proofs.none_length.Reads as none-length-reads
-use Rattle.page.proofs.put_none.Reads as put-none-reads
-use Rattle.printer.proofs.copy_slots.Reads as copy-slots-reads
-use Rattle.printer.proofs.holds.Reads as holds-reads
 
--- src/lib.rt:122:9
 none-length-requires : tie.Need-none-length-requires
-none-length-requires c κs = search needs
+none-length-requires c κs = c .before .before .before .pre .0
 
--- src/lib.rt:123:8
 holds-requires : tie.Need-holds-requires
-holds-requires c κs = search needs
+holds-requires c κs = tt
 
--- src/lib.rt:124:24
 mul-clear : tie.Need-mul-clear
 mul-clear c = search needs
 
--- src/lib.rt:124:9
 clear-requires : tie.Need-clear-requires
-clear-requires c κs = search needs
+clear-requires c κs = c .before .before .before .before .before .before .before .pre .1 .0
 
--- src/lib.rt:125:9
 copy-slots-requires : tie.Need-copy-slots-requires
-copy-slots-requires c κs = search needs
+copy-slots-requires c κs = c .before .before .before .before .before .before .before .before .before .before .pre .1 .1
 
--- src/lib.rt:126:13
 put-none-requires : tie.Need-put-none-requires
 put-none-requires c κs =
     let s = c .before .before .before .before .before .before .before .before .before .before .before .before .before .before in
@@ -49,19 +36,15 @@ put-none-requires c κs =
           (c .before .before .before .before .before .before .before .before .before .before .none-length .ensures) (c .before .before .before .before .before .before .before .before .before .holds .result) (c .before .before .before .before .before .before .before .before .before .holds .ensures) (c .before .before .before .before .before .before .before .before .if1 .taken),
     )
 
--- src/lib.rt:103:1
 same-length : tie.Need-same-length
-same-length c = search needs
+same-length c = c .before .before .before .before .before .before .before .before .before .clear .kept .1 .0
 
--- src/lib.rt:103:1
 same-length-2 : tie.Need-same-length-2
-same-length-2 c = search needs
+same-length-2 c = c .before .before .before .before .before .before .copy-slots .kept .1 .0
 
--- src/lib.rt:103:1
 same-length-3 : tie.Need-same-length-3
-same-length-3 c = search needs
+same-length-3 c = c .before .before .put-none .kept .0
 
--- src/lib.rt:103:1
 returns : tie.Need-returns
 returns c =
     let a = c .before .before .before .before .before .before .before .before .before .before .before .before .before .before .before .before .before .args in
@@ -70,7 +53,6 @@ returns c =
     (c .before .before .put-none .result) (c .before .before .put-none .ensures) refl
     (rw (c .before .before .before .before .before .before .before .before .before .clear .ensures, c .before .before .before .before .before .before .copy-slots .ensures) refl)
 
--- src/lib.rt:103:1
 returns-2 : tie.Need-returns-2
 returns-2 c =
     let a = c .before .before .before .before .before .before .args in

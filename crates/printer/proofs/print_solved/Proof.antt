@@ -15,13 +15,6 @@ use Rattle.printer.specs.OwnLaws.{ownCells, own-solvable, span-few, cell
 use borrow.Author.Needs.{needs}
 use Rattle.printer.proofs.print_solved.Statement.{statement}
 use Rattle.printer.proofs.print_solved.Tie as tie
-use Rattle.printer.proofs.print_solved.Reads as reads
-use Rattle.printer.proofs.print_solved.Lts as lts
-use Rattle.network.proofs.clear.Reads as clear-reads
-use Rattle.planner.proofs.solve.Reads as solve-reads
-use Rattle.printer.proofs.print_plan.Reads as print-plan-reads
-use Rattle.printer.proofs.print_ring.Reads as print-ring-reads
-use Rattle.sheet.proofs.fill.fill_limits.Reads as fill-limits-reads
 
 abbrev lists : tie.Start → Lists
 lists c =
@@ -62,167 +55,128 @@ ring-found c =
 own-cells : (c : tie.After-solve) → length (after c .table) ≡ ownCells
 own-cells c = c .solve .kept .1 .1 .1 .1 .1 .1 .1 .0 ∙ length-replicate 2401 (pos 0)
 
--- src/lib.rt:173:9
 slice-aggregate-solve : tie.Need-slice-aggregate-solve
-slice-aggregate-solve c = search needs
+slice-aggregate-solve c = refl
 
--- src/lib.rt:174:9
 slice-aggregate-solve-2 : tie.Need-slice-aggregate-solve-2
-slice-aggregate-solve-2 c = search needs
+slice-aggregate-solve-2 c = refl
 
--- src/lib.rt:175:9
 slice-aggregate-solve-3 : tie.Need-slice-aggregate-solve-3
-slice-aggregate-solve-3 c = search needs
+slice-aggregate-solve-3 c = refl
 
--- src/lib.rt:176:9
 slice-aggregate-solve-4 : tie.Need-slice-aggregate-solve-4
-slice-aggregate-solve-4 c = search needs
+slice-aggregate-solve-4 c = refl
 
--- src/lib.rt:177:9
 slice-aggregate-solve-5 : tie.Need-slice-aggregate-solve-5
-slice-aggregate-solve-5 c = search needs
+slice-aggregate-solve-5 c = refl
 
--- src/lib.rt:165:9
 solve-requires : tie.Need-solve-requires
 solve-requires c κs =
     own-solvable (lists (c .before .before .before .before .before .before .before .before .before .before .before .before .before .before .before .before)) (before (c .before .before .before .before .before .before .before .before .before .before .before .before .before .before .before .before)) own (c .before .before .before .before .before .before .before .before .before .before .before .before .before .before .before .before .pre) (length-replicate 2401 (pos 0)) (length-replicate {A = ℕ} 300 0) (length-replicate {A = ℕ} 300 0)
     (length-replicate {A = ℕ} 300 0) (length-replicate {A = ℕ} 49 0)
 
--- src/lib.rt:179:13
 add-w : tie.Need-add-w
 add-w c = omega (arith, span-few (lists (c .before .before .before .before .before .before .before .before .before .before .before .before .before .before .before .before .before .before .before .before .before .before)) (before (c .before .before .before .before .before .before .before .before .before .before .before .before .before .before .before .before .before .before .before .before .before .before)) (c .before .before .before .before .before .before .before .before .before .before .before .before .before .before .before .before .before .before .before .before .before .before .pre))
 
--- src/lib.rt:180:17
 mul-cells : tie.Need-mul-cells
 mul-cells c = omega (arith, cells-few (lists (c .before .before .before .before .before .before .before .before .before .before .before .before .before .before .before .before .before .before .before .before .before .before)) (before (c .before .before .before .before .before .before .before .before .before .before .before .before .before .before .before .before .before .before .before .before .before .before)) (c .before .before .before .before .before .before .before .before .before .before .before .before .before .before .before .before .before .before .before .before .before .before .pre))
 
--- src/lib.rt:183:34
 enum-known-answer : tie.Need-enum-known-answer
 enum-known-answer c = search needs
 
--- src/lib.rt:184:13
 clear-requires : tie.Need-clear-requires
 clear-requires c κs = cells-lent (lists (c .before .before .before .before .before .before .before .before .before .before .before .before .before .before .before .before .before .before .before .before .before .before .before .before .before .before)) (before (c .before .before .before .before .before .before .before .before .before .before .before .before .before .before .before .before .before .before .before .before .before .before .before .before .before .before)) (c .before .before .before .before .before .before .before .before .before .before .before .before .before .before .before .before .before .before .before .before .before .before .before .before .before .before .pre)
 
--- src/lib.rt:189:13
 enum-told : tie.Need-enum-told
 enum-told c = search needs
 
--- src/lib.rt:189:13
 array-share-prefix-closed : tie.Need-array-share-prefix-closed
 array-share-prefix-closed c = let f = plan-found (c) in closed-long (lists (c .before .before .before .before .before .before .before .before .before .before .before .before .before .before .before .before .before .before .before .before .before .before .before .before)) (before (c .before .before .before .before .before .before .before .before .before .before .before .before .before .before .before .before .before .before .before .before .before .before .before .before)) (c .before .before .before .before .before .before .before .before .before .before .before .before .before .before .before .before .before .before .before .before .before .before .before .before .pre) own (after (c .before .before .before .before .before .before .before)) (f .0) (f .1) (f .2)
 
--- src/lib.rt:189:13
 slice-aggregate-print-plan : tie.Need-slice-aggregate-print-plan
 slice-aggregate-print-plan c = let long = let f = plan-found (c .before) in closed-long (lists (c .before .before .before .before .before .before .before .before .before .before .before .before .before .before .before .before .before .before .before .before .before .before .before .before .before)) (before (c .before .before .before .before .before .before .before .before .before .before .before .before .before .before .before .before .before .before .before .before .before .before .before .before .before)) (c .before .before .before .before .before .before .before .before .before .before .before .before .before .before .before .before .before .before .before .before .before .before .before .before .before .pre) own (after (c .before .before .before .before .before .before .before .before)) (f .0) (f .1) (f .2) in sym (length-take-le _ _ long)
 
--- src/lib.rt:190:13
 array-share-prefix-seats : tie.Need-array-share-prefix-seats
 array-share-prefix-seats c = let f = plan-found (c .before) in seats-long (lists (c .before .before .before .before .before .before .before .before .before .before .before .before .before .before .before .before .before .before .before .before .before .before .before .before .before)) (before (c .before .before .before .before .before .before .before .before .before .before .before .before .before .before .before .before .before .before .before .before .before .before .before .before .before)) (c .before .before .before .before .before .before .before .before .before .before .before .before .before .before .before .before .before .before .before .before .before .before .before .before .before .pre) own (after (c .before .before .before .before .before .before .before .before)) (f .0) (f .1) (f .2)
 
--- src/lib.rt:190:13
 slice-aggregate-print-plan-2 : tie.Need-slice-aggregate-print-plan-2
 slice-aggregate-print-plan-2 c = let long = let f = plan-found (c .before .before) in seats-long (lists (c .before .before .before .before .before .before .before .before .before .before .before .before .before .before .before .before .before .before .before .before .before .before .before .before .before .before)) (before (c .before .before .before .before .before .before .before .before .before .before .before .before .before .before .before .before .before .before .before .before .before .before .before .before .before .before)) (c .before .before .before .before .before .before .before .before .before .before .before .before .before .before .before .before .before .before .before .before .before .before .before .before .before .before .pre) own (after (c .before .before .before .before .before .before .before .before .before)) (f .0) (f .1) (f .2) in sym (length-take-le _ _ long)
 
--- src/lib.rt:191:13
 array-share-prefix-firsts : tie.Need-array-share-prefix-firsts
 array-share-prefix-firsts c = let f = plan-found (c .before .before) in firsts-long (lists (c .before .before .before .before .before .before .before .before .before .before .before .before .before .before .before .before .before .before .before .before .before .before .before .before .before .before)) (before (c .before .before .before .before .before .before .before .before .before .before .before .before .before .before .before .before .before .before .before .before .before .before .before .before .before .before)) (c .before .before .before .before .before .before .before .before .before .before .before .before .before .before .before .before .before .before .before .before .before .before .before .before .before .before .pre) own (after (c .before .before .before .before .before .before .before .before .before)) (f .0) (f .1) (f .2)
 
--- src/lib.rt:191:13
 slice-aggregate-print-plan-3 : tie.Need-slice-aggregate-print-plan-3
 slice-aggregate-print-plan-3 c = let long = let f = plan-found (c .before .before .before) in firsts-long (lists (c .before .before .before .before .before .before .before .before .before .before .before .before .before .before .before .before .before .before .before .before .before .before .before .before .before .before .before)) (before (c .before .before .before .before .before .before .before .before .before .before .before .before .before .before .before .before .before .before .before .before .before .before .before .before .before .before .before)) (c .before .before .before .before .before .before .before .before .before .before .before .before .before .before .before .before .before .before .before .before .before .before .before .before .before .before .before .pre) own (after (c .before .before .before .before .before .before .before .before .before .before)) (f .0) (f .1) (f .2) in sym (length-take-le _ _ long)
 
--- src/lib.rt:192:13
 array-share-prefix-lasts : tie.Need-array-share-prefix-lasts
 array-share-prefix-lasts c = let f = plan-found (c .before .before .before) in lasts-long (lists (c .before .before .before .before .before .before .before .before .before .before .before .before .before .before .before .before .before .before .before .before .before .before .before .before .before .before .before)) (before (c .before .before .before .before .before .before .before .before .before .before .before .before .before .before .before .before .before .before .before .before .before .before .before .before .before .before .before)) (c .before .before .before .before .before .before .before .before .before .before .before .before .before .before .before .before .before .before .before .before .before .before .before .before .before .before .before .pre) own (after (c .before .before .before .before .before .before .before .before .before .before)) (f .0) (f .1) (f .2)
 
--- src/lib.rt:192:13
 slice-aggregate-print-plan-4 : tie.Need-slice-aggregate-print-plan-4
 slice-aggregate-print-plan-4 c = let long = let f = plan-found (c .before .before .before .before) in lasts-long (lists (c .before .before .before .before .before .before .before .before .before .before .before .before .before .before .before .before .before .before .before .before .before .before .before .before .before .before .before .before)) (before (c .before .before .before .before .before .before .before .before .before .before .before .before .before .before .before .before .before .before .before .before .before .before .before .before .before .before .before .before)) (c .before .before .before .before .before .before .before .before .before .before .before .before .before .before .before .before .before .before .before .before .before .before .before .before .before .before .before .before .pre) own (after (c .before .before .before .before .before .before .before .before .before .before .before)) (f .0) (f .1) (f .2) in sym (length-take-le _ _ long)
 
--- src/lib.rt:187:34
 print-plan-requires : tie.Need-print-plan-requires
 print-plan-requires c κs = let f = plan-found (c .before .before .before .before .before .before .before .before .before) in plan-asked (lists (c .before .before .before .before .before .before .before .before .before .before .before .before .before .before .before .before .before .before .before .before .before .before .before .before .before .before .before .before .before .before .before .before .before)) (before (c .before .before .before .before .before .before .before .before .before .before .before .before .before .before .before .before .before .before .before .before .before .before .before .before .before .before .before .before .before .before .before .before .before)) (c .before .before .before .before .before .before .before .before .before .before .before .before .before .before .before .before .before .before .before .before .before .before .before .before .before .before .before .before .before .before .before .before .before .pre) own (after (c .before .before .before .before .before .before .before .before .before .before .before .before .before .before .before .before)) (f .0) (f .1) (f .2)
 
--- src/lib.rt:200:31
 enum-known-answer-2 : tie.Need-enum-known-answer-2
 enum-known-answer-2 c = search needs
 
--- src/lib.rt:201:78
 slice-aggregate-fill-limits : tie.Need-slice-aggregate-fill-limits
-slice-aggregate-fill-limits c = search needs
+slice-aggregate-fill-limits c = sym (c .before .before .before .before .before .before .before .before .before .solve .kept .1 .1 .1 .1 .1 .1 .1 .0)
 
--- src/lib.rt:201:13
 fill-limits-requires : tie.Need-fill-limits-requires
 fill-limits-requires c κs = let f = ring-found (c .before .before) in limits-fillable (lists (c .before .before .before .before .before .before .before .before .before .before .before .before .before .before .before .before .before .before .before .before .before .before .before .before .before .before)) (before (c .before .before .before .before .before .before .before .before .before .before .before .before .before .before .before .before .before .before .before .before .before .before .before .before .before .before)) (c .before .before .before .before .before .before .before .before .before .before .before .before .before .before .before .before .before .before .before .before .before .before .before .before .before .before .pre) own (after (c .before .before .before .before .before .before .before .before .before)) (f .0) (f .1) (f .3) (f .4) (c .before .before .answer2 .given .0 .0) (f .2) (after (c .before .before .before .before .before .before .before .before .before) .table) (own-cells (c .before .before .before .before .before .before .before .before .before))
 
--- src/lib.rt:202:24
 slice-aggregate-print-ring : tie.Need-slice-aggregate-print-ring
 slice-aggregate-print-ring c = search needs
 
--- src/lib.rt:202:36
 array-share-prefix-found : tie.Need-array-share-prefix-found
 array-share-prefix-found c = let f = ring-found (c .before .before .before .before .before) in ring-long (lists (c .before .before .before .before .before .before .before .before .before .before .before .before .before .before .before .before .before .before .before .before .before .before .before .before .before .before .before .before .before)) (before (c .before .before .before .before .before .before .before .before .before .before .before .before .before .before .before .before .before .before .before .before .before .before .before .before .before .before .before .before .before)) (c .before .before .before .before .before .before .before .before .before .before .before .before .before .before .before .before .before .before .before .before .before .before .before .before .before .before .before .before .before .pre) own (after (c .before .before .before .before .before .before .before .before .before .before .before .before)) (f .0) (f .1) (f .3) (f .4) (c .before .before .before .before .before .answer2 .given .0 .0) (f .2)
 
--- src/lib.rt:202:36
 slice-aggregate-print-ring-2 : tie.Need-slice-aggregate-print-ring-2
 slice-aggregate-print-ring-2 c = let long = let f = ring-found (c .before .before .before .before .before .before) in ring-long (lists (c .before .before .before .before .before .before .before .before .before .before .before .before .before .before .before .before .before .before .before .before .before .before .before .before .before .before .before .before .before .before)) (before (c .before .before .before .before .before .before .before .before .before .before .before .before .before .before .before .before .before .before .before .before .before .before .before .before .before .before .before .before .before .before)) (c .before .before .before .before .before .before .before .before .before .before .before .before .before .before .before .before .before .before .before .before .before .before .before .before .before .before .before .before .before .before .pre) own (after (c .before .before .before .before .before .before .before .before .before .before .before .before .before)) (f .0) (f .1) (f .3) (f .4) (c .before .before .before .before .before .before .answer2 .given .0 .0) (f .2) in sym (length-take-le _ _ long)
 
--- src/lib.rt:202:13
 print-ring-requires : tie.Need-print-ring-requires
 print-ring-requires c κs = let f = ring-found (c .before .before .before .before .before .before .before .before .before) in ring-asked (lists (c .before .before .before .before .before .before .before .before .before .before .before .before .before .before .before .before .before .before .before .before .before .before .before .before .before .before .before .before .before .before .before .before .before)) (before (c .before .before .before .before .before .before .before .before .before .before .before .before .before .before .before .before .before .before .before .before .before .before .before .before .before .before .before .before .before .before .before .before .before)) (c .before .before .before .before .before .before .before .before .before .before .before .before .before .before .before .before .before .before .before .before .before .before .before .before .before .before .before .before .before .before .before .before .before .pre) own (after (c .before .before .before .before .before .before .before .before .before .before .before .before .before .before .before .before)) (f .0) (f .1) (f .3) (f .4) (c .before .before .before .before .before .before .before .before .before .answer2 .given .0 .0) (f .2) (after (c .before .before .before .before .before .before .before .before .before .before .before .before .before .before .before .before) .table) (own-cells (c .before .before .before .before .before .before .before .before .before .before .before .before .before .before .before .before)) (c .before .before .before .before .before .before .fill-limits .last .1 .1 .1 .1 .1 .1 .1 .0) (c .before .before .before .before .before .before .fill-limits .ensures)
 
--- src/lib.rt:136:1
 same-length : tie.Need-same-length
-same-length c = search needs
+same-length c = c .before .clear .kept .1 .0
 
--- src/lib.rt:136:1
 returns : tie.Need-returns
 returns c =
     let s = c .before .before .before .before .before .before .before .before .before .before .before .before .before .before .before .before .before .before .before .before .before .before .before .before .before .before .before .before in
     refused-own (lists s) (before s) (s .pre) own (after (c .before .before .before .before .before .before .before .before .before .before .before)) (c .before .before .before .before .before .before .before .before .before .before .before .solve .result) (ends (c .before .before .before .before .before .before .before .before .before .before .before)) (c .before .before .before .before .answer .given .0 .0) (c .before .before .before .before .answer .given .1)
     (c .before .clear .last .1 .0) (c .before .clear .ensures) (now (s .args .page)) (s .args .at)
 
--- src/lib.rt:136:1
 same-length-2 : tie.Need-same-length-2
-same-length-2 c = search needs
+same-length-2 c = c .before .before .before .before .before .before .before .before .before .print-plan .kept .1 .1 .1 .1 .1 .0
 
--- src/lib.rt:136:1
 same-length-3 : tie.Need-same-length-3
-same-length-3 c = search needs
+same-length-3 c = c .before .before .before .before .before .before .before .before .before .print-plan .kept .1 .1 .1 .1 .1 .1 .0
 
--- src/lib.rt:136:1
 same-length-4 : tie.Need-same-length-4
-same-length-4 c = search needs
+same-length-4 c = c .before .before .before .before .before .before .before .before .before .print-plan .kept .1 .1 .1 .1 .1 .1 .1 .0
 
--- src/lib.rt:136:1
 same-length-5 : tie.Need-same-length-5
-same-length-5 c = search needs
+same-length-5 c = c .before .before .before .before .before .before .before .before .before .print-plan .kept .1 .1 .1 .1 .1 .1 .1 .1 .0
 
--- src/lib.rt:136:1
 same-length-6 : tie.Need-same-length-6
-same-length-6 c = search needs
+same-length-6 c = c .before .before .before .before .before .before .before .before .before .print-plan .kept .1 .1 .1 .1 .1 .1 .1 .1 .1 .0
 
--- src/lib.rt:136:1
 returns-2 : tie.Need-returns-2
 returns-2 c =
     let s = c .before .before .before .before .before .before .before .before .before .before .before .before .before .before .before .before .before .before .before .before .before .before .before .before .before .before .before .before .before .before .before .before .before .before .before .before .before .before .before .before .before .before .before in
     let f = plan-found (c .before .before .before .before .before .before .before .before .before .before .before .before .before .before .before .before .before .before .before) in
     plan-shown (lists s) (before s) (s .pre) own (after (c .before .before .before .before .before .before .before .before .before .before .before .before .before .before .before .before .before .before .before .before .before .before .before .before .before .before)) (f .0) (f .1) (f .2) (now (s .args .page)) (s .args .at) _ _ _ _ _ _ (c .before .before .before .before .before .before .before .before .before .print-plan .ensures)
 
--- src/lib.rt:136:1
 same-length-7 : tie.Need-same-length-7
-same-length-7 c = search needs
+same-length-7 c = c .before .before .before .before .before .print-ring .kept .1 .1 .1 .0
 
--- src/lib.rt:136:1
 same-length-8 : tie.Need-same-length-8
-same-length-8 c = search needs
+same-length-8 c = c .before .before .before .before .before .print-ring .kept .1 .1 .1 .1 .0
 
--- src/lib.rt:136:1
 same-length-9 : tie.Need-same-length-9
-same-length-9 c = search needs
+same-length-9 c = c .before .before .before .before .before .print-ring .kept .1 .1 .1 .1 .1 .0
 
--- src/lib.rt:136:1
 returns-3 : tie.Need-returns-3
 returns-3 c =
     let s = c .before .before .before .before .before .before .before .before .before .before .before .before .before .before .before .before .before .before .before .before .before .before .before .before .before .before .before .before .before .before .before .before .before .before .before .before .before .before .before in
