@@ -1,4 +1,4 @@
-"""Prints the tables of crate form, made from the three forms: `rt` for the constants of src/lib.rt, `antt` for the lists of specs/Grid.antt."""
+"""Prints the tables of crate form, made from the three forms: `rt` for the constants of src/tables.rt, `antt` for the lists of specs/Grid.antt."""
 import sys
 
 FORMS = ["(sheet #)", "(unit (window # #))", "(rule (slots # #) (count # #))"]  # '#' is a number
@@ -26,23 +26,27 @@ for f, form in enumerate(FORMS):
         grid[state(f, i)][CLASSES.index(sign)] = state(f, i + 1)
         if sign == "#":
             grid[state(f, i + 1)][CLASSES.index("#")] = state(f, i + 1)
-classes = [[class_of(16 * i + j) for j in range(16)] for i in range(16)]
+classes = [class_of(b) for b in range(256)]
 
 
-def rust(name, rows):
-    print("const %s: [[u8; %d]; %d] = [" % (name, len(rows[0]), len(rows)))
-    for row in rows:
+def rust():
+    print("pub const GRID: [[u8; %d]; %d] = [" % (len(grid[0]), len(grid)))
+    for row in grid:
         print("    [" + ", ".join(map(str, row)) + "],")
-    print("];\n")
+    print("];\n\npub const CLASSES: [u8; 256] = [")
+    for c in classes:
+        print("    %d," % c)
+    print("];")
 
 
-def antt(name, rows):
-    print("unfoldable pub %s : List (List ℕ)\n%s =" % (name, name))
-    for row in rows:
+def antt():
+    print("unfoldable pub grid : List (List ℕ)\ngrid =")
+    for row in grid:
         print("    (" + " ∷ ".join(map(str, row)) + " ∷ []) ∷")
-    print("    []\n")
+    print("    []\n\nunfoldable pub classes : List ℕ\nclasses =")
+    for i in range(0, 256, 16):
+        print("    " + " ∷ ".join(map(str, classes[i : i + 16])) + " ∷")
+    print("    []")
 
 
-write = rust if sys.argv[1] == "rt" else antt
-write("GRID" if write is rust else "grid", grid)
-write("CLASSES" if write is rust else "classes", classes)
+rust() if sys.argv[1] == "rt" else antt()
