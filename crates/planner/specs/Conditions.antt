@@ -12,9 +12,11 @@ use lib.Seq.{take-at}
 use lib.IntN.{ℤ, pos, negℤ}
 use lib.Signed.{_≤ℤ_}
 use Rattle.integers.specs.Parts.{ints, neg}
+use Rattle.network.specs.NetworkLaws.{cycle-infeasible}
 use Rattle.network.specs.Table.{entry, cleared}
 use Rattle.network.specs.TableLaws.{row-inside, values-at, length-values}
-use Rattle.sheet.specs.Sheet.{Sheet, top, lines, lawful, fair, countIn, leastIn, greatestIn, earliest, latest, earliestSlots, latestSlots, printedPlan, isRing}
+use Rattle.sheet.specs.Sheet.{Sheet, top, limit, lines, lawful, fair, countIn, leastIn, greatestIn, earliest, latest, earliestSlots, latestSlots, printedPlan, isRing}
+use Rattle.sheet.specs.PotentialLaws.{lawful-feasible}
 use Rattle.sheet.specs.PlanLaws.{lawful-iff, earliest-bound, earliest-attained, latest-bound, latest-attained, greatestIn-bound}
 use Rattle.sheet.specs.LimitTable.{boundaries}
 use Rattle.seating.specs.PrintedLaws.{Printed, some-printed}
@@ -23,6 +25,11 @@ use Rattle.planner.specs.Planning.{Lists, Rooms, given, places, refusal,
 use Rattle.planner.specs.ConditionLaws.{Planned, Ringed, call-refused, call-answered, call-planned}
 use Rattle.planner.specs.declared.Answer.{Answer}
 use Rattle.planner.specs.declared.Answer.the-variants.{Refused, Plan, None}
+
+-- A ring contradicts: where the sheet's limits have one, no plan is lawful.
+pub ring-contradicts : (s : Sheet) (ring : List ℕ) → T (isRing s ring) → (x : List ℕ) → T (lawful s x) → ⊥
+unfolding isRing
+ring-contradicts s ring h x l = cycle-infeasible (limit s) (top s) (λ b. pos (countIn 1 b x)) (lawful-feasible s x l (top s)) ring h
 
 module _ (l : Lists) (before : Rooms) (reply : Answer) (after : Rooms) (call : Left (verdict l before) (given l) before reply after) where
   abbrev pub s : Sheet
