@@ -2,3 +2,4 @@ pub mod Reading
 pub mod Steps
 pub mod PassLaws
 pub mod Samples
+pub mod AcceptedLaws

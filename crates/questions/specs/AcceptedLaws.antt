@@ -16,7 +16,7 @@ use Rattle.sheet.specs.Questions as Sheet
 use Rattle.form.specs.Form.{value}
 use Rattle.line.specs.Lines.{TextLine, lines}
 use Rattle.line.specs.Content.{Content, note, sheet, unit, rule, other, contentOf}
-use Rattle.questions.specs.Reading.{contents, isSheet, hasSheet, spanElse, spanIn, windowOf, unitsIn, ruleOf, rulesIn, sheetIn, Question, ask, inOrder, spanFits, isStretch, inSpan, isCount, countFits, questionsOf, lineQuestions, questions, Rooms, Verdict, no, allYes, firstNo}
+use Rattle.questions.specs.Reading.{contents, isSheet, hasSheet, spanElse, spanIn, windowOf, unitsIn, ruleOf, rulesIn, sheetIn, Question, ask, inOrder, spanFits, isStretch, inSpan, isCount, countFits, questionsOf, lineQuestions, questions, Rooms, roomsFit, Verdict, no, allYes, firstNo}
 
 -- ---- all answers are yes
 
@@ -148,3 +148,97 @@ module _ (xs : List Content) (x : Content) (g : Good xs) (plain : isSheet x ≡ 
         let o = order k in
         (us ∙ ap₂ _++_ (b .0) (o .0), rs ∙ ap₂ _++_ (b .1) (o .1));
   }
+
+sheet-now : (xs : List Content) (p : List ℕ) → T (hasSheet (xs ++ (sheet p ∷ [])))
+unfolding hasSheet
+sheet-now [] p = tt
+sheet-now (y ∷ ys) p = go (isSheet y) (sheet-now ys p)
+  where
+    go : (b : Bool) → T (hasSheet (ys ++ (sheet p ∷ []))) → T (b || hasSheet (ys ++ (sheet p ∷ [])))
+    go true h = tt
+    go false h = h
+
+not-false : (b : Bool) → T (not b) → T b → ⊥
+not-false true h t = h
+not-false false h t = t
+
+-- the first sheet form, before every unit and rule
+module _ (xs : List Content) (p : List ℕ) (g : Good xs) (first : T (not (hasSheet xs))) (fits : T (within 1 maxSlots (value p)))
+    (nu : T (leb (length (unitsIn (xs ++ (sheet p ∷ [])))) maxUnits)) (nr : T (leb (length (rulesIn (xs ++ (sheet p ∷ [])))) maxRules)) where
+  none-before : T (hasSheet xs) → ⊥
+  none-before = not-false (hasSheet xs) first
+
+  no-units : unitsIn (xs ++ (sheet p ∷ [])) ≡ []
+  unfolding unitsIn
+  no-units = joined-append windowOf xs (sheet p) ∙ append-nil (joined (map windowOf xs)) ∙ g .bare none-before .0
+
+  no-rules : rulesIn (xs ++ (sheet p ∷ [])) ≡ []
+  unfolding rulesIn
+  no-rules = joined-append ruleOf xs (sheet p) ∙ append-nil (joined (map ruleOf xs)) ∙ g .bare none-before .1
+
+  good-sheet : Good (xs ++ (sheet p ∷ []))
+  good-sheet =
+      let s = spanIn (xs ++ (sheet p ∷ [])) in
+      record {
+        span = λ t. subst (λ (q : ℕ). T (within 1 maxSlots q)) (sym (span-first xs p none-before)) fits;
+        windows = subst (λ (l : List Window). T (every (λ v. isStretch s (v .first) (v .last)) l)) (sym no-units) tt;
+        stretches = subst (λ (l : List Rule). T (every (λ r. isStretch s (r .from) (r .to)) l)) (sym no-rules) tt;
+        counts = subst (λ (l : List Rule). T (every (λ r. isCount (r .low) (r .high)) l)) (sym no-rules) tt;
+        units = nu;
+        rules = nr;
+        bare = λ h. absurd (h (sheet-now xs p));
+      }
+
+-- ---- a line whose questions are all answered yes
+good-line : (n : ℕ) (before : List Content) (l : TextLine) (x : Content) → Good before → AllYes (questionsOf n before l x) → Good (before ++ (x ∷ []))
+good-line n before l note g h =
+    good-more before note g refl tt tt tt (h .1 .1 .1 .1 .1 .1 .1 .1 .0) (h .1 .1 .1 .1 .1 .1 .1 .1 .1 .0) (λ k. (refl, refl))
+good-line n before l (sheet p) g h =
+    good-sheet before p g (h .1 .1 .1 .1 .0) (h .1 .1 .1 .1 .1 .0) (h .1 .1 .1 .1 .1 .1 .1 .1 .0) (h .1 .1 .1 .1 .1 .1 .1 .1 .1 .0)
+good-line n before l (unit f e) g h =
+    good-more before (unit f e) g refl (both (isStretch (spanIn before) (value f) (value e)) true (h .1 .1 .1 .1 .1 .1 .0) tt) tt tt
+    (h .1 .1 .1 .1 .1 .1 .1 .1 .0) (h .1 .1 .1 .1 .1 .1 .1 .1 .1 .0) (λ k. absurd (k (h .1 .1 .1 .1 .0)))
+good-line n before l (rule a b lo hi) g h =
+    good-more before (rule a b lo hi) g refl tt (both (isStretch (spanIn before) (value a) (value b)) true (h .1 .1 .1 .1 .1 .1 .0) tt)
+    (both (isCount (value lo) (value hi)) true (h .1 .1 .1 .1 .1 .1 .1 .0) tt)
+    (h .1 .1 .1 .1 .1 .1 .1 .1 .0) (h .1 .1 .1 .1 .1 .1 .1 .1 .1 .0) (λ k. absurd (k (h .1 .1 .1 .1 .0)))
+good-line n before l other g h =
+    good-more before other g refl tt tt tt (h .1 .1 .1 .1 .1 .1 .1 .1 .0) (h .1 .1 .1 .1 .1 .1 .1 .1 .1 .0) (λ k. (refl, refl))
+
+good-lines : (n : ℕ) (before : List Content) (ls : List TextLine) → Good before → AllYes (lineQuestions n before ls) → Good (before ++ contents ls)
+unfolding lineQuestions contents
+good-lines n before [] g h = subst Good (sym (append-nil before)) g
+good-lines n before (l ∷ ls) g h =
+    let x = contentOf (l .bytes) in
+    let now = questionsOf n before l x in
+    let later = lineQuestions (suc n) (before ++ (x ∷ [])) ls in
+    subst Good (append-assoc before (x ∷ []) (map (λ t. contentOf (t .bytes)) ls))
+    (good-lines (suc n) (before ++ (x ∷ [])) ls (good-line n before l x g (yes-front now later h)) (yes-back now later h))
+
+good-none : Good []
+unfolding unitsIn rulesIn spanIn hasSheet
+good-none = record { span = λ t. absurd t; windows = tt; stretches = tt; counts = tt; units = tt; rules = tt; bare = λ h. (refl, refl) }
+
+-- what reading accepts is accepted by planning
+good-accepted : (text : List ℕ) → Good (contents (lines text)) → T (hasSheet (contents (lines text))) → T (Sheet.accepted (sheetIn text))
+unfolding sheetIn Sheet.accepted Sheet.spanFits Sheet.unitsFit Sheet.rulesFit Sheet.windowsFit Sheet.stretchesFit Sheet.countsFit top
+good-accepted text g has =
+    let xs = contents (lines text) in
+    let a = within 1 maxSlots (spanIn xs) in
+    let b = leb (length (unitsIn xs)) maxUnits in
+    let c = leb (length (rulesIn xs)) maxRules in
+    let d = every (λ w. isStretch (spanIn xs) (w .first) (w .last)) (unitsIn xs) in
+    let e = every (λ r. isStretch (spanIn xs) (r .from) (r .to)) (rulesIn xs) in
+    let f = every (λ r. isCount (r .low) (r .high)) (rulesIn xs) in
+    both a (b && (c && (d && (e && f)))) (g .span has)
+    (both b (c && (d && (e && f))) (g .units)
+    (both c (d && (e && f)) (g .rules) (both d (e && f) (g .windows) (both e f (g .stretches) (g .counts)))))
+
+pub reading-accepts : (text : List ℕ) (sizes : Rooms ℕ) → firstNo (questions text sizes) ≡ allYes → T (Sheet.accepted (sheetIn text))
+unfolding questions
+reading-accepts text sizes e =
+    let xs = contents (lines text) in
+    let y = all-yes (questions text sizes) e .1 in
+    let ends = ask 5 0 (hasSheet xs) ∷ ask 12 0 (roomsFit (length (sheetIn text .units)) (length (sheetIn text .rules)) sizes) ∷ [] in
+    let g = good-lines 1 [] (lines text) good-none (yes-front (lineQuestions 1 [] (lines text)) ends y) in
+    good-accepted text g (yes-back (lineQuestions 1 [] (lines text)) ends y .0)
