@@ -21,10 +21,11 @@ use Rattle.sheet.specs.PlanLaws.{lawful-iff, earliest-bound, earliest-attained,
 use Rattle.sheet.specs.LimitTable.{boundaries}
 use Rattle.seating.specs.PrintedLaws.{Printed, some-printed}
 use Rattle.seating.specs.RangeLaws.{solved-plan, range, greatest-entry, least-entry}
-use Rattle.planner.specs.Planning.{Lists, Rooms, given, places, refusal, planned, ringed, verdict, Left, numberOf, hasPlan}
+use Rattle.asking.specs.Questions.{Lists, Rooms, given, places, refusal}
+use Rattle.solving.specs.Planning.{planned, ringed, verdict, Left, numberOf, hasPlan}
 use Rattle.planner.specs.ConditionLaws.{Planned, Ringed, call-refused, call-answered, call-planned}
-use Rattle.planner.specs.declared.Answer.{Answer}
-use Rattle.planner.specs.declared.Answer.the-variants.{Refused, Plan, None}
+use Rattle.solving.specs.declared.Answer.{Answer}
+use Rattle.solving.specs.declared.Answer.the-variants.{Refused, Plan, None}
 
 -- A ring contradicts: where the sheet's limits have one, no plan is lawful.
 pub ring-contradicts : (s : Sheet) (ring : List ℕ) → T (isRing s ring) → (x : List ℕ) → T (lawful s x) → ⊥

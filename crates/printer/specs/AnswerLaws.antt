@@ -25,8 +25,8 @@ use Rattle.sheet.specs.LimitTable.{boundaries, limitTable}
 use Rattle.sheet.specs.LimitTableLaws.{limit-small}
 use Rattle.seating.specs.PrintedLaws.{some-printed}
 use Rattle.seating.specs.RangeLaws.{greatest-entry, least-entry}
-use Rattle.planner.specs.Planning.{places, passed}
-use Rattle.planner.specs.PlanningLaws.{passed-solved}
+use Rattle.asking.specs.Questions.{places, passed}
+use Rattle.solving.specs.PlanningLaws.{passed-solved}
 use Rattle.page.specs.Page.{Printable, tablePage, leastFrom, greatestFrom, RingFits, nonePage}
 use Rattle.page.specs.PageLaws.{SameSlots, planPage-same, nonePage-same}
 use Rattle.page.specs.PageBounds.{RingRead, ring-read}

@@ -7,9 +7,10 @@ use Prim.Native.Nat.{ℕ, _+_}
 use lib.Dec.{leb}
 use lib.ListN.{length, take, drop}
 use Rattle.sheet.specs.Sheet.{Sheet, limit, leastIn, greatestIn, printedPlan, earliestSlots, latestSlots}
-use Rattle.planner.specs.Planning.{Lists, Rooms, given, Verdict, verdict, Left}
-use Rattle.planner.specs.declared.Answer.{Answer}
-use Rattle.planner.specs.declared.Answer.the-variants as planning
+use Rattle.asking.specs.Questions.{Lists, Rooms, given}
+use Rattle.solving.specs.Planning.{Verdict, verdict, Left}
+use Rattle.solving.specs.declared.Answer.{Answer}
+use Rattle.solving.specs.declared.Answer.the-variants as planning
 use Rattle.writing.specs.Writing.{onto}
 use Rattle.page.specs.Page.{planPage, nonePage}
 use Rattle.printer.specs.declared.Printed.{Printed}

@@ -7,8 +7,9 @@ ghost use lib.ListN.{length, getD, drop};
 ghost use mathlib.Core.List.{[]};
 ghost use Rattle.network.specs.Table.{entry, cleared};
 ghost use Rattle.sheet.specs.Questions.{sheetOf};
-ghost use Rattle.planner.specs.Planning.{listed, lent, passed, byPass};
-ghost use Rattle.planner.specs.Asking.{Solvable};
+ghost use Rattle.asking.specs.Questions.{listed, lent, passed};
+ghost use Rattle.solving.specs.Planning.{byPass};
+ghost use Rattle.asking.specs.Asking.{Solvable};
 ghost use Rattle.page.specs.Page.{Printable, tablePage, RingFits, nonePage};
 ghost use Rattle.printer.specs.Printing.{holds as holdsAnswer, onFront, Asked, PrintingOf, Printing, Told};
 
@@ -162,7 +163,7 @@ fn print_solved(
     let mut firsts = [0u16; 300];
     let mut lasts = [0u16; 300];
     let mut found = [0u16; 49];
-    let answer = planner::solve(
+    let answer = solving::solve(
         span,
         first,
         last,
@@ -180,11 +181,11 @@ fn print_solved(
     let cells = w * w;
     let n = first.len();
     match answer {
-        planner::Answer::Refused(no) => {
+        solving::Answer::Refused(no) => {
             network::clear(cells, table);
             Printed::Refused(no)
         }
-        planner::Answer::Plan => print_plan(
+        solving::Answer::Plan => print_plan(
             span,
             &closed[..cells],
             &seats[..n],
@@ -197,7 +198,7 @@ fn print_solved(
             page,
             at,
         ),
-        planner::Answer::None(k) => {
+        solving::Answer::None(k) => {
             sheet::fill::fill_limits(span, first, last, from, to, low, high, &mut closed);
             print_ring(&closed, w, &found[..k], table, ring, page, at)
         }
@@ -227,14 +228,14 @@ pub fn print(
         (lent (now (table .entry)) (now (plan .entry)) (now (earliest .entry)) (now (latest .entry)) (now (ring .entry))) (now (page .entry)) at r
         (lent (now (table .exit)) (now (plan .exit)) (now (earliest .exit)) (now (latest .exit)) (now (ring .exit))) (now (page .exit)) ⌝ }
 {
-    let rooms = planner::Lengths {
+    let rooms = asking::Lengths {
         table: table.len(),
         plan: plan.len(),
         earliest: earliest.len(),
         latest: latest.len(),
         ring: ring.len(),
     };
-    let no = planner::ask(span, first, last, from, to, low, high, rooms);
+    let no = asking::ask(span, first, last, from, to, low, high, rooms);
     if no == 0 {
         print_solved(
             span,
