@@ -6,8 +6,7 @@ use lib.Dec.{leb}
 use lib.ListN.{length}
 use lib.IntN.{ℤ}
 use Rattle.network.specs.Table.{Passed, finished, stopped, outOfRange, tableOf, passOf}
-use Rattle.sheet.specs.Sheet.{Sheet, Slot, limit}
-use Rattle.sheet.specs.LimitTable.{boundaries}
+use Rattle.sheet.specs.Sheet.{Sheet, Slot, limit, boundaries}
 use Rattle.sheet.specs.Questions.{sheetOf, listsAgree, spanFits, windowsFit, stretchesFit, countsFit, unitsFit, rulesFit}
 
 -- ---- the lists and the rooms of a call

@@ -15,9 +15,8 @@ use Rattle.integers.specs.Parts.{ints, neg}
 use Rattle.network.specs.Table.{Passed, finished, stopped, outOfRange, tableOf, entry, passOf}
 use Rattle.network.specs.TableLaws.{length-tableOf, row-inside}
 use Rattle.network.specs.PassLaws.{finished-kept}
-use Rattle.sheet.specs.Sheet.{Sheet, top, limit, lawful, printedPlan, earliestSlots, latestSlots, isRing}
+use Rattle.sheet.specs.Sheet.{Sheet, top, boundaries, limit, lawful, printedPlan, earliestSlots, latestSlots, isRing}
 use Rattle.sheet.specs.PlanLaws.{lawful-iff}
-use Rattle.sheet.specs.LimitTable.{boundaries}
 use Rattle.sheet.specs.Solved.{Solved}
 use Rattle.sheet.specs.QuestionLaws.{accepted-valid}
 use Rattle.asking.specs.Questions.{Lists, Rooms, given, places, passed, inRange, refusal}

@@ -15,10 +15,9 @@ use Rattle.integers.specs.Parts.{ints, neg}
 use Rattle.network.specs.NetworkLaws.{cycle-infeasible}
 use Rattle.network.specs.Table.{entry, cleared}
 use Rattle.network.specs.TableLaws.{row-inside, values-at, length-values}
-use Rattle.sheet.specs.Sheet.{Sheet, top, limit, lines, lawful, fair, countIn, leastIn, greatestIn, earliest, latest, earliestSlots, latestSlots, printedPlan, isRing}
+use Rattle.sheet.specs.Sheet.{Sheet, top, boundaries, limit, lines, lawful, fair, countIn, leastIn, greatestIn, earliest, latest, earliestSlots, latestSlots, printedPlan, isRing}
 use Rattle.sheet.specs.PotentialLaws.{lawful-feasible}
 use Rattle.sheet.specs.PlanLaws.{lawful-iff, earliest-bound, earliest-attained, latest-bound, latest-attained, greatestIn-bound}
-use Rattle.sheet.specs.LimitTable.{boundaries}
 use Rattle.seating.specs.PrintedLaws.{Printed, some-printed}
 use Rattle.seating.specs.RangeLaws.{solved-plan, range, greatest-entry, least-entry}
 use Rattle.asking.specs.Questions.{Lists, Rooms, given, places, refusal}

@@ -10,8 +10,8 @@ use lib.ListN.{length, take, drop}
 use lib.Seq.{take-at}
 use lib.IntN.{ℤ}
 use Rattle.network.specs.Table.{Passed, finished, stopped, outOfRange, cleared, entry}
-use Rattle.sheet.specs.Sheet.{Sheet, printedPlan, earliestSlots, latestSlots, isRing}
-use Rattle.sheet.specs.LimitTable.{boundaries, limitTable}
+use Rattle.sheet.specs.Sheet.{Sheet, printedPlan, earliestSlots, latestSlots, isRing, boundaries}
+use Rattle.limits.specs.LimitTable.{limitTable}
 use Rattle.sheet.specs.Questions.{accepted}
 use Rattle.planner.specs.EntryLaws.{lengthsOf, entry-refused, entry-solved}
 use Rattle.asking.specs.Asking.{askedNo}

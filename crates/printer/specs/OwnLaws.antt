@@ -12,8 +12,8 @@ use lib.IntN.{ℤ}
 use Rattle.lists.specs.Members.{both, left, right}
 use Rattle.network.specs.Table.{Passed, finished, stopped, outOfRange, cleared, entry}
 use Rattle.sheet.specs.Limits.{maxUnits}
-use Rattle.sheet.specs.Sheet.{Sheet, top, printedPlan, earliestSlots, latestSlots, isRing}
-use Rattle.sheet.specs.LimitTable.{boundaries, limitTable, Fillable}
+use Rattle.sheet.specs.Sheet.{Sheet, top, boundaries, printedPlan, earliestSlots, latestSlots, isRing}
+use Rattle.limits.specs.LimitTable.{limitTable, Fillable}
 use Rattle.sheet.specs.Questions.{accepted, sheetOf}
 use Rattle.sheet.specs.QuestionLaws.{accepted-sized, listsAgree-read}
 use Rattle.asking.specs.Questions.{Lists, Rooms, given, lent, places, roomsFit, fitsRooms, passed}

@@ -199,7 +199,7 @@ fn print_solved(
             at,
         ),
         solving::Answer::None(k) => {
-            sheet::fill::fill_limits(span, first, last, from, to, low, high, &mut closed);
+            limits::fill::fill_limits(span, first, last, from, to, low, high, &mut closed);
             print_ring(&closed, w, &found[..k], table, ring, page, at)
         }
     }

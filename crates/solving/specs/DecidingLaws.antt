@@ -9,8 +9,8 @@ use Rattle.network.specs.Table.{Passed, finished, stopped, outOfRange, tableOf,
 use Rattle.network.specs.TableLaws.{length-tableOf}
 use Rattle.network.specs.PassFront.{withRest, pass-front}
 use Rattle.network.specs.declared.Outcome.{Outcome}
-use Rattle.sheet.specs.Sheet.{Sheet, limit}
-use Rattle.sheet.specs.LimitTable.{boundaries, limitTable}
+use Rattle.sheet.specs.Sheet.{Sheet, limit, boundaries}
+use Rattle.limits.specs.LimitTable.{limitTable}
 use Rattle.asking.specs.Questions.{places, passed}
 use Rattle.solving.specs.Deciding.{tableLeft, Decided}
 

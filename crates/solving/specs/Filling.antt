@@ -6,8 +6,7 @@ use lib.Dec.{T}
 use lib.ListN.{length, drop}
 use lib.IntN.{ℤ}
 use Rattle.network.specs.Table.{entry}
-use Rattle.sheet.specs.Sheet.{Sheet, printedPlan, earliestSlots, latestSlots}
-use Rattle.sheet.specs.LimitTable.{boundaries}
+use Rattle.sheet.specs.Sheet.{Sheet, printedPlan, earliestSlots, latestSlots, boundaries}
 use Rattle.sheet.specs.Questions.{windowsOf, accepted}
 use Rattle.sheet.specs.Solved.{Solved}
 

@@ -14,9 +14,8 @@ use Rattle.network.specs.Closure.{Finished}
 use Rattle.network.specs.Table.{entry}
 use Rattle.network.specs.TableLaws.{row-inside}
 use Rattle.sheet.specs.Limits.{maxSlots, maxUnits}
-use Rattle.sheet.specs.Sheet.{Sheet, top, limit, lawful, printedPlan}
+use Rattle.sheet.specs.Sheet.{Sheet, top, boundaries, limit, lawful, printedPlan}
 use Rattle.sheet.specs.PlanLaws.{lawful-iff}
-use Rattle.sheet.specs.LimitTable.{boundaries}
 use Rattle.sheet.specs.Questions.{windowsOf, accepted}
 use Rattle.sheet.specs.QuestionLaws.{windowsOf-length, accepted-sized}
 use Rattle.sheet.specs.Solved.{Solved}

@@ -18,10 +18,9 @@ use Rattle.network.specs.Closure.{Finished}
 use Rattle.network.specs.Table.{Passed, finished, stopped, outOfRange, tableOf, entry, passOf}
 use Rattle.network.specs.TableLaws.{entry-tableOf}
 use Rattle.network.specs.PassLaws.{pass-finished, pass-sound, stopped-infeasible}
-use Rattle.sheet.specs.Sheet.{Sheet, top, limit, lawful, countIn}
+use Rattle.sheet.specs.Sheet.{Sheet, top, boundaries, limit, lawful, countIn}
 use Rattle.sheet.specs.LimitLaws.{limit-same}
 use Rattle.sheet.specs.PotentialLaws.{Valid, lawful-feasible}
-use Rattle.sheet.specs.LimitTable.{boundaries}
 use Rattle.sheet.specs.Solved.{Solved}
 use Rattle.sheet.specs.Questions.{spanFits, windowsFit, stretchesFit, countsFit, unitsFit, rulesFit, accepted}
 use Rattle.asking.specs.Questions.{Lists, Rooms, Question, given, agree, fitsRooms, passed, inRange, firstNo, asked, questions, refusal}

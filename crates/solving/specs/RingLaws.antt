@@ -16,9 +16,9 @@ use Rattle.lists.specs.Members.{left, right}
 use Rattle.network.specs.Network.{Weights, Potential, Feasible, via, around, distinct, lowestFirst, isNegativeCycle}
 use Rattle.network.specs.Table.{entry, stopped, cleared}
 use Rattle.cycles.specs.Finder.{Infeasible, Weighed, CycleAt}
-use Rattle.sheet.specs.Sheet.{Sheet, top, limit, isRing}
-use Rattle.sheet.specs.LimitTable.{boundaries, limitTable}
-use Rattle.sheet.specs.LimitTableLaws.{boundaries-fit, length-limitTable, limitTable-at, limitTable-small, limitTable-diagonal}
+use Rattle.sheet.specs.Sheet.{Sheet, top, boundaries, limit, isRing}
+use Rattle.limits.specs.LimitTable.{limitTable}
+use Rattle.limits.specs.LimitTableLaws.{boundaries-fit, length-limitTable, limitTable-at, limitTable-small, limitTable-diagonal}
 use Rattle.sheet.specs.Questions.{accepted}
 use Rattle.asking.specs.Questions.{places, passed}
 use Rattle.solving.specs.PlanningLaws.{stopped-no-potential}

@@ -14,9 +14,9 @@ use Rattle.network.specs.TableLaws.{length-tableOf}
 use Rattle.network.specs.PassLaws.{finished-kept}
 use Rattle.network.specs.declared.Outcome.{Outcome}
 use Rattle.network.specs.declared.Outcome.the-variants.{Finished, Stopped, OutOfRange}
-use Rattle.sheet.specs.Sheet.{Sheet, limit, printedPlan, earliestSlots, latestSlots, isRing}
-use Rattle.sheet.specs.LimitTable.{boundaries, Fillable}
-use Rattle.sheet.specs.LimitTableLaws.{accepted-span, boundaries-are}
+use Rattle.sheet.specs.Sheet.{Sheet, limit, printedPlan, earliestSlots, latestSlots, isRing, boundaries}
+use Rattle.limits.specs.LimitTable.{Fillable}
+use Rattle.limits.specs.LimitTableLaws.{accepted-span, boundaries-are}
 use Rattle.sheet.specs.Questions.{accepted, windowsOf, sheetOf}
 use Rattle.sheet.specs.QuestionLaws.{Agree, listsAgree-read, windowsOf-length, accepted-valid}
 use Rattle.sheet.specs.Solved.{Solved}

@@ -3,9 +3,9 @@ ghost use mathlib.Core.List.{_++_};
 ghost use Prim.Native.Nat.{ℕ, _+_, _≤_};
 ghost use lib.ListN.{length, drop};
 ghost use Rattle.network.specs.Table.{stopped};
-ghost use Rattle.sheet.specs.Sheet.{Sheet, printedPlan};
+ghost use Rattle.sheet.specs.Sheet.{Sheet, printedPlan, boundaries};
 ghost use Rattle.sheet.specs.Questions.{sheetOf};
-ghost use Rattle.sheet.specs.LimitTable.{boundaries, Fillable};
+ghost use Rattle.limits.specs.LimitTable.{Fillable};
 ghost use Rattle.asking.specs.Questions.{listed, lent, passed};
 ghost use Rattle.asking.specs.Asking.{Solvable};
 ghost use Rattle.solving.specs.Planning.{byPass, Left};
@@ -35,7 +35,7 @@ fn decide(
         let s = sheetOf span (now (first .entry)) (now (last .entry)) (now (from .entry)) (now (to .entry)) (now (low .entry)) (now (high .entry)) in
         ⌜ Decided s (now (table .entry)) r (now (table .exit)) ⌝ }
 {
-    sheet::fill::fill_limits(span, first, last, from, to, low, high, table);
+    limits::fill::fill_limits(span, first, last, from, to, low, high, table);
     network::pass(table, span + 1)
 }
 
@@ -68,7 +68,7 @@ fn find_ring(
         ⌜ RingFound s (now (table .entry)) (now (ring .entry)) r (now (table .exit)) (now (ring .exit)) ⌝ }
 {
     let w = span + 1;
-    sheet::fill::fill_limits(span, first, last, from, to, low, high, table);
+    limits::fill::fill_limits(span, first, last, from, to, low, high, table);
     let n = cycles::negative_cycle(table, w, ring);
     network::clear(w * w, table);
     n

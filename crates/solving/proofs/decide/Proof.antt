@@ -4,7 +4,7 @@ use Prim.Native.Nat.{ℕ, _+_, _*_, _≤_}
 use native.Mathlib.Omega.{arith}
 use lib.ListN.{length}
 use Rattle.sheet.specs.Questions.{sheetOf}
-use Rattle.sheet.specs.LimitTableLaws.{accepted-span, boundaries-are, length-limitTable}
+use Rattle.limits.specs.LimitTableLaws.{accepted-span, boundaries-are, length-limitTable}
 use Rattle.solving.specs.DecidingLaws.{decided}
 use Rattle.solving.proofs.decide.Statement.{statement}
 use Rattle.solving.proofs.decide.Tie as tie

@@ -5,7 +5,7 @@ use native.Mathlib.Omega.{arith}
 use native.Mathlib.Nat.{mul-le-mul}
 use lib.ListN.{length}
 use Rattle.sheet.specs.Questions.{sheetOf}
-use Rattle.sheet.specs.LimitTableLaws.{accepted-span, boundaries-are, length-limitTable}
+use Rattle.limits.specs.LimitTableLaws.{accepted-span, boundaries-are, length-limitTable}
 use Rattle.solving.specs.RingLaws.{weighed, no-potential, ring-found}
 use Rattle.solving.proofs.find_ring.Statement.{statement}
 use Rattle.solving.proofs.find_ring.Tie as tie
