@@ -1,0 +1,2 @@
+-- From what reading and printing leave to the answer.
+-- Key idea: every room is long enough for a sheet that reading accepts and the page for every answer, so that the pass over the sheet's limits alone decides.

@@ -1,0 +1,4 @@
+pub mod Answer
+pub mod Fronts
+pub mod FrontsLaws
+pub mod AnswerLaws
