@@ -37,19 +37,27 @@ given-back : (s : Sheet) → given (listsOf s) ≡ s
 unfolding sheetOf
 given-back s = rw (windows-back (s .units), rules-back (s .rules)) refl
 
+same-length : {A : Type 0} (xs : List A) (f g : A → ℕ) → T (eqb (length (map f xs)) (length (map g xs)))
+same-length xs f g = subst (λ k. T (eqb (length (map f xs)) k)) (length-map xs f ∙ sym (length-map xs g)) (eqb-refl (length (map f xs)))
+
 agree-back : (s : Sheet) → T (agree (listsOf s))
 unfolding listsAgree
 agree-back s =
-    let same : {A : Type 0} (f g : A → ℕ) (xs : List A) → T (eqb (length (map f xs)) (length (map g xs))) = λ f g xs. ? in
-    ?
+    let a = eqb (length (map (λ w. w .last) (s .units))) (length (map (λ w. w .first) (s .units))) in
+    let b = eqb (length (map (λ r. r .to) (s .rules))) (length (map (λ r. r .from) (s .rules))) in
+    let c = eqb (length (map (λ r. r .low) (s .rules))) (length (map (λ r. r .from) (s .rules))) in
+    let d = eqb (length (map (λ r. r .high) (s .rules))) (length (map (λ r. r .from) (s .rules))) in
+    both a (b && (c && d)) (same-length (s .units) (λ w. w .last) (λ w. w .first))
+    (both b (c && d) (same-length (s .rules) (λ r. r .to) (λ r. r .from))
+    (both c d (same-length (s .rules) (λ r. r .low) (λ r. r .from)) (same-length (s .rules) (λ r. r .high) (λ r. r .from))))
 
 -- ---- the front of each room
 module _ {A : Type 0} (f : A → ℕ) (xs : List A) (n : ℕ) (e : n ≡ length xs) (room : List ℕ) where
   front : take n (onto (map f xs) room) ≡ map f xs
-  front = take-at (map f xs) (drop (length (map f xs)) room) n (length-map f xs ∙ sym e)
+  front = take-at (map f xs) (drop (length (map f xs)) room) n (length-map xs f ∙ sym e)
 
   front-fits : n ≤ length (onto (map f xs) room)
-  front-fits = omega (arith, e, length-map f xs, length-append (map f xs) (drop (length (map f xs)) room))
+  front-fits = omega (arith, e, length-map xs f, length-append (map f xs) (drop (length (map f xs)) room))
 
 module _ (s : Sheet) (t : Read) (span : t .span ≡ s .span) (units : t .units ≡ length (s .units)) (rules : t .rules ≡ length (s .rules)) (m : Rooms (List ℕ)) where
   abbrev left : Rooms (List ℕ)
