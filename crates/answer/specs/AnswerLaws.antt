@@ -201,3 +201,10 @@ module _ (input : List ℕ) (m : Rooms (List ℕ)) (sizes : sizesOf m ≡ roomsF
               subst (λ v. ByReading v (sheetIn input) (a .bytes)) (sym all-yes) (subst (λ q. AnswerToSheet q (a .bytes)) sheet (a .answers));
           written = a .written;
         }
+
+-- ---- the place just past an answer lies within the page
+pub answered-inside : (Answer : List ℕ → Type 0) (page left : List ℕ) (next : ℕ) → Answered Answer page left next → next ≤ length left
+unfolding onto
+answered-inside Answer page left next a =
+    let w = a .written in
+    omega (arith, w .moved, ap length (w .filled), length-append (a .bytes) (drop (0 + length (a .bytes)) page))

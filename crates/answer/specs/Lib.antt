@@ -2,3 +2,4 @@ pub mod Answer
 pub mod Fronts
 pub mod FrontsLaws
 pub mod AnswerLaws
+pub mod AnswerConditions
