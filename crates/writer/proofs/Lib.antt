@@ -1,0 +1,4 @@
+mod Again
+mod Calls
+mod Held
+mod Thin
