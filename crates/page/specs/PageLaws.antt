@@ -3,8 +3,8 @@
 use mathlib.Core.Path.{_≡_, refl, sym, ap, ap₂, _∙_}
 use mathlib.Core.Logic.{⊎-elim}
 use mathlib.Core.Bool.{cond}
-use mathlib.Core.List.{List, [], _∷_, map, append-nil}
-use Prim.Native.Nat.{ℕ, zero, suc, _+_, _-_, _≤_, _<_}
+use mathlib.Core.List.{List, [], _∷_, append-nil}
+use Prim.Native.Nat.{ℕ, suc, _+_, _-_, _≤_, _<_}
 use native.Mathlib.Omega.{arith}
 use native.Mathlib.Numerals.{add-one}
 use lib.ListN.{length, drop, getD, length-append, drop-of-length-le}
@@ -13,7 +13,7 @@ use lib.IntN.{ℤ, negℤ, _+ℤ_}
 use lib.Seq.{drop-cons}
 use borrow.Author.Tests.{lt-ltb, le-ltb}
 use Rattle.integers.specs.Parts.{up, dn, sum, neg, apart}
-use Rattle.lists.specs.Lists.{run, joined}
+use Rattle.lists.specs.Lists.{joined}
 use Rattle.lists.specs.Values.{values-same, length-listOf, listOf-at}
 use Rattle.network.specs.Network.{Weights, via, around}
 use Rattle.network.specs.NetworkLaws.{Upto}

@@ -19,13 +19,7 @@ use writing::unit_length;
 
 // The answer page: that of a plan and that of a ring, each with its length.
 
-fn put_units(
-    page: &mut [u8],
-    at: usize,
-    plan: &[u16],
-    earliest: &[u16],
-    latest: &[u16],
-) -> usize
+fn put_units(page: &mut [u8], at: usize, plan: &[u16], earliest: &[u16], latest: &[u16]) -> usize
     requires { ⌜ (length (now earliest) ≡ length (now plan)) × (length (now latest) ≡ length (now plan)) × (length (now plan) ≤ maxUnits) ⌝ }
     requires { ⌜ Room (now page) at (unitLines (now plan) (now earliest) (now latest)) ⌝ }
     ensures { λ r. ⌜ Written (now (page .entry)) at (unitLines (now (plan .entry)) (now (earliest .entry)) (now (latest .entry)))
@@ -209,7 +203,13 @@ fn put_steps(page: &mut [u8], at: usize, limits: &[i16], w: usize, ring: &[u16])
 }
 
 // The head of the page of a ring, and a line for each step.
-pub fn put_head_and_steps(page: &mut [u8], at: usize, limits: &[i16], w: usize, ring: &[u16]) -> usize
+pub fn put_head_and_steps(
+    page: &mut [u8],
+    at: usize,
+    limits: &[i16],
+    w: usize,
+    ring: &[u16],
+) -> usize
     requires { ⌜ RingFits w (now limits) (now ring) ⌝ }
     requires { ⌜ Room (now page) at (headAndSteps (entry w (now limits)) (now ring)) ⌝ }
     ensures { λ r. ⌜ Written (now (page .entry)) at (headAndSteps (entry w (now (limits .entry))) (now (ring .entry))) (now (page .exit)) r ⌝ }

@@ -30,9 +30,13 @@ abbrev stays : Fields slots yes
 stays = (stay-slice (0 ∷ []) tt (plain (λ _. u8)), (stay-none (λ _. usize) yes, tt))
 
 abbrev pub writer-stay : Stay WriterS yes
-writer-stay = stay-declared (structAt name (named 0 ∷ []) slots) yes (stay-struct-at name (named 0 ∷ []) slots yes stays) Writer (λ κs. T.the-type (namedLft 1 0 tt κs) .to) (λ κs. T.the-type (namedLft 1 0 tt κs) .to-one)
+writer-stay =
+    stay-declared (structAt name (named 0 ∷ []) slots) yes (stay-struct-at name (named 0 ∷ []) slots yes stays) Writer
+    (λ κs. T.the-type (namedLft 1 0 tt κs) .to) (λ κs. T.the-type (namedLft 1 0 tt κs) .to-one)
 
 pub writer-goes : {M : Type 1} (𝓤 : URA M) (H : Heap 𝓤) (A : Atoms 𝓤) (W : Given 𝓤 H A) → Goes 𝓤 H A W 1 WriterS yes writer-stay
 writer-goes 𝓤 H A W =
-    goes-declared 𝓤 H A W 1 (structAt name (named 0 ∷ []) slots) yes (stay-struct-at name (named 0 ∷ []) slots yes stays) Writer (λ κs. T.the-type (namedLft 1 0 tt κs) .to) (λ κs. T.the-type (namedLft 1 0 tt κs) .to-one)
-    (goes-struct-at 𝓤 H A W 1 name (named 0 ∷ []) slots yes stays (goes-slice 𝓤 H A W 1 0 tt (plain (λ _. u8)), (goes-none 𝓤 H A W 1 (λ _. usize) yes (λ κs x f. refl), tt)))
+    goes-declared 𝓤 H A W 1 (structAt name (named 0 ∷ []) slots) yes (stay-struct-at name (named 0 ∷ []) slots yes stays) Writer
+    (λ κs. T.the-type (namedLft 1 0 tt κs) .to) (λ κs. T.the-type (namedLft 1 0 tt κs) .to-one)
+    (goes-struct-at 𝓤 H A W 1 name (named 0 ∷ []) slots yes stays
+    (goes-slice 𝓤 H A W 1 0 tt (plain (λ _. u8)), (goes-none 𝓤 H A W 1 (λ _. usize) yes (λ κs x f. refl), tt)))

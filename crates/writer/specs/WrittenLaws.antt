@@ -9,14 +9,15 @@ use denote.Ref.{now}
 use Rattle.lists.specs.Lists.{joined}
 use Rattle.network.specs.Network.{Weights}
 use Rattle.sheet.specs.Limits.{maxSlots}
-use Rattle.writing.specs.Writing.{Room, Written, onto, text, planHead, shortfallLine}
+use Rattle.writing.specs.Writing.{Room, Written, text, planHead, shortfallLine}
 use Rattle.writing.specs.WritingLaws.{Pending, onto-length, pending-whole, pending-room, pending-after, pending-nothing}
 use Rattle.page.specs.Page.{unitLines, headAndUnits, slotLines, tally, leastFrom, greatestFrom, tablePage, ringLines, headAndSteps, shortfallOf, nonePage}
 use Rattle.page.specs.PageLaws.{page-counted}
 use Rattle.writer.specs.Written.{written}
 use Rattle.writer.specs.declared.Writer.{Writer}
 
-module _ (w : Writer) (first second : List ℕ) {whole : List ℕ} (parts : whole ≡ joined (first ∷ second ∷ [])) (room : Room (now (w .page)) (w .place) whole) where
+module _ (w : Writer) (first second : List ℕ) {whole : List ℕ} (parts : whole ≡ joined (first ∷ second ∷ []))
+    (room : Room (now (w .page)) (w .place) whole) where
   begun : Pending (now (w .page)) (w .place) whole (now (w .page)) (w .place) (first ∷ second ∷ [])
   begun = pending-whole _ parts room
 
@@ -44,7 +45,8 @@ pub plan-parts : (span : ℕ) (plan earliest latest counts : List ℕ) (table : 
     ≡ joined (headAndUnits plan earliest latest ∷ slotLines span (λ t. getD counts t 0) (leastFrom (span + 1) table) (greatestFrom (span + 1) table) ∷ [])
 plan-parts span plan earliest latest counts table h e =
     page-counted span plan earliest latest counts (leastFrom (span + 1) table) (greatestFrom (span + 1) table) h e
-    ∙ three-as-two (planHead (length plan)) (unitLines plan earliest latest) (slotLines span (λ t. getD counts t 0) (leastFrom (span + 1) table) (greatestFrom (span + 1) table))
+    ∙ three-as-two (planHead (length plan)) (unitLines plan earliest latest)
+    (slotLines span (λ t. getD counts t 0) (leastFrom (span + 1) table) (greatestFrom (span + 1) table))
 
 pub none-parts : (d : Weights) (ring : List ℕ) → nonePage d ring ≡ joined (headAndSteps d ring ∷ shortfallLine (shortfallOf d ring) ∷ [])
 unfolding nonePage

@@ -25,12 +25,7 @@ pub fn new<'a>(page: &'a mut [u8], place: usize) -> Writer<'a>
 }
 
 // The head of the page of a plan, and a line for each unit.
-pub fn put_units<'a>(
-    w: Writer<'a>,
-    plan: &[u16],
-    earliest: &[u16],
-    latest: &[u16],
-) -> Writer<'a>
+pub fn put_units<'a>(w: Writer<'a>, plan: &[u16], earliest: &[u16], latest: &[u16]) -> Writer<'a>
     requires { ⌜ (length (now earliest) ≡ length (now plan)) × (length (now latest) ≡ length (now plan)) × (length (now plan) ≤ maxUnits) ⌝ }
     requires { ⌜ Room (now (w .page)) (w .place) (headAndUnits (now plan) (now earliest) (now latest)) ⌝ }
     ensures { λ r. ⌜ r ≡ written (w .entry) (headAndUnits (now (plan .entry)) (now (earliest .entry)) (now (latest .entry))) ⌝ }
@@ -74,7 +69,12 @@ pub fn put_steps<'a>(w: Writer<'a>, limits: &[i16], boundaries: usize, ring: &[u
 }
 
 // The last line of the page of a ring.
-pub fn put_shortfall<'a>(w: Writer<'a>, limits: &[i16], boundaries: usize, ring: &[u16]) -> Writer<'a>
+pub fn put_shortfall<'a>(
+    w: Writer<'a>,
+    limits: &[i16],
+    boundaries: usize,
+    ring: &[u16],
+) -> Writer<'a>
     requires { ⌜ RingFits boundaries (now limits) (now ring) ⌝ }
     requires { ⌜ Room (now (w .page)) (w .place) (shortfallLine (shortfallOf (entry boundaries (now limits)) (now ring))) ⌝ }
     ensures { λ r. ⌜ r ≡ written (w .entry) (shortfallLine (shortfallOf (entry boundaries (now (limits .entry))) (now (ring .entry)))) ⌝ }

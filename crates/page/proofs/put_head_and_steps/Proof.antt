@@ -1,6 +1,6 @@
 -- The head and then the steps.
 use mathlib.Core.Path.{refl, _∙_}
-use mathlib.Core.List.{List, [], _∷_}
+use mathlib.Core.List.{[], _∷_}
 use denote.Ref.{now}
 use Rattle.lists.specs.Lists.{joined}
 use Rattle.network.specs.Table.{entry}
@@ -36,7 +36,8 @@ returns : tie.Need-returns
 unfolding text
 returns c =
     pending-nothing
-    (pending-after (pending-after (begun (c .before .before .before .before .before .before .before .before .before .before .before)) (c .before .before .before .before .before .before .put-word .ensures))
+    (pending-after (pending-after (begun (c .before .before .before .before .before .before .before .before .before .before .before))
+    (c .before .before .before .before .before .before .put-word .ensures))
     (c .before .before .put-steps .ensures))
 
 pub put-head-and-steps-spec : {M : Type 1} → statement M

@@ -1,7 +1,7 @@
 -- The head and then the units.
 use native.Mathlib.Omega.{arith}
 use mathlib.Core.Path.{refl, _∙_}
-use mathlib.Core.List.{List, [], _∷_}
+use mathlib.Core.List.{[], _∷_}
 use denote.Ref.{now}
 use lib.ListN.{length}
 use Rattle.writing.specs.Writing.{text, oneNumber, planHead}
@@ -40,7 +40,8 @@ unfolding planHead oneNumber text
 returns c =
     pending-nothing
     (pending-after
-    (pending-after (begun (c .before .before .before .before .before .before .before .before .before .before .before .before .before)) (c .before .before .before .before .before .before .put-one-number .ensures))
+    (pending-after (begun (c .before .before .before .before .before .before .before .before .before .before .before .before .before))
+    (c .before .before .before .before .before .before .put-one-number .ensures))
     (c .before .before .put-units .ensures))
 
 pub put-head-and-units-spec : {M : Type 1} → statement M

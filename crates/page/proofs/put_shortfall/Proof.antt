@@ -32,7 +32,8 @@ returns : tie.Need-returns
 unfolding text
 returns c =
     let s = c .before .before .before .before .before .before .before .before in
-    subst (λ l. Written (now (s .args .page)) (s .args .at) l (c .before .before .put-one-number .last .0) (c .before .before .put-one-number .result)) (same (c .before .before .before))
+    subst (λ l. Written (now (s .args .page)) (s .args .at) l (c .before .before .put-one-number .last .0) (c .before .before .put-one-number .result))
+    (same (c .before .before .before))
     (c .before .before .put-one-number .ensures)
 
 pub put-shortfall-spec : {M : Type 1} → statement M
