@@ -1,8 +1,8 @@
--- The calls that `put_plan` and `put_none` make, each at the page's own lifetime κ, share q and ghost name: what a call asks is had, and what it leaves is a
--- writer that is known whole.
---     entry            for `new`, for a thin function (`with-facts`) and for `place`: what the caller has gives what the callee's triple asks
---     exit             `new-back`, `handed-back`, `place-back`: what the callee's triple leaves gives the token, and the writer or the last list
---     typed            a writer's machine value fits a local, whose type erases the lifetime
+-- The calls that `put_plan` and `put_none` make.
+-- Key idea: each is made at the page's own lifetime κ, share q and ghost name, so what it leaves is a writer that is known whole.
+--     goes-new, with-facts, goes-place         what the caller has gives what the callee's triple asks: for `new`, for a thin function and for `place`
+--     new-back, handed-back, place-back        what the triple leaves gives the token, and the writer or the last list
+--     typed                                    a writer's machine value fits a local, whose type erases the lifetime
 -- Assumes nothing.
 use mathlib.Core.Path.{_≡_, refl, sym, ap, subst}
 use Prim.Native.Nat.{ℕ, _<_, _^_}

@@ -2,3 +2,4 @@ mod Again
 mod Calls
 mod Held
 mod Thin
+mod ThinContract

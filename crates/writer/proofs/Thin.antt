@@ -4,6 +4,7 @@
 -- What the three own and what is asked of them go to the callee as they came. The callee's contract says `Written`, and that is the equation with `written`
 -- that the thin function owes.
 --     thin             the MIR
+--     spent-goes       the law of a writer that is handed back: nothing is had or said of it at exit
 --     Asks, Leaves     what the callee has before the call and after it, at the lifetime ν that is made for the call and the page's name δ
 --     thin-walks       the walk
 -- Assumes nothing.

@@ -1,8 +1,8 @@
--- `writer::put_none` meets its contract: a walk of its MIR, by hand. All that it knows of `new`, `put_steps`, `put_shortfall` and `place` is that each meets
--- its contract.
--- Each is called at the page's own lifetime, share and ghost name (`Calls.antt`): what they hand back is a writer that is known whole, so what `place` says
--- of the last list is said of `page`'s. The borrow is given up for
--- good (`gave-slice`). The limits and the ring are passed twice, by copies.
+-- `writer::put_none` meets its contract: a walk of its MIR, by hand. All that it knows of `new`, `put_steps`, `put_shortfall` and `place` is that each meets its
+-- contract.
+-- Key idea: each is called at the page's own lifetime, share and ghost name (`Calls.antt`). What they hand back is a writer that is known whole, so what
+-- `place` says of the last list is said of `page`'s, and the borrow is given up for good (`gave-slice`).
+-- The limits and the ring are passed twice, by copies.
 -- Assumes nothing.
 use mathlib.Core.Path.{refl}
 use Prim.Native.Nat.{ℕ, _<_, _^_}
@@ -77,8 +77,8 @@ module _ {M : Type 1} (𝓤 : URA M) (H : Heap 𝓤) (A : Atoms 𝓤) (mem : Mem
   abbrev Shortfall : Contract 𝓤
   Shortfall = tripleOf 𝓤 H A put-shortfall.signature (put-shortfall.spec 𝓤 H A mem run)
 
-module _ {M : Type 1} (𝓤 : URA M) (H : Heap 𝓤) (A : Atoms 𝓤) (W : Given 𝓤 H A) (mem : Memory → SProp 𝓤) (run : Routine
-    → Fun 𝓤) (κ κ₁ κ₂ : Lft) (q q₁ q₂ : Share)
+module _ {M : Type 1} (𝓤 : URA M) (H : Heap 𝓤) (A : Atoms 𝓤) (W : Given 𝓤 H A) (mem : Memory → SProp 𝓤)
+    (run : Routine → Fun 𝓤) (κ κ₁ κ₂ : Lft) (q q₁ q₂ : Share)
     (x : RefT (List ℕ)) (n : ℕ) (limits : RefT (List ℤ)) (w : ℕ) (ring : RefT (List ℕ)) (n-fits : n < 2 ^ 64) (w-fits : w < 2 ^ 64) where
   abbrev s : Val
   s = sliceVal (x .ptr) (length (x .now))

@@ -1,8 +1,8 @@
 -- `writer::put_plan` meets its contract: a walk of its MIR, by hand. All that it knows of `new`, `put_units`, `put_slots` and `place` is that each meets its
 -- contract.
--- Each is called at the page's own lifetime, share and ghost name (`Calls.antt`): what they hand back is a writer that is known whole, so what `place` says
--- of the last list is said of `page`'s. The borrow is given up for
--- good (`gave-slice`). Each of the other parameters goes to one call, with its lifetime's token.
+-- Key idea: each is called at the page's own lifetime, share and ghost name (`Calls.antt`). What they hand back is a writer that is known whole, so what
+-- `place` says of the last list is said of `page`'s, and the borrow is given up for good (`gave-slice`).
+-- Each of the other parameters goes to one call, with its lifetime's token.
 -- Assumes nothing.
 use mathlib.Core.Path.{_≡_, refl, ap, _∙_}
 use Prim.Native.Nat.{ℕ, _+_, _*_, _<_, _≤_, _^_}
@@ -89,8 +89,8 @@ module _ {M : Type 1} (𝓤 : URA M) (H : Heap 𝓤) (A : Atoms 𝓤) (mem : Mem
   abbrev Slots : Contract 𝓤
   Slots = tripleOf 𝓤 H A put-slots.signature (put-slots.spec 𝓤 H A mem run)
 
-module _ {M : Type 1} (𝓤 : URA M) (H : Heap 𝓤) (A : Atoms 𝓤) (W : Given 𝓤 H A) (mem : Memory → SProp 𝓤) (run : Routine
-    → Fun 𝓤) (κ κ₁ κ₂ κ₃ κ₄ κ₅ : Lft) (q q₁ q₂ q₃ q₄ q₅ : Share)
+module _ {M : Type 1} (𝓤 : URA M) (H : Heap 𝓤) (A : Atoms 𝓤) (W : Given 𝓤 H A) (mem : Memory → SProp 𝓤)
+    (run : Routine → Fun 𝓤) (κ κ₁ κ₂ κ₃ κ₄ κ₅ : Lft) (q q₁ q₂ q₃ q₄ q₅ : Share)
     (x : RefT (List ℕ)) (n span : ℕ) (plan earliest latest counts : RefT (List ℕ)) (table : RefT (List ℤ)) (n-fits : n < 2 ^ 64)
     (span-fits : span < 2 ^ 64) where
   abbrev s : Val
