@@ -95,7 +95,7 @@ fn print_plan(
     let length = page::plan_length(span, seats, firsts, lasts, &counts, closed);
     if holds(page.len(), at, length) {
         keep_plan(closed, seats, firsts, lasts, table, plan, earliest, latest);
-        let next = page::put_plan(page, at, span, seats, firsts, lasts, &counts, closed);
+        let next = writer::put_plan(page, at, span, seats, firsts, lasts, &counts, closed);
         Printed::Plan(next)
     } else {
         Printed::Refused(15)
@@ -126,7 +126,7 @@ fn print_ring(
     if holds(page.len(), at, length) {
         network::clear(w * w, table);
         copy_slots(found, ring);
-        let next = page::put_none(page, at, limits, w, found);
+        let next = writer::put_none(page, at, limits, w, found);
         Printed::None(found.len(), next)
     } else {
         Printed::Refused(15)
