@@ -10,7 +10,7 @@ use Rattle.sheet.specs.Sheet.{Sheet, isRing}
 use Rattle.questions.specs.Reading.{Verdict, no, allYes, firstNo, questions, roomsForAll, sheetIn}
 use Rattle.asking.specs.Questions.{passed}
 use Rattle.writing.specs.Writing.{text, digits, Written}
-use Rattle.printer.specs.Printing.{planBytes, ringBytes}
+use Rattle.printing.specs.Printing.{planBytes, ringBytes}
 
 -- the line of a refusal, as `(refused 7 (line 3))`
 unfoldable pub refusedLine : ℕ → ℕ → List ℕ

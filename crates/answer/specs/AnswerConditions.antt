@@ -22,7 +22,7 @@ use Rattle.asking.specs.Questions.{passed}
 use Rattle.solving.specs.PlanningLaws.{passed-solved, stopped-unlawful}
 use Rattle.writing.specs.Writing.{text, digits, digitsWithin, planHead}
 use Rattle.page.specs.Page.{planPage, nonePage}
-use Rattle.printer.specs.Printing.{planBytes, ringBytes}
+use Rattle.printing.specs.Printing.{planBytes, ringBytes}
 use Rattle.answer.specs.Answer.{refusedLine, ByPass, ByReading, AnswerTo}
 
 -- ---- the byte at place 10

@@ -27,10 +27,10 @@ use Rattle.solving.specs.declared.Answer.{Answer as Planned}
 use Rattle.writing.specs.Writing.{text, digits, onto, Room, Written}
 use Rattle.page.specs.Page.{maxPage}
 use Rattle.page.specs.PageBounds.{five-at-most, plan-short, none-short}
-use Rattle.printer.specs.Printing.{planBytes, ringBytes, holds, Asked, Shown, Printing}
+use Rattle.printing.specs.Printing.{planBytes, ringBytes, holds, Asked, Shown, Printing}
 use Rattle.printer.specs.OwnLaws.{own-fit}
-use Rattle.printer.specs.declared.Printed.{Printed}
-use Rattle.printer.specs.declared.Printed.the-variants.{Refused, Plan, None}
+use Rattle.printing.specs.declared.Printed.{Printed}
+use Rattle.printing.specs.declared.Printed.the-variants.{Refused, Plan, None}
 use Rattle.answer.specs.Answer.{refusedLine, ByPass, AnswerToSheet, ByReading, AnswerTo, Answered}
 use Rattle.answer.specs.Fronts.{fronts, Held}
 use Rattle.answer.specs.FrontsLaws.{held, front-sheet}

@@ -4,7 +4,7 @@ ghost use Rattle.asking.specs.Questions.{given};
 ghost use Rattle.writing.specs.Writing.{Written};
 ghost use Rattle.answer.specs.Answer.{refusedLine, AnswerToSheet, AnswerTo, Answered};
 ghost use Rattle.answer.specs.Fronts.{fronts, Held};
-use printer::Printed;
+use printing::Printed;
 use questions::Reading;
 use sheet::Sheet;
 

@@ -8,7 +8,7 @@ use Rattle.questions.specs.Reading.{Rooms, rooms}
 use Prim.Native.Nat.{ℕ}
 use mathlib.Core.List.{List}
 use Rattle.asking.specs.Questions.{given}
-use Rattle.printer.specs.declared.Printed.the-variants.{Refused, Plan, None}
+use Rattle.printing.specs.declared.Printed.the-variants.{Refused, Plan, None}
 use Rattle.answer.specs.Answer.{refusedLine, AnswerToSheet, Answered}
 use Rattle.answer.specs.Fronts.{fronts}
 use Rattle.answer.specs.AnswerLaws.{held-solvable, planningRooms, print-refused, print-plan, print-none, refusal-answered}

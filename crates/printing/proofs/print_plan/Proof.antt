@@ -6,9 +6,9 @@ use denote.Ref.{now}
 use lib.ListN.{length}
 use Rattle.asking.specs.Questions.{lent}
 use Rattle.page.specs.Page.{tablePage}
-use Rattle.printer.specs.PrintingLaws.{room, asked-yes, asked-no}
-use Rattle.printer.proofs.print_plan.Statement.{statement}
-use Rattle.printer.proofs.print_plan.Tie as tie
+use Rattle.printing.specs.PrintingLaws.{room, asked-yes, asked-no}
+use Rattle.printing.proofs.print_plan.Statement.{statement}
+use Rattle.printing.proofs.print_plan.Tie as tie
 
 slice-aggregate-count-slots : tie.Need-slice-aggregate-count-slots
 slice-aggregate-count-slots c = refl

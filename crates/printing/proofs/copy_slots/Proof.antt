@@ -6,8 +6,8 @@ use borrow.Author.Needs.{needs}
 use mathlib.Core.List.{List, _++_}
 use lib.ListN.{length, getD, drop, length-set}
 use Rattle.lists.specs.Values.{listOf, Filled, filled-store, listOf-is}
-use Rattle.printer.proofs.copy_slots.Statement.{statement}
-use Rattle.printer.proofs.copy_slots.Tie as tie
+use Rattle.printing.proofs.copy_slots.Statement.{statement}
+use Rattle.printing.proofs.copy_slots.Tie as tie
 
 abbrev Inv-loop : tie.InvT-loop
 Inv-loop slots out₀ i₀ i-end out i = (i ≤ length slots) × (i-end ≡ length slots) × (length out ≡ length out₀) × Filled (λ (j : ℕ). getD slots j 0) i out₀ out

@@ -7,10 +7,10 @@ use lib.ListN.{length}
 use Rattle.asking.specs.Questions.{lent}
 use Rattle.network.specs.Table.{entry}
 use Rattle.page.specs.Page.{nonePage}
-use Rattle.printer.specs.PrintingLaws.{room, asked-yes, asked-no}
+use Rattle.printing.specs.PrintingLaws.{room, asked-yes, asked-no}
 use borrow.Author.Needs.{needs}
-use Rattle.printer.proofs.print_ring.Statement.{statement}
-use Rattle.printer.proofs.print_ring.Tie as tie
+use Rattle.printing.proofs.print_ring.Statement.{statement}
+use Rattle.printing.proofs.print_ring.Tie as tie
 
 none-length-requires : tie.Need-none-length-requires
 none-length-requires c κs = c .before .before .before .pre .0

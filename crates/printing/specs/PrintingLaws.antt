@@ -11,9 +11,9 @@ use lib.IntN.{ℤ}
 use borrow.Author.Tests.{leb-true}
 use Rattle.asking.specs.Questions.{Rooms, lent}
 use Rattle.writing.specs.Writing.{onto, Room, Written}
-use Rattle.printer.specs.Printing.{holds, Outcome, Asked}
-use Rattle.printer.specs.declared.Printed.{Printed}
-use Rattle.printer.specs.declared.Printed.the-variants.{Refused, Plan, None}
+use Rattle.printing.specs.Printing.{holds, Outcome, Asked}
+use Rattle.printing.specs.declared.Printed.{Printed}
+use Rattle.printing.specs.declared.Printed.the-variants.{Refused, Plan, None}
 
 -- ---- question 15
 module _ (page : List ℕ) (at : ℕ) (bytes : List ℕ) (size : ℕ) (is : size ≡ length bytes) (b : Bool) (asked : b ≡ leb (at + size) (length page)) where

@@ -5,8 +5,8 @@ use Prim.Native.Nat.{ℕ, _+_, _-_, _≤_}
 use native.Mathlib.Omega.{arith}
 use lib.Dec.{leb}
 use borrow.Author.Tests.{le-leb, lt-leb, leb-true, leb-false}
-use Rattle.printer.proofs.holds.Statement.{statement}
-use Rattle.printer.proofs.holds.Tie as tie
+use Rattle.printing.proofs.holds.Statement.{statement}
+use Rattle.printing.proofs.holds.Tie as tie
 
 left-over : (page at answer : ℕ) → at ≤ page → (b : Bool) → leb answer (page - at) ≡ b → b ≡ leb (at + answer) page
 left-over page at answer h true e = sym (le-leb (at + answer) page (omega (arith, leb-true answer (page - at) e)))

@@ -13,8 +13,8 @@ use Rattle.solving.specs.declared.Answer.{Answer}
 use Rattle.solving.specs.declared.Answer.the-variants as planning
 use Rattle.writing.specs.Writing.{onto}
 use Rattle.page.specs.Page.{planPage, nonePage}
-use Rattle.printer.specs.declared.Printed.{Printed}
-use Rattle.printer.specs.declared.Printed.the-variants.{Refused, Plan, None}
+use Rattle.printing.specs.declared.Printed.{Printed}
+use Rattle.printing.specs.declared.Printed.the-variants.{Refused, Plan, None}
 
 -- the page of the sheet's printed plan: its narrowed windows, and the least and greatest count of each slot over lawful plans
 unfoldable pub planBytes : Sheet → List ℕ
