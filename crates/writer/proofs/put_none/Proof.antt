@@ -178,9 +178,8 @@ module _ {M : Type 1} (𝓤 : URA M) (H : Heap 𝓤) (A : Atoms 𝓤) (W : Given
         -- [the page's token; the page; the other tokens; what the rest owns]
         enter ! C Λ code.function
         (s ∷ vint w64 n ∷ sliceVal (limits .ptr) (length (limits .now)) ∷ vint w64 w ∷ sliceVal (ring .ptr) (length (ring .now)) ∷ []) _ $
-        alloc1 ! (λ l₀. alloc1 !
-        (λ l₁. alloc1 ! (λ l₂. alloc1 !
-        (λ l₃. alloc1 ! (λ l₄. alloc1 ! (λ l₅. alloc1 ! (λ l₆. alloc1 ! (λ l₇. alloc1 ! (λ l₈. alloc1 ! (λ l₉. alloc1 ! (λ l₁₀. alloc0 ! $ params1 ! $
+        alloc1 ! (λ l₀. alloc1 ! (λ l₁. alloc1 ! (λ l₂. alloc1 ! (λ l₃. alloc1 ! (λ l₄. alloc1 ! (λ l₅. alloc1 ! (λ l₆.
+        alloc1 ! (λ l₇. alloc1 ! (λ l₈. alloc1 ! (λ l₉. alloc1 ! (λ l₁₀. alloc0 ! $ params1 ! $
         pass1 ! (init ! 18 refl (tt, (tt, (record { fits = page-room .0 }, tt)))) $ pass1 ! (init ! 16 refl (tt, record { fits = n-fits })) $
         pass1 ! (init ! 14 refl (tt, (tt, (record { fits = limits-room .0 }, tt)))) $
         pass1 ! (init ! 12 refl (tt, record { fits = w-fits })) $ pass1 ! (init ! 10 refl (tt, (tt, (record { fits = ring-room .0 }, tt)))) $ pass0 ! $
