@@ -80,7 +80,13 @@ pub fn answer(text: &[u8], page: &mut [u8; MAX_ANSWER]) -> usize
     let mut low = [0u16; Sheet::MAX_RULES];
     let mut high = [0u16; Sheet::MAX_RULES];
     let reading = reader::read(
-        text, &mut first, &mut last, &mut from, &mut to, &mut low, &mut high,
+        text,
+        &mut first,
+        &mut last,
+        &mut from,
+        &mut to,
+        &mut low,
+        &mut high,
     );
     match reading {
         Reading::Refused(refusal) => refuse(page, refusal.number, refusal.line),
