@@ -2,6 +2,7 @@
 use mathlib.Core.Path.{_≡_, refl, sym, ap, _∙_}
 use mathlib.Core.List.{List}
 use Prim.Native.Nat.{ℕ}
+use native.Mathlib.Omega.{arith}
 use denote.Ref.{now}
 use lib.ListN.{replicate}
 use Rattle.questions.specs.Reading.{Rooms, rooms, roomsForAll, refused, read, reading, answerOf}
@@ -59,7 +60,9 @@ enum-known-reading : tie.Need-enum-known-reading
 enum-known-reading c = search needs
 
 refuse-requires : tie.Need-refuse-requires
-refuse-requires c κs = refused-small (input (called (c .before .before))) empty sizes _ _ (refused-told (c .before .before))
+refuse-requires c κs =
+    let r = refused-small (input (called (c .before .before))) empty sizes _ _ (refused-told (c .before .before)) in
+    (omega (arith, r .0), omega (arith, r .1))
 
 enum-known-reading-2 : tie.Need-enum-known-reading-2
 enum-known-reading-2 c = search needs
