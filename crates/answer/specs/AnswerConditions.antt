@@ -5,14 +5,15 @@ use mathlib.Core.Path.{_≡_, refl, sym, ap, _∙_, subst}
 use mathlib.Core.Logic.{_↔_}
 use mathlib.Core.Bool.{Bool, _&&_, not}
 use mathlib.Core.List.{List}
-use Prim.Native.Nat.{ℕ}
+use Prim.Native.Nat.{ℕ, _≤_}
 use native.Mathlib.Omega.{arith}
 use lib.Dec.{T, eqb}
-use lib.ListN.{getD}
-use Rattle.lists.specs.Lists.{fromTo, every, within}
-use Rattle.lists.specs.Members.{in-fromTo, every-in}
+use lib.ListN.{length, getD}
+use Rattle.lists.specs.Lists.{fromTo, every}
+use Rattle.lists.specs.Members.{within-iff, in-fromTo, every-in}
 use Rattle.network.specs.Table.{Passed, finished, stopped, outOfRange, entry}
 use Rattle.sheet.specs.Sheet.{Sheet, lawful, isRing, boundaries}
+use Rattle.sheet.specs.Questions.{accepted}
 use Rattle.sheet.specs.QuestionLaws.{accepted-valid}
 use Rattle.seating.specs.RangeLaws.{solved-plan}
 use Rattle.questions.specs.Reading.{Verdict, no, allYes, firstNo, questions, roomsForAll, sheetIn}
@@ -21,9 +22,11 @@ use Rattle.questions.specs.RefusalLaws.{reading-refusals}
 use Rattle.asking.specs.Questions.{passed}
 use Rattle.solving.specs.PlanningLaws.{passed-solved, stopped-unlawful}
 use Rattle.writing.specs.Writing.{text, digits, digitsWithin, planHead}
-use Rattle.page.specs.Page.{planPage, nonePage}
+use Rattle.page.specs.Page.{planPage, nonePage, maxPage}
+use Rattle.page.specs.PageBounds.{plan-short, none-short}
 use Rattle.printing.specs.Printing.{planBytes, ringBytes}
 use Rattle.answer.specs.Answer.{refusedLine, ByPass, ByReading, AnswerTo}
+use Rattle.answer.specs.AnswerLaws.{refused-short}
 
 -- ---- the byte at place 10
 
@@ -71,14 +74,30 @@ never-12 input bytes a line e = subst (λ b. T (other b)) (ap mark e ∙ refused
 pub never-15 : (input bytes : List ℕ) → AnswerTo input bytes → (line : ℕ) → bytes ≡ refusedLine 15 line → ⊥
 never-15 input bytes a line e = subst (λ b. T (other b)) (ap mark e ∙ refused-mark line .2) (answer-mark input bytes a)
 
+-- ---- No answer is longer than the page that the program lends.
+pub answer-short : (input bytes : List ℕ) → AnswerTo input bytes → length bytes ≤ maxPage
+unfolding planBytes ringBytes
+answer-short input bytes = by-reading (firstNo (questions input roomsForAll)) refl
+  where
+    by-pass : (p : Passed) → T (accepted (sheetIn input)) → ByPass p (sheetIn input) bytes → length bytes ≤ maxPage
+    by-pass (finished t) ok a = omega (arith, ap length a, plan-short (sheetIn input) ok)
+    by-pass stopped ok a = omega (arith, ap length (a .2), none-short (sheetIn input) ok (a .0) (a .1))
+    by-pass outOfRange ok a = omega (arith, ap length a, refused-short 14 0 (omega arith) (omega arith))
+
+    by-reading : (v : Verdict) → firstNo (questions input roomsForAll) ≡ v → ByReading v (sheetIn input) bytes → length bytes ≤ maxPage
+    by-reading (no n l) e a =
+        let r = reading-refusals input n l e in
+        omega (arith, ap length a, refused-short n l (omega (arith, within-iff 1 11 n .0 (r .number-known) .1)) (r .line-known))
+    by-reading allYes e a = by-pass (passed (sheetIn input)) (reading-accepts input roomsForAll e) a
+
 -- ---- A text that is not refused
-module _ (input bytes : List ℕ) (a : AnswerTo input bytes) (accepted : firstNo (questions input roomsForAll) ≡ allYes)
+module _ (input bytes : List ℕ) (a : AnswerTo input bytes) (all-yes : firstNo (questions input roomsForAll) ≡ allYes)
     (in-range : bytes ≡ refusedLine 14 0 → ⊥) where
   abbrev pub s : Sheet
   s = sheetIn input
 
   of-sheet : ByPass (passed s) s bytes
-  of-sheet = subst (λ v. ByReading v s bytes) accepted a
+  of-sheet = subst (λ v. ByReading v s bytes) all-yes a
 
   -- gets the page of a plan exactly when some assignment meets all windows and all rules;
   pub plan-exactly-when-lawful : (bytes ≡ planBytes s) ↔ ((x : List ℕ) × T (lawful s x))
@@ -86,7 +105,7 @@ module _ (input bytes : List ℕ) (a : AnswerTo input bytes) (accepted : firstNo
     where
       go : (p : Passed) → passed s ≡ p → ByPass p s bytes → (bytes ≡ planBytes s) ↔ ((x : List ℕ) × T (lawful s x))
       go (finished t) e b =
-          let solved = passed-solved s (accepted-valid s (reading-accepts input roomsForAll accepted)) t e in
+          let solved = passed-solved s (accepted-valid s (reading-accepts input roomsForAll all-yes)) t e in
           (λ f. solved-plan s (entry (boundaries s) t) solved, λ x. b)
       go stopped e b = (
         λ f. absurd (omega (arith, sym (plan-mark s) ∙ ap mark (sym f ∙ b .2) ∙ ring-mark s (b .0))),
@@ -100,7 +119,7 @@ module _ (input bytes : List ℕ) (a : AnswerTo input bytes) (accepted : firstNo
     where
       go : (p : Passed) → passed s ≡ p → ByPass p s bytes → (ring : List ℕ) × T (isRing s ring) × (bytes ≡ ringBytes s ring)
       go (finished t) e b =
-          let x = solved-plan s (entry (boundaries s) t) (passed-solved s (accepted-valid s (reading-accepts input roomsForAll accepted)) t e) in
+          let x = solved-plan s (entry (boundaries s) t) (passed-solved s (accepted-valid s (reading-accepts input roomsForAll all-yes)) t e) in
           absurd (none (x .0) (x .1))
       go stopped e b = b
       go outOfRange e b = absurd (in-range b)

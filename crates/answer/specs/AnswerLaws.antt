@@ -3,10 +3,10 @@
 -- sheet's limits alone decide.
 use mathlib.Core.Path.{_≡_, refl, sym, ap, ap₂, _∙_, subst}
 use mathlib.Core.Bool.{Bool, true, false}
-use mathlib.Core.List.{List, [], _∷_, _++_}
+use mathlib.Core.List.{List}
 use Prim.Native.Nat.{ℕ, _+_, _≤_}
 use native.Mathlib.Omega.{arith}
-use lib.Dec.{T, leb}
+use lib.Dec.{T}
 use lib.ListN.{length, take, drop, replicate, length-append}
 use lib.Seq.{take-at}
 use lib.IntN.{pos}
@@ -20,11 +20,11 @@ use Rattle.questions.specs.AcceptedLaws.{reading-accepts}
 use Rattle.questions.specs.RefusalLaws.{reading-refusals}
 use Rattle.reader.specs.Rooms.{sizesOf, leaves, roomsAfter}
 use Rattle.asking.specs.Questions.{Lists, Rooms as Lent, lent, given, passed}
-use Rattle.solving.specs.Planning.{byPass, Left, ringed}
+use Rattle.solving.specs.Planning.{byPass, Left}
 use Rattle.asking.specs.Asking.{Solvable}
 use Rattle.planner.specs.EntryLaws.{verdict-solvable}
 use Rattle.solving.specs.declared.Answer.{Answer as Planned}
-use Rattle.writing.specs.Writing.{text, digits, onto, Room, Written}
+use Rattle.writing.specs.Writing.{text, onto, Room, Written}
 use Rattle.page.specs.Page.{maxPage}
 use Rattle.page.specs.PageBounds.{five-at-most, plan-short, none-short}
 use Rattle.printing.specs.Printing.{planBytes, ringBytes, holds, Asked, Shown, Printing}
@@ -36,10 +36,12 @@ use Rattle.answer.specs.Fronts.{fronts, Held}
 use Rattle.answer.specs.FrontsLaws.{held, front-sheet}
 
 -- ---- the line of a refusal fits the page
-pub refused-room : (page : List ℕ) (number line : ℕ) → number ≤ 14 → line ≤ maxBytes → maxPage ≤ length page → Room page 0 (refusedLine number line)
+pub refused-short : (number line : ℕ) → number ≤ 14 → line ≤ maxBytes → length (refusedLine number line) ≤ maxPage
 unfolding refusedLine text
-refused-room page number line hn hl long =
-    record { fits = simp length-append (omega (arith, five-at-most number (omega arith), five-at-most line (omega arith))) }
+refused-short number line hn hl = simp length-append (omega (arith, five-at-most number (omega arith), five-at-most line (omega arith)))
+
+pub refused-room : (page : List ℕ) (number line : ℕ) → number ≤ 14 → line ≤ maxBytes → maxPage ≤ length page → Room page 0 (refusedLine number line)
+refused-room page number line hn hl long = record { fits = omega (arith, refused-short number line hn hl) }
 
 -- ---- the rooms that a call lends for planning hold every accepted sheet
 abbrev pub planningRooms : Lent
@@ -171,7 +173,7 @@ module _ (input : List ℕ) (m : Rooms (List ℕ)) (sizes : sizesOf m ≡ roomsF
     pub refused-answer : AnswerTo input (refusedLine number line)
     refused-answer = subst (λ v. ByReading v (sheetIn input) (refusedLine number line)) (sym first-no) refl
 
-  module _ (t : Read) (e : read (t .span) (t .units) (t .rules) ≡ reading input (sizesOf m)) where
+  module _ (t : Read) (e : read (t .span) (t .units) (t .rules) ≡ reading input (sizesOf m)) (after : Rooms (List ℕ)) (lists : after ≡ roomsAfter input m) where
     all-yes : verdict ≡ allYes
     all-yes = go verdict (e ∙ decided)
       where
@@ -182,19 +184,19 @@ module _ (input : List ℕ) (m : Rooms (List ℕ)) (sizes : sizesOf m ≡ roomsF
     same : read (t .span) (t .units) (t .rules) ≡ read (sheetIn input .span) (length (sheetIn input .units)) (length (sheetIn input .rules))
     same = e ∙ decided ∙ ap (λ v. concluded v (sheetIn input)) all-yes
 
-    left-is : roomsAfter input m ≡ leaves (read 0 0 0) (sheetIn input) m
-    left-is = ap (λ a. leaves a (sheetIn input) m) (sym e)
+    left-is : after ≡ leaves (read 0 0 0) (sheetIn input) m
+    left-is = lists ∙ ap (λ a. leaves a (sheetIn input) m) (sym e)
 
     -- the lists hold the text's sheet
-    pub read-held : Held t (roomsAfter input m)
+    pub read-held : Held t after
     read-held =
         subst (Held t) (sym left-is)
         (held (sheetIn input) t (ap first-of same) (ap second-of same) (ap third-of same) m (reading-accepts input roomsForAll all-yes))
 
-    pub read-answered : (page left : List ℕ) (next : ℕ) → Answered (AnswerToSheet (given (fronts t (roomsAfter input m)))) page left next
+    pub read-answered : (page left : List ℕ) (next : ℕ) → Answered (AnswerToSheet (given (fronts t after))) page left next
         → Answered (AnswerTo input) page left next
     read-answered page left next a =
-        let sheet : given (fronts t (roomsAfter input m)) ≡ sheetIn input =
+        let sheet : given (fronts t after) ≡ sheetIn input =
         ap (λ r. given (fronts t r)) left-is ∙ front-sheet (sheetIn input) t (ap first-of same) (ap second-of same) (ap third-of same) m in
         record {
           bytes = a .bytes;

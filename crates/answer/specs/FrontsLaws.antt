@@ -2,8 +2,8 @@
 -- Key idea: a sheet in parallel lists is the sheet again, and the front of a room is what was put onto it.
 use mathlib.Core.Path.{_≡_, refl, sym, ap, _∙_, subst}
 use mathlib.Core.Bool.{_&&_}
-use mathlib.Core.List.{List, [], _∷_, _++_, map}
-use Prim.Native.Nat.{ℕ, _+_, _≤_}
+use mathlib.Core.List.{List, [], _∷_, map}
+use Prim.Native.Nat.{ℕ, _≤_}
 use native.Mathlib.Omega.{arith}
 use lib.Dec.{T, eqb, eqb-refl}
 use lib.ListN.{length, take, drop, length-append, length-map}
@@ -12,9 +12,8 @@ use Rattle.lists.specs.Members.{both}
 use Rattle.sheet.specs.Sheet.{Window, Rule, Sheet}
 use Rattle.sheet.specs.Questions.{windowsOf, rulesOf, sheetOf, listsAgree, accepted}
 use Rattle.sheet.specs.declared.Sheet.{Sheet as Read}
-use Rattle.questions.specs.Reading.{Rooms, rooms, Answer, refused, read, reading, Verdict, no, allYes, firstNo, questions, concluded, sheetIn}
-use Rattle.questions.specs.AcceptedLaws.{reading-accepts}
-use Rattle.reader.specs.Rooms.{sizesOf, onto, leaves, roomsAfter}
+use Rattle.questions.specs.Reading.{Rooms, read}
+use Rattle.reader.specs.Rooms.{onto, leaves}
 use Rattle.asking.specs.Questions.{Lists, listed, given, agree}
 use Rattle.answer.specs.Fronts.{fronts, Held}
 

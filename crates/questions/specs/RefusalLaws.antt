@@ -11,7 +11,7 @@ use lib.Dec.{T, eqb, leb}
 use lib.ListN.{length}
 use borrow.Author.Tests.{leb-true}
 use Rattle.lists.specs.Lists.{within}
-use Rattle.lists.specs.Members.{both, left, right}
+use Rattle.lists.specs.Members.{both}
 use Rattle.sheet.specs.Limits.{maxUnits, maxRules}
 use Rattle.form.specs.Words.{lineFeed}
 use Rattle.line.specs.Lines.{TextLine, textLine, inFront, lines}

@@ -1,16 +1,12 @@
 -- Reading's answer decides: its refusal is printed, or the sheet that it left at the front of the lists is answered.
-use mathlib.Core.Path.{_≡_, refl, sym, ap, _∙_, subst}
+use mathlib.Core.Path.{_≡_, refl, sym, ap, _∙_}
 use mathlib.Core.List.{List}
 use Prim.Native.Nat.{ℕ}
+use native.Mathlib.Omega.{arith}
 use denote.Ref.{now}
 use lib.ListN.{replicate}
-use Rattle.sheet.specs.declared.Sheet.{Sheet}
 use Rattle.questions.specs.Reading.{Rooms, rooms, roomsForAll, refused, read, reading, answerOf}
-use Rattle.questions.specs.declared.Reading.the-variants as Reading
 use Rattle.reader.specs.Rooms.{sizesOf}
-use Rattle.asking.specs.Questions.{given}
-use Rattle.answer.specs.Answer.{AnswerToSheet, Answered}
-use Rattle.answer.specs.Fronts.{fronts, Held}
 use Rattle.answer.specs.AnswerLaws.{refused-small, refused-answer, read-held, read-answered, refusal-answered}
 use borrow.Author.Needs.{needs}
 use Rattle.answer.proofs.answer.Statement.{statement}
@@ -23,8 +19,21 @@ empty = rooms (replicate 300 0) (replicate 300 0) (replicate 60 0) (replicate 60
 sizes : sizesOf empty ≡ roomsForAll
 sizes = refl
 
-abbrev start : tie.After-read → tie.Start
-start c = c .before .before .before .before .before .before .before .before
+-- from what reading answered back to the call, and to the start
+abbrev called : tie.After-reading → tie.After-read
+called c = c .before .before .before .before .before .before .before .before
+
+abbrev called-2 : tie.After-reading2 → tie.After-read
+called-2 c = c .before .before .before .before .before .before .before .before
+
+abbrev input : tie.After-read → List ℕ
+input c = now (c .before .before .before .before .before .before .before .before .args .text)
+
+refused-told : (c : tie.After-reading) → refused (c .reading .given .0 .0 .number) (c .reading .given .0 .0 .line) ≡ reading (input (called c)) (sizesOf empty)
+refused-told c = sym (ap answerOf (c .reading .given .1)) ∙ called c .read .ensures .0
+
+read-told : (c : tie.After-reading2) → let s = c .reading2 .given .0 .0 in read (s .span) (s .units) (s .rules) ≡ reading (input (called-2 c)) (sizesOf empty)
+read-told c = sym (ap answerOf (c .reading2 .given .1)) ∙ called-2 c .read .ensures .0
 
 slice-aggregate-read : tie.Need-slice-aggregate-read
 slice-aggregate-read c = search needs
@@ -52,7 +61,8 @@ enum-known-reading c = search needs
 
 refuse-requires : tie.Need-refuse-requires
 refuse-requires c κs =
-    refused-small (now (start (c .before .before .before .before .before .before .before .before .before .before) .args .text)) empty sizes _ _ (sym (ap answerOf (c .before .before .reading .given .1)) ∙ c .before .before .before .before .before .before .before .before .before .before .read .ensures .0)
+    let r = refused-small (input (called (c .before .before))) empty sizes _ _ (refused-told (c .before .before)) in
+    (omega (arith, r .0), omega (arith, r .1))
 
 enum-known-reading-2 : tie.Need-enum-known-reading-2
 enum-known-reading-2 c = search needs
@@ -77,19 +87,18 @@ slice-aggregate-answer-sheet-6 c = search needs
 
 answer-sheet-requires : tie.Need-answer-sheet-requires
 answer-sheet-requires c κs =
-    subst (Held (c .before .before .before .before .before .before .before .before .reading2 .given .0 .0)) (sym (c .before .before .before .before .before .before .before .before .before .before .before .before .before .before .before .before .read .ensures .1))
-    (read-held (now (start (c .before .before .before .before .before .before .before .before .before .before .before .before .before .before .before .before) .args .text)) empty sizes _ (sym (ap answerOf (c .before .before .before .before .before .before .before .before .reading2 .given .1)) ∙ c .before .before .before .before .before .before .before .before .before .before .before .before .before .before .before .before .read .ensures .0))
+    let d = c .before .before .before .before .before .before .before .before in
+    read-held (input (called-2 d)) empty sizes _ (read-told d) _ (called-2 d .read .ensures .1)
 
 returns : tie.Need-returns
 returns c =
-    refusal-answered _
-    (refused-answer (now (start (c .before .before .before .before .before .before .before .before .before .before .before) .args .text)) empty sizes _ _ (sym (ap answerOf (c .before .before .before .reading .given .1)) ∙ c .before .before .before .before .before .before .before .before .before .before .before .read .ensures .0)) refl (c .refuse .ensures)
+    let d = c .before .before .before in
+    refusal-answered _ (refused-answer (input (called d)) empty sizes _ _ (refused-told d)) refl (c .refuse .ensures)
 
 returns-2 : tie.Need-returns-2
 returns-2 c =
-    read-answered (now (start (c .before .before .before .before .before .before .before .before .before .before .before .before .before .before .before .before .before) .args .text)) empty sizes _ (sym (ap answerOf (c .before .before .before .before .before .before .before .before .before .reading2 .given .1)) ∙ c .before .before .before .before .before .before .before .before .before .before .before .before .before .before .before .before .before .read .ensures .0) _ _ _
-    (subst (λ (m : Rooms (List ℕ)). Answered (AnswerToSheet (given (fronts (c .before .before .before .before .before .before .before .before .before .reading2 .given .0 .0) m))) (now (start (c .before .before .before .before .before .before .before .before .before .before .before .before .before .before .before .before .before) .args .page)) (c .answer-sheet .last .1 .1 .1 .1 .1 .1 .1 .0) (c .answer-sheet .result))
-    (c .before .before .before .before .before .before .before .before .before .before .before .before .before .before .before .before .before .read .ensures .1) (c .answer-sheet .ensures))
+    let d = c .before .before .before .before .before .before .before .before .before in
+    read-answered (input (called-2 d)) empty sizes _ (read-told d) _ (called-2 d .read .ensures .1) _ _ _ (c .answer-sheet .ensures)
 
 pub answer-spec : {M : Type 1} → statement M
 answer-spec =
