@@ -5,8 +5,9 @@
  * as many places behind it as the length beside it says, and what is lent for writing overlaps nothing else.
  *
  * The reply is 0, or the number of the question that refused the call. A refused call changes no room. The numbers that a
- * call gives beside its reply are always written, with 0 for what the reply does not have.
- * Link libreader.a, libplanner.a and libprinter.a (rt staticlib NAME), whichever are called.
+ * call gives beside its reply are always written, with 0 for what the reply does not have; a running place that nothing was
+ * printed at stays as it was.
+ * Link target/staticlib/libtugrokt.a, which `rt staticlib tugrokt` makes.
  */
 #ifndef TUGROKT_H
 #define TUGROKT_H
@@ -68,7 +69,7 @@ size_t tugrokt_print(size_t span,
 
 /*
  * The pass over a table of w rows of w numbers, in place: 0 where it finished, 1 where a diagonal entry fell below 0, 2 where a
- * sum is out of range; then the w*w places are 0. Needs 1 <= w <= TUGROKT_MOST_BOUNDARIES and w*w places in t. Link libcycles.a.
+ * sum is out of range; then the w*w places are 0. Needs 1 <= w <= TUGROKT_MOST_BOUNDARIES and w*w places in t.
  */
 size_t tugrokt_pass(int16_t *t, size_t t_length, size_t w);
 

@@ -1,4 +1,4 @@
-//! Tells the tests where the libraries and the program are.
+//! Tells the tests where the library and the program are.
 //!
 //! The program is `../target/bin/wave`, brought up to date by `rt check wave`. Where `TUGROKT_WAVE` names a program, that one is
 //! run.
@@ -10,10 +10,7 @@ use std::process::Command;
 fn main() {
     println!("cargo:rerun-if-changed=build.rs");
     println!("cargo:rerun-if-env-changed=TUGROKT_WAVE");
-    for name in ["reader", "planner", "printer", "cycles"] {
-        let upper = name.to_uppercase();
-        println!("cargo:rustc-env=LIBRARY_{upper}={}", env::var(format!("DEP_TUGROKT_{upper}")).unwrap());
-    }
+    println!("cargo:rustc-env=LIBRARY={}", env::var("DEP_TUGROKT_LIBRARY").unwrap());
     let root = Path::new(&env::var("CARGO_MANIFEST_DIR").unwrap()).join("..").canonicalize().unwrap();
     let program = env::var("TUGROKT_WAVE").map_or_else(|_| built(&root), PathBuf::from);
     println!("cargo:rustc-env=WAVE={}", program.display());

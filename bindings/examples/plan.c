@@ -1,8 +1,8 @@
 /*
  * Reads a sheet from standard input, plans it, and prints each unit's slot, or the ring.
  *
- *     for n in reader planner; do rt staticlib $n; done
- *     cc -I bindings bindings/examples/plan.c target/staticlib/libreader.a target/staticlib/libplanner.a -o plan
+ *     rt staticlib tugrokt
+ *     cc -I bindings bindings/examples/plan.c target/staticlib/libtugrokt.a -o plan
  *     ./plan <sheet
  */
 #include <stdio.h>

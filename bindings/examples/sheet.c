@@ -1,8 +1,8 @@
 /*
  * Reads a sheet from standard input and prints its answer page.
  *
- *     for n in reader printer; do rt staticlib $n; done
- *     cc -I bindings bindings/examples/sheet.c target/staticlib/libreader.a target/staticlib/libprinter.a -o sheet
+ *     rt staticlib tugrokt
+ *     cc -I bindings bindings/examples/sheet.c target/staticlib/libtugrokt.a -o sheet
  *     ./sheet <SHEET
  */
 #include <stdio.h>

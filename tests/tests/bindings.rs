@@ -71,15 +71,14 @@ fn bindings() -> PathBuf {
     Path::new(env!("ROOT")).join("bindings")
 }
 
-/// A C example, compiled with all warnings against the header and these libraries.
-fn c_example(name: &str, libraries: [&str; 2]) -> PathBuf {
+/// A C example, compiled with all warnings against the header and the library.
+fn c_example(name: &str) -> PathBuf {
     let program = PathBuf::from(env!("CARGO_TARGET_TMPDIR")).join(name);
     let compiled = Command::new("cc")
         .args(["-std=c99", "-pedantic", "-Wall", "-Wextra", "-Werror", "-O1", "-I"])
         .arg(bindings())
         .arg(bindings().join(format!("examples/{name}.c")))
-        .args(libraries)
-        .arg("-o")
+        .args([env!("LIBRARY"), "-o"])
         .arg(&program)
         .output()
         .expect("cc runs");
@@ -89,7 +88,7 @@ fn c_example(name: &str, libraries: [&str; 2]) -> PathBuf {
 
 #[test]
 fn planning_from_c() {
-    let program = c_example("plan", [env!("LIBRARY_READER"), env!("LIBRARY_PLANNER")]);
+    let program = c_example("plan");
     let run = |text: &[u8]| written(&mut Command::new(&program), text);
     let all = cases::all();
     assert_eq!(run(&all[1].sheet.text()), "unit 1: slot 1, from 1 to 2\nunit 2: slot 3, from 3 to 4\n");
@@ -109,7 +108,7 @@ fn prints_pages(run: impl Fn(&[u8]) -> String) {
 
 #[test]
 fn printing_from_c() {
-    let program = c_example("sheet", [env!("LIBRARY_READER"), env!("LIBRARY_PRINTER")]);
+    let program = c_example("sheet");
     prints_pages(|text| written(&mut Command::new(&program), text));
 }
 

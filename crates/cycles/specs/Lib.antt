@@ -3,4 +3,3 @@ pub mod LevelLaws
 pub mod CycleLaws
 pub mod WalkLaws
 pub mod Finder
-pub mod Codes

@@ -7,8 +7,7 @@ ghost use lib.IntN.{pos};
 ghost use lib.Signed.{ltZ};
 ghost use Rattle.lists.specs.First.{firstPlace};
 ghost use Rattle.lists.specs.Values.{listOf};
-ghost use Rattle.network.specs.Table.{mostBoundaries, entry, passOf};
-ghost use Rattle.cycles.specs.Codes.{Passing};
+ghost use Rattle.network.specs.Table.{mostBoundaries, entry};
 ghost use Rattle.cycles.specs.Levels.{lower};
 ghost use Rattle.cycles.specs.Finder.{Infeasible, SumsFit, LevelsUpTo, Weighed, Ready, Fallen, Source, Lowest, Found, CycleAt};
 
@@ -195,27 +194,4 @@ pub fn negative_cycle(d: &[i16], w: usize, out: &mut [u16]) -> usize
     let mut walk = [0u16; 50];
     let n = w + 1;
     find_cycle(d, w, &levels, &mut walk[..n], out)
-}
-
-// The pass for other languages, as numbers: 0 where it finished, 1 where it stopped, 2 where a sum is out of range.
-#[no_mangle]
-pub extern "C" fn tugrokt_pass(t: &mut [i16], w: usize) -> usize
-    requires { ⌜ (0 < w) × (w ≤ mostBoundaries) × (w * w ≤ length (now t)) ⌝ }
-    ensures { λ r. ⌜ Passing w (now (t .entry)) (passOf w (now (t .entry))) r (now (t .exit)) ⌝ }
-{
-    let outcome = network::pass(t, w);
-    match outcome {
-        network::Outcome::Finished => 0,
-        network::Outcome::Stopped => 1,
-        network::Outcome::OutOfRange => 2,
-    }
-}
-
-// The finder of negative cycles for other languages.
-#[no_mangle]
-pub extern "C" fn tugrokt_cycle(d: &[i16], w: usize, out: &mut [u16]) -> usize
-    requires { ⌜ Weighed w (now d) × Infeasible w (now d) × (w ≤ length (now out)) ⌝ }
-    ensures { λ r. ⌜ CycleAt w (now (d .entry)) (now (out .entry)) r (now (out .exit)) ⌝ }
-{
-    negative_cycle(d, w, out)
 }

@@ -1,6 +1,6 @@
 ghost use mathlib.Core.Path.{_≡_};
 ghost use Rattle.asking.specs.Questions.{listed, lent, given};
-ghost use Rattle.solving.specs.Planning.{verdict, Left, Told};
+ghost use Rattle.solving.specs.Planning.{verdict, Left};
 
 // Plans from lists. The questions come first; then the sheet gets a plan, or none and a ring.
 pub fn plan(
@@ -47,58 +47,5 @@ pub fn plan(
         )
     } else {
         solving::Answer::Refused(no)
-    }
-}
-
-// The same for other languages, with numbers and slices only: the refusal's number, 0 where there is none, and the ring's length, 0 where there is none.
-#[no_mangle]
-pub extern "C" fn tugrokt_plan(
-    span: usize,
-    first: &[u16],
-    last: &[u16],
-    from: &[u16],
-    to: &[u16],
-    low: &[u16],
-    high: &[u16],
-    table: &mut [i16],
-    seats: &mut [u16],
-    earliest: &mut [u16],
-    latest: &mut [u16],
-    ring: &mut [u16],
-    length: &mut usize,
-) -> usize
-    ensures { λ r.
-        let l = listed span (now (first .entry)) (now (last .entry)) (now (from .entry)) (now (to .entry)) (now (low .entry)) (now (high .entry)) in
-        let before = lent (now (table .entry)) (now (seats .entry)) (now (earliest .entry)) (now (latest .entry)) (now (ring .entry)) in
-        ⌜ Told (verdict l before) (given l) before r (now (length .exit))
-        (lent (now (table .exit)) (now (seats .exit)) (now (earliest .exit)) (now (latest .exit)) (now (ring .exit))) ⌝ }
-{
-    let answer = plan(
-        span,
-        first,
-        last,
-        from,
-        to,
-        low,
-        high,
-        table,
-        seats,
-        earliest,
-        latest,
-        ring,
-    );
-    match answer {
-        solving::Answer::Refused(number) => {
-            *length = 0;
-            number
-        }
-        solving::Answer::Plan => {
-            *length = 0;
-            0
-        }
-        solving::Answer::None(n) => {
-            *length = n;
-            0
-        }
     }
 }

@@ -2,7 +2,7 @@ ghost use Rattle.sheet.specs.Questions.{sheetOf};
 ghost use Rattle.asking.specs.Questions.{listed, lent, passed};
 ghost use Rattle.asking.specs.Asking.{Solvable};
 ghost use Rattle.solving.specs.Planning.{byPass};
-ghost use Rattle.printing.specs.Printing.{PrintingOf, Printing, Told};
+ghost use Rattle.printing.specs.Printing.{PrintingOf, Printing};
 use printing::Printed;
 
 // A sheet of which every question before the pass is answered yes. It is planned in arrays of this call's own: a refusal by 15 changes nothing.
@@ -127,66 +127,5 @@ pub fn print(
         )
     } else {
         Printed::Refused(no)
-    }
-}
-
-// The same for other languages, with numbers and slices only: the refusal's number, 0 where there is none. The running place is moved past what was
-// printed; the ring's length is 0 where there is none.
-#[no_mangle]
-pub extern "C" fn tugrokt_print(
-    span: usize,
-    first: &[u16],
-    last: &[u16],
-    from: &[u16],
-    to: &[u16],
-    low: &[u16],
-    high: &[u16],
-    table: &mut [i16],
-    seats: &mut [u16],
-    earliest: &mut [u16],
-    latest: &mut [u16],
-    ring: &mut [u16],
-    page: &mut [u8],
-    place: &mut usize,
-    length: &mut usize,
-) -> usize
-    ensures { λ r.
-        ⌜ Told (listed span (now (first .entry)) (now (last .entry)) (now (from .entry)) (now (to .entry)) (now (low .entry)) (now (high .entry)))
-        (lent (now (table .entry)) (now (seats .entry)) (now (earliest .entry)) (now (latest .entry)) (now (ring .entry))) (now (page .entry))
-        (now (place .entry)) r (now (place .exit)) (now (length .exit))
-        (lent (now (table .exit)) (now (seats .exit)) (now (earliest .exit)) (now (latest .exit)) (now (ring .exit))) (now (page .exit)) ⌝ }
-{
-    let at = *place;
-    let printed = print(
-        span,
-        first,
-        last,
-        from,
-        to,
-        low,
-        high,
-        table,
-        seats,
-        earliest,
-        latest,
-        ring,
-        page,
-        at,
-    );
-    match printed {
-        Printed::Refused(number) => {
-            *length = 0;
-            number
-        }
-        Printed::Plan(next) => {
-            *place = next;
-            *length = 0;
-            0
-        }
-        Printed::None(n, next) => {
-            *place = next;
-            *length = n;
-            0
-        }
     }
 }

@@ -78,11 +78,3 @@ pub record PrintingOf (v : Verdict) (s : Sheet) (before : Rooms) (page : List �
 -- a call of print, from its lists and rooms, its page and its place
 abbrev pub Printing : Lists → Rooms → List ℕ → ℕ → Printed → Rooms → List ℕ → Type 0
 Printing l before page at reply after left = PrintingOf (verdict l before) (given l) before page at reply after left
-
--- the same with the reply as document 01's numbers
-pub record Told (l : Lists) (before : Rooms) (page : List ℕ) (at : ℕ) (number place length : ℕ) (after : Rooms) (left : List ℕ) : Type 0 where
-  pub reply : Printed
-  pub call : Printing l before page at reply after left
-  pub number-is : number ≡ numberOf reply
-  pub place-is : place ≡ placeAfter at reply
-  pub length-is : length ≡ ringLength reply

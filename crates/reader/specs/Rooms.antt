@@ -1,4 +1,4 @@
--- What a reading call leaves in the lent rooms, and its answer as numbers. Definitions only.
+-- What a reading call leaves in the lent rooms. Definitions only.
 use Prim.Native.Nat.{ℕ}
 use mathlib.Core.List.{List, _++_, map}
 use lib.ListN.{length, drop}
@@ -22,19 +22,3 @@ leaves (read p u r) s m =
 
 abbrev pub roomsAfter : List ℕ → Rooms (List ℕ) → Rooms (List ℕ)
 roomsAfter text m = leaves (reading text (sizesOf m)) (sheetIn text) m
-
--- ---- the answer as numbers, for callers in other languages: 0 for what is not there
-
-pub record Numbers : Type 0 where
-  pub number : ℕ
-  pub line : ℕ
-  pub span : ℕ
-  pub units : ℕ
-  pub rules : ℕ
-
-abbrev pub numbers : ℕ → ℕ → ℕ → ℕ → ℕ → Numbers
-numbers q n p u r = record { number = q; line = n; span = p; units = u; rules = r }
-
-abbrev pub numbersOf : Answer → Numbers
-numbersOf (refused q n) = numbers q n 0 0 0
-numbersOf (read p u r) = numbers 0 0 p u r

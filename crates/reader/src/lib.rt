@@ -2,7 +2,7 @@ ghost use mathlib.Core.Path.{_≡_};
 ghost use Prim.Native.Nat.{_≤_};
 ghost use lib.ListN.{length};
 ghost use Rattle.questions.specs.Reading.{answerOf, reading, rooms, roomsFit};
-ghost use Rattle.reader.specs.Rooms.{sizesOf, roomsAfter, onto, numbers, numbersOf};
+ghost use Rattle.reader.specs.Rooms.{sizesOf, roomsAfter, onto};
 ghost use Rattle.reader.specs.Spread.{strided, Reach, Filling, filled};
 use questions::Reading;
 use questions::Refusal;
@@ -130,48 +130,6 @@ pub fn read(
             }
             fill(s, &units, &rules, first, last, from, to, low, high);
             Reading::Sheet(s)
-        }
-    }
-}
-
-// The open entry for callers in other languages: the reply as numbers. The result is the number of the question that was answered no, and 0 for a
-// sheet that was read; what a reply does not have is 0.
-#[no_mangle]
-pub extern "C" fn tugrokt_read(
-    text: &[u8],
-    first: &mut [u16],
-    last: &mut [u16],
-    from: &mut [u16],
-    to: &mut [u16],
-    low: &mut [u16],
-    high: &mut [u16],
-    line: &mut usize,
-    span: &mut usize,
-    units: &mut usize,
-    rules: &mut usize,
-) -> usize
-    ensures { λ r. ⌜ numbers r (now (line .exit)) (now (span .exit)) (now (units .exit)) (now (rules .exit))
-        ≡ numbersOf (reading (now (text .entry))
-        (sizesOf (rooms (now (first .entry)) (now (last .entry)) (now (from .entry)) (now (to .entry)) (now (low .entry)) (now (high .entry))))) ⌝ }
-    ensures { λ _. ⌜ rooms (now (first .exit)) (now (last .exit)) (now (from .exit)) (now (to .exit)) (now (low .exit)) (now (high .exit))
-        ≡ roomsAfter (now (text .entry))
-        (rooms (now (first .entry)) (now (last .entry)) (now (from .entry)) (now (to .entry)) (now (low .entry)) (now (high .entry))) ⌝ }
-{
-    let reply = read(text, first, last, from, to, low, high);
-    match reply {
-        Reading::Refused(refusal) => {
-            *line = refusal.line;
-            *span = 0;
-            *units = 0;
-            *rules = 0;
-            refusal.number
-        }
-        Reading::Sheet(s) => {
-            *line = 0;
-            *span = s.span;
-            *units = s.units;
-            *rules = s.rules;
-            0
         }
     }
 }

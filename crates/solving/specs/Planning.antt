@@ -84,10 +84,3 @@ abbrev pub Left : Verdict → Sheet → Rooms → Answer → Rooms → Type 0
 Left (refuse n) s before reply after = (reply ≡ Refused n) × (after ≡ refused s n before)
 Left (plan t) s before reply after = (reply ≡ Plan) × (after ≡ planned s t before)
 Left none s before reply after = (c : List ℕ) × T (isRing s c) × (reply ≡ None (length c)) × (after ≡ ringed s c before)
-
--- the same with the reply as document 01's numbers
-pub record Told (v : Verdict) (s : Sheet) (before : Rooms) (number length : ℕ) (after : Rooms) : Type 0 where
-  pub reply : Answer
-  pub left : Left v s before reply after
-  pub number-is : number ≡ numberOf reply
-  pub length-is : length ≡ ringLength reply

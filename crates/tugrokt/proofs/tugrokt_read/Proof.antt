@@ -1,9 +1,9 @@
 use mathlib.Core.Path.{sym, ap, _∙_}
 use Rattle.questions.specs.Reading.{answerOf}
-use Rattle.reader.specs.Rooms.{numbersOf}
+use Rattle.tugrokt.specs.Numbers.{numbersOf}
 use borrow.Author.Needs.{needs}
-use Rattle.reader.proofs.tugrokt_read.Statement.{statement}
-use Rattle.reader.proofs.tugrokt_read.Tie as tie
+use Rattle.tugrokt.proofs.tugrokt_read.Statement.{statement}
+use Rattle.tugrokt.proofs.tugrokt_read.Tie as tie
 
 -- back to the call
 abbrev called : tie.After-slice-known12 → tie.After-read

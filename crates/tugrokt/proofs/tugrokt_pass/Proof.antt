@@ -1,8 +1,8 @@
 use borrow.Author.Needs.{needs}
 use mathlib.Core.Path.{sym, ap}
-use Rattle.cycles.specs.Codes.{codeOf}
-use Rattle.cycles.proofs.tugrokt_pass.Statement.{statement}
-use Rattle.cycles.proofs.tugrokt_pass.Tie as tie
+use Rattle.tugrokt.specs.Numbers.{codeOf}
+use Rattle.tugrokt.proofs.tugrokt_pass.Statement.{statement}
+use Rattle.tugrokt.proofs.tugrokt_pass.Tie as tie
 
 pass-requires : tie.Need-pass-requires
 pass-requires c κs = search needs

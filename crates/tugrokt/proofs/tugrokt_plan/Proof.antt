@@ -1,8 +1,8 @@
 use borrow.Author.Needs.{needs}
 use mathlib.Core.Path.{sym, ap}
 use Rattle.solving.specs.Planning.{numberOf, ringLength}
-use Rattle.planner.proofs.tugrokt_plan.Statement.{statement}
-use Rattle.planner.proofs.tugrokt_plan.Tie as tie
+use Rattle.tugrokt.proofs.tugrokt_plan.Statement.{statement}
+use Rattle.tugrokt.proofs.tugrokt_plan.Tie as tie
 
 plan-requires : tie.Need-plan-requires
 plan-requires c κs = search needs

@@ -1,8 +1,8 @@
 use borrow.Author.Needs.{needs}
 use mathlib.Core.Path.{sym, ap}
 use Rattle.printing.specs.Printing.{numberOf, ringLength, placeAfter}
-use Rattle.printer.proofs.tugrokt_print.Statement.{statement}
-use Rattle.printer.proofs.tugrokt_print.Tie as tie
+use Rattle.tugrokt.proofs.tugrokt_print.Statement.{statement}
+use Rattle.tugrokt.proofs.tugrokt_print.Tie as tie
 
 print-requires : tie.Need-print-requires
 print-requires c κs = search needs

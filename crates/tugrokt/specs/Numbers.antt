@@ -1,0 +1,60 @@
+-- Replies as document 01's numbers, for callers in other languages: 0 for what a reply does not have. Definitions only.
+use mathlib.Core.Path.{_≡_}
+use mathlib.Core.List.{List}
+use Prim.Native.Nat.{ℕ}
+use lib.IntN.{ℤ}
+use Rattle.network.specs.Table.{Passed, After}
+use Rattle.network.specs.declared.Outcome.{Outcome}
+use Rattle.network.specs.declared.Outcome.the-variants.{Finished, Stopped, OutOfRange}
+use Rattle.sheet.specs.Sheet.{Sheet}
+use Rattle.questions.specs.Reading.{Answer as ReadingAnswer, refused, read}
+use Rattle.asking.specs.Questions.{Lists, Rooms}
+use Rattle.solving.specs.Planning.{Verdict, Left, numberOf, ringLength}
+use Rattle.solving.specs.declared.Answer.{Answer}
+use Rattle.printing.specs.Printing.{Printing, placeAfter, numberOf as printedNumber, ringLength as printedLength}
+use Rattle.printing.specs.declared.Printed.{Printed}
+
+-- ---- reading
+
+pub record Numbers : Type 0 where
+  pub number : ℕ
+  pub line : ℕ
+  pub span : ℕ
+  pub units : ℕ
+  pub rules : ℕ
+
+abbrev pub numbers : ℕ → ℕ → ℕ → ℕ → ℕ → Numbers
+numbers q n p u r = record { number = q; line = n; span = p; units = u; rules = r }
+
+abbrev pub numbersOf : ReadingAnswer → Numbers
+numbersOf (refused q n) = numbers q n 0 0 0
+numbersOf (read p u r) = numbers 0 0 p u r
+
+-- ---- planning: some reply with these numbers, and the rooms as it leaves them
+
+pub record PlanTold (v : Verdict) (s : Sheet) (before : Rooms) (number length : ℕ) (after : Rooms) : Type 0 where
+  pub reply : Answer
+  pub left : Left v s before reply after
+  pub number-is : number ≡ numberOf reply
+  pub length-is : length ≡ ringLength reply
+
+-- ---- printing
+
+pub record PrintTold (l : Lists) (before : Rooms) (page : List ℕ) (at : ℕ) (number place length : ℕ) (after : Rooms) (left : List ℕ) : Type 0 where
+  pub reply : Printed
+  pub call : Printing l before page at reply after left
+  pub number-is : number ≡ printedNumber reply
+  pub place-is : place ≡ placeAfter at reply
+  pub length-is : length ≡ printedLength reply
+
+-- ---- the pass
+
+abbrev pub codeOf : Outcome → ℕ
+codeOf Finished = 0
+codeOf Stopped = 1
+codeOf OutOfRange = 2
+
+pub record PassTold (w : ℕ) (t : List ℤ) (p : Passed) (code : ℕ) (u : List ℤ) : Type 0 where
+  pub outcome : Outcome
+  pub after : After w t p outcome u
+  pub coded : code ≡ codeOf outcome
