@@ -5,7 +5,7 @@ ghost use lib.Dec.{eqb};
 ghost use lib.ListN.{length, getD, take, drop};
 ghost use lib.IntN.{pos, _+ℤ_};
 ghost use lib.Signed.{ltZ};
-ghost use Rattle.lists.specs.First.{firstPlace};
+ghost use Rattle.lists.specs.First.{firstPlace, firstFrom};
 ghost use Rattle.lists.specs.Values.{listOf};
 ghost use Rattle.network.specs.Table.{mostBoundaries, entry, passOf};
 ghost use Rattle.cycles.specs.Codes.{Passing};
@@ -44,12 +44,13 @@ fn first_below(low: &[i16], high: &[i16]) -> usize
     v
 }
 
-// The first place of x, or the length.
-fn place_of(c: &[u16], x: u16) -> usize
-    ensures { λ r. ⌜ r ≡ firstPlace (length (now (c .entry))) (λ j. eqb (getD (now (c .entry)) j 0) x) ⌝ }
+// The first place of x that is not before from, or the length.
+fn place_of(c: &[u16], from: usize, x: u16) -> usize
+    requires { ⌜ from ≤ length (now c) ⌝ }
+    ensures { λ r. ⌜ r ≡ firstFrom (length (now (c .entry)) - from) from (λ j. eqb (getD (now (c .entry)) j 0) x) ⌝ }
 {
     let n = c.len();
-    let mut j = 0;
+    let mut j = from;
     while j < n {
         if c[j] == x {
             return j;
@@ -178,15 +179,15 @@ fn walk_back(d: &[i16], w: usize, levels: &[i16], last: usize, walk: &mut [u16])
     ensures { λ r. ⌜ Found w (now (d .entry)) (r .0) (r .1) (now (walk .exit)) ⌝ }
 {
     walk[w] = last as u16;
-    let end = w + 1;
     let mut k = w;
     let mut v = last;
     loop {
         let u = source_of(d, w, levels, k, v);
         let x = u as u16;
-        let j = place_of(&walk[k..end], x);
-        if j < end - k {
-            return Stretch(k, k + j + 1);
+        let j = place_of(walk, k, x);
+        if j <= w {
+            let to = j + 1;
+            return Stretch(k, to);
         }
         k -= 1;
         walk[k] = x;

@@ -1,28 +1,25 @@
 -- What is left of the list gives the whole answer.
 use Prim.Native.Nat.{ℕ, _-_, _≤_}
 use native.Mathlib.Omega.{arith}
-use mathlib.Core.Path.{_≡_, refl, sym, ap, _∙_}
+use mathlib.Core.Path.{_≡_, refl, sym, _∙_}
 use mathlib.Core.Bool.{Bool}
 use lib.Dec.{eqb}
 use lib.ListN.{length, getD}
-use native.Mathlib.Nat.{sub-zero}
 use borrow.Author.Tests.{eq-eqb, ne-eqb}
-use Rattle.lists.specs.First.{firstFrom, firstPlace, first-passed, first-failed, first-none}
+use Rattle.lists.specs.First.{firstFrom, first-passed, first-failed, first-none}
 use Rattle.cycles.proofs.place_of.Statement.{statement}
 use Rattle.cycles.proofs.place_of.Tie as tie
 
 abbrev Inv-loop : tie.InvT-loop
-Inv-loop c x n j₀ j =
+Inv-loop c from x n j₀ j =
     (j ≤ length c) × (n ≡ length c)
-    × (firstFrom (length c - j) j (λ (i : ℕ). eqb (getD c i 0) x) ≡ firstPlace (length c) (λ (i : ℕ). eqb (getD c i 0) x))
+    × (firstFrom (length c - j) j (λ (i : ℕ). eqb (getD c i 0) x) ≡ firstFrom (length c - from) from (λ (i : ℕ). eqb (getD c i 0) x))
 
 abbrev μ-loop : tie.MeasureT-loop
-μ-loop c x n j₀ j = length c - j
+μ-loop c from x n j₀ j = length c - j
 
 loop-holds : tie.Need-loop-holds Inv-loop μ-loop
-loop-holds c =
-    let c₀ = c .args .c .now in
-    (omega arith, refl, ap (λ (k : ℕ). firstFrom k 0 (λ (i : ℕ). eqb (getD c₀ i 0) (c .args .x))) (sub-zero (length c₀)))
+loop-holds c = (omega arith, refl, refl)
 
 mul-if1 : tie.Need-mul-if1 Inv-loop μ-loop
 mul-if1 c = omega arith

@@ -9,10 +9,10 @@ use Rattle.cycles.proofs.walk_back.Statement.{statement}
 use Rattle.cycles.proofs.walk_back.Tie as tie
 
 abbrev Inv-loop : tie.InvT-loop
-Inv-loop d w levels last walk₀ end k₀ v₀ walk k v = WalkInv w d walk k v
+Inv-loop d w levels last walk₀ k₀ v₀ walk k v = WalkInv w d walk k v
 
 abbrev μ-loop : tie.MeasureT-loop
-μ-loop d w levels last walk₀ end k₀ v₀ walk k v = k
+μ-loop d w levels last walk₀ k₀ v₀ walk k v = k
 
 -- the bounds that every place needs: of the walk's room, and of its first boundary's level
 few : (c : tie.Start Inv-loop μ-loop) → (c .args .last < c .args .w) × (c .args .w ≤ mostBoundaries) × (length (c .args .walk .now) ≡ c .args .w + 1)
@@ -32,9 +32,6 @@ mul-walk c = omega (arith, few (c .before))
 slice-write-walk : tie.Need-slice-write-walk Inv-loop μ-loop
 slice-write-walk c = omega (arith, few (c .before))
 
-add-end : tie.Need-add-end Inv-loop μ-loop
-add-end c = omega (arith, few (c .before))
-
 loop-holds : tie.Need-loop-holds Inv-loop μ-loop
 loop-holds c =
     let st = c .before in
@@ -49,62 +46,44 @@ source-of-requires c κs =
 cast-x : tie.Need-cast-x Inv-loop μ-loop
 cast-x c = omega (arith, bounds (c .before), c .source-of .ensures .inside)
 
-mul-place-of : tie.Need-mul-place-of Inv-loop μ-loop
-mul-place-of c = omega (arith, bounds (c .before))
-
-sub-place-of : tie.Need-sub-place-of Inv-loop μ-loop
-sub-place-of c = omega (arith, bounds (c .before))
-
-part-place-of-start : tie.Need-part-place-of-start Inv-loop μ-loop
-part-place-of-start c = omega (arith, bounds (c .before .before))
-
-part-place-of-end : tie.Need-part-place-of-end Inv-loop μ-loop
-part-place-of-end c = omega (arith, bounds (c .before .before))
-
 place-of-requires : tie.Need-place-of-requires Inv-loop μ-loop
-place-of-requires c κs = tt
+place-of-requires c κs = omega (arith, bounds (c .before .before))
 
-sub-if1 : tie.Need-sub-if1 Inv-loop μ-loop
-sub-if1 c = omega (arith, bounds (c .before .before .before .before))
-
-add-t21 : tie.Need-add-t21 Inv-loop μ-loop
-add-t21 c = omega (arith, bounds (c .before .before .before .before .before))
-
-add-t22 : tie.Need-add-t22 Inv-loop μ-loop
-add-t22 c = omega (arith, bounds (c .before .before .before .before .before))
+add-to : tie.Need-add-to Inv-loop μ-loop
+add-to c = omega (arith, bounds (c .before .before .before .before))
 
 same-length : tie.Need-same-length Inv-loop μ-loop
 same-length c =
-    let l = c .before .before .before .before .before in
+    let l = c .before .before .before .before in
     l .loop .inv .long ∙ sym (l .before .before .pre .2)
 
 returns : tie.Need-returns Inv-loop μ-loop
 returns c =
-    let s = c .before .before .before .before in
+    let s = c .before .before .before in
     let l = s .before .loop in
     let st = s .before .before .before in
-    walk-found (st .args .w) (st .args .d .now) (l .walk) (l .k) (l .v) (s .source-of .result) (st .args .w + 1 - l .k) (c .before .place-of .result)
-    (st .pre .0 .weights) (l .inv) (s .source-of .ensures) refl (c .before .place-of .ensures) (c .if1 .taken)
+    walk-found (st .args .w) (st .args .d .now) (l .walk) (l .k) (l .v) (s .source-of .result) (c .before .place-of .result)
+    (st .pre .0 .weights) (l .inv) (s .source-of .ensures) (c .before .place-of .ensures) (c .if1 .taken)
 
 sub-k : tie.Need-sub-k Inv-loop μ-loop
-sub-k c = omega (arith, bounds (c .before .before .before .before .before))
+sub-k c = omega (arith, bounds (c .before .before .before .before))
 
 mul-walk-2 : tie.Need-mul-walk-2 Inv-loop μ-loop
-mul-walk-2 c = omega (arith, bounds (c .before .before .before .before .before))
+mul-walk-2 c = omega (arith, bounds (c .before .before .before .before))
 
 slice-write-walk-2 : tie.Need-slice-write-walk-2 Inv-loop μ-loop
-slice-write-walk-2 c = omega (arith, bounds (c .before .before .before .before .before))
+slice-write-walk-2 c = omega (arith, bounds (c .before .before .before .before))
 
 loop-less : tie.Need-loop-less Inv-loop μ-loop
-loop-less c = omega (arith, bounds (c .before .before .before .before .before))
+loop-less c = omega (arith, bounds (c .before .before .before .before))
 
 loop-again : tie.Need-loop-again Inv-loop μ-loop
 loop-again c =
-    let s = c .before .before .before .before in
+    let s = c .before .before .before in
     let l = s .before .loop in
     let st = s .before .before .before in
-    walk-next (st .args .w) (st .args .d .now) (l .walk) (l .k) (l .v) (s .source-of .result) (st .args .w + 1 - l .k) (c .before .place-of .result)
-    (st .pre .0 .weights) (l .inv) (s .source-of .ensures) refl (c .before .place-of .ensures) (c .if1 .left)
+    walk-next (st .args .w) (st .args .d .now) (l .walk) (l .k) (l .v) (s .source-of .result) (c .before .place-of .result)
+    (st .pre .0 .weights) (l .inv) (s .source-of .ensures) (c .before .place-of .ensures) (c .if1 .left)
 
 pub walk-back-spec : {M : Type 1} → statement M
 walk-back-spec =
@@ -115,18 +94,11 @@ walk-back-spec =
     cast-walk
     mul-walk
     slice-write-walk
-    add-end
     loop-holds
     source-of-requires
     cast-x
-    mul-place-of
-    sub-place-of
-    part-place-of-start
-    part-place-of-end
     place-of-requires
-    sub-if1
-    add-t21
-    add-t22
+    add-to
     same-length
     returns
     sub-k
