@@ -4,7 +4,6 @@ use native.Mathlib.Omega.{arith}
 use mathlib.Core.Path.{_≡_, sym, ap, _∙_}
 use lib.ListN.{getD, take, drop}
 use lib.IntN.{pos}
-use borrow.Author.Needs.{needs}
 use Rattle.lists.specs.Parts.{part-at, part-length}
 use Rattle.network.specs.TableLaws.{row-inside}
 use Rattle.cycles.proofs.LevelSteps.{fallen-found}
