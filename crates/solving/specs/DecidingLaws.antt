@@ -1,7 +1,7 @@
 -- The pass over the limits in a longer room is the pass over the table of the limits, with the room's other places behind it.
 use mathlib.Core.Path.{_≡_, refl, sym, ap, _∙_, subst}
 use mathlib.Core.List.{List, _++_}
-use Prim.Native.Nat.{ℕ, _*_}
+use Prim.Native.Nat.{ℕ}
 use lib.ListN.{drop, replicate}
 use lib.Seq.{drop-at}
 use lib.IntN.{ℤ, pos}
