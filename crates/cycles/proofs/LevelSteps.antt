@@ -41,10 +41,10 @@ pub row-copied : (w k n : ℕ) (d levels copy old : List ℤ) → n ≡ w → k 
 row-copied w k n d levels copy old size fits room made v = record {
   long = omega (arith, length-take w copy);
   at = λ j h.
-  let xs = take n (drop (k * w) levels) in
-  getD-take w copy j (pos 0) h ∙ ap (λ (x : List ℤ). getD x j (pos 0)) made
-  ∙ List·getD-append xs (drop (length xs) old) (pos 0) j (omega (arith, part-length (k * w) n levels fits))
-  ∙ part-at (k * w) n levels (pos 0) j (omega arith) ∙ v k j (omega arith) h;
+      let xs = take n (drop (k * w) levels) in
+      getD-take w copy j (pos 0) h ∙ ap (λ (x : List ℤ). getD x j (pos 0)) made
+      ∙ List·getD-append xs (drop (length xs) old) (pos 0) j (omega (arith, part-length (k * w) n levels fits))
+      ∙ part-at (k * w) n levels (pos 0) j (omega arith) ∙ v k j (omega arith) h;
 }
 
 module _ (w k : ℕ) (d prev : List ℤ) (c : Copied w k d prev) where
@@ -105,7 +105,8 @@ module _ (w : ℕ) (d levels : List ℤ) (q : Ready w d levels) where
 
   pub left-in-range : (k u v : ℕ) → k < w → u < w → v < w → T (sumInRange (entry w levels k u +ℤ entry w d u v))
   left-in-range k u v hk hu hv =
-      subst (λ (z : ℤ). T (sumInRange z)) (sym (left-is k u v hk hu)) (level-sum-in-range w d (q .weights .bounded) k u v (omega (arith, q .weights .few)) hu hv)
+      subst (λ (z : ℤ). T (sumInRange z)) (sym (left-is k u v hk hu))
+      (level-sum-in-range w d (q .weights .bounded) k u v (omega (arith, q .weights .few)) hu hv)
 
 -- ---- the boundary from which v has its level
 -- the step from u leaves v more than its level k

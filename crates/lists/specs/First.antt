@@ -52,9 +52,6 @@ module _ (t : ℕ → Bool) where
         at = λ h. r .at (omega arith);
       }
 
-  pub first-most : (n : ℕ) → firstPlace n t ≤ n
-  first-most n = omega (arith, first-from n 0 .most)
-
   pub first-before : (n j : ℕ) → j < firstPlace n t → t j ≡ false
   first-before n j h = first-from n 0 .before j (omega arith) h
 

@@ -1,7 +1,7 @@
 -- Level k is copied out of its row, and the level below it goes into the next row.
 use Prim.Native.Nat.{_+_, _-_, _*_, _≤_}
 use native.Mathlib.Omega.{arith}
-use mathlib.Core.Path.{_≡_, sym, _∙_}
+use mathlib.Core.Path.{sym, _∙_}
 use lib.ListN.{length, take}
 use borrow.Author.Needs.{needs}
 use Rattle.lists.specs.Parts.{part-length}
@@ -46,7 +46,8 @@ copied c =
     let w = st .args .w in
     let k = st .args .k in
     let h = inside st in
-    row-copied w k (k * w + w - k * w) (st .args .d .now) (st .args .levels .now) (c .copy-row .last .1 .0) _ (omega arith) (omega arith) (omega arith) (c .copy-row .ensures) (st .pre .3)
+    row-copied w k (k * w + w - k * w) (st .args .d .now) (st .args .levels .now) (c .copy-row .last .1 .0) _
+    (omega arith) (omega arith) (omega arith) (c .copy-row .ensures) (st .pre .3)
 
 add-end : tie.Need-add-end
 add-end c = omega (arith, inside (c .before .before .before .before .before))
@@ -77,7 +78,8 @@ make-level-requires c κs =
     let q = st .pre .0 in
     let row = copied (c .before .before .before) in
     let m = k * w + w + w - (k * w + w) in
-    (q .few, q .room, row .long, part-length (k * w + w) m (st .args .levels .now) (omega (arith, inside st)) ∙ (omega arith), copied-sums w k (st .args .d .now) _ row q (st .pre .2))
+    let e = part-length (k * w + w) m (st .args .levels .now) (omega (arith, inside st)) in
+    (q .few, q .room, row .long, e ∙ (omega arith), copied-sums w k (st .args .d .now) _ row q (st .pre .2))
 
 same-length : tie.Need-same-length
 same-length c = search needs

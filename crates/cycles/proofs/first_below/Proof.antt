@@ -48,8 +48,8 @@ less-requires : tie.Need-less-requires Inv-loop μ-loop
 less-requires c κs = tt
 
 compared : (c : tie.After-less Inv-loop μ-loop)
-    → below (c .before .before .before .before .before .args .low .now) (c .before .before .before .before .before .args .high .now) (c .before .before .before .before .loop .v)
-    ≡ c .less .result
+    → below (c .before .before .before .before .before .args .low .now) (c .before .before .before .before .before .args .high .now)
+    (c .before .before .before .before .loop .v) ≡ c .less .result
 compared c =
     let st = c .before .before .before .before .before in
     let v = c .before .before .before .before .loop .v in
@@ -61,7 +61,8 @@ returns : tie.Need-returns Inv-loop μ-loop
 returns c =
     let args = c .before .before .before .before .before .before .args in
     let l = c .before .before .before .before .before .loop in
-    sym (first-passed (below (args .low .now) (args .high .now)) (length (args .low .now)) (l .v) (omega arith) (compared (c .before) ∙ c .if1 .taken)) ∙ l .inv .2
+    let e = first-passed (below (args .low .now) (args .high .now)) (length (args .low .now)) (l .v) (omega arith) (compared (c .before) ∙ c .if1 .taken) in
+    sym e ∙ l .inv .2
 
 add-v : tie.Need-add-v Inv-loop μ-loop
 add-v c = omega arith

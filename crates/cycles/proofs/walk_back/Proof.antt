@@ -1,7 +1,7 @@
 -- Each turn puts a boundary more in front of the walk, or finds it on the walk already.
-use Prim.Native.Nat.{_+_, _-_, _≤_, _<_}
+use Prim.Native.Nat.{_+_, _≤_, _<_}
 use native.Mathlib.Omega.{arith}
-use mathlib.Core.Path.{_≡_, refl, sym, _∙_}
+use mathlib.Core.Path.{_≡_, sym, _∙_}
 use lib.ListN.{length}
 use Rattle.network.specs.Table.{mostBoundaries}
 use Rattle.cycles.proofs.WalkSteps.{WalkInv, walk-start, walk-found, walk-next}
