@@ -16,7 +16,8 @@ use Rattle.form.specs.Form.{value}
 use Rattle.line.specs.Lines.{TextLine, lines}
 use Rattle.line.specs.Content.{Content, note, sheet, unit, rule, other, contentOf}
 use Rattle.questions.specs.Reading.{contents, isSheet, hasSheet, spanElse, spanIn, windowOf, unitsIn, ruleOf, rulesIn, sheetIn}
-use Rattle.questions.specs.Reading.{Question, ask, spanFits, isStretch, isCount, questionsOf, lineQuestions, questions, Rooms, roomsFit, Verdict, no, allYes, firstNo}
+use Rattle.questions.specs.Reading.{Question, ask, spanFits, isStretch, isCount, questionsOf, lineQuestions, questions}
+use Rattle.questions.specs.Reading.{Rooms, roomsFit, Verdict, no, allYes, firstNo}
 
 -- ---- all answers are yes
 

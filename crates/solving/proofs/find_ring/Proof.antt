@@ -1,14 +1,14 @@
 -- The table of the limits, filled in once more, has no feasible potential, so the finder shows a negative cycle of it: a ring of the sheet.
 use borrow.Author.Needs.{needs}
-use mathlib.Core.Path.{_≡_, ap}
-use Prim.Native.Nat.{ℕ, _+_, _*_, _≤_}
+use mathlib.Core.Path.{_≡_}
+use Prim.Native.Nat.{_+_, _*_, _≤_}
 use native.Mathlib.Omega.{arith}
 use native.Mathlib.Nat.{mul-le-mul}
-use lib.ListN.{length}
 use Rattle.network.specs.Table.{mostBoundaries}
 use Rattle.sheet.specs.Sheet.{Sheet, boundaries}
 use Rattle.sheet.specs.Questions.{sheetOf}
-use Rattle.limits.specs.LimitTableLaws.{accepted-span, boundaries-are, length-limitTable}
+use Rattle.limits.specs.LimitTableLaws.{boundaries-are}
+use Rattle.solving.specs.DecidingLaws.{fillable-few, filled-room}
 use Rattle.solving.specs.RingLaws.{weighed, no-potential, ring-found}
 use Rattle.solving.proofs.find_ring.Statement.{statement}
 use Rattle.solving.proofs.find_ring.Tie as tie
@@ -29,8 +29,7 @@ size c =
 few : (c : tie.Start) → c .args .span + 1 ≤ mostBoundaries
 few c =
     let a = c .args in
-    let p = c .pre .0 in
-    omega (arith, accepted-span (a .span) (a .first .now) (a .last .now) (a .from .now) (a .to .now) (a .low .now) (a .high .now) (p .ok) (p .agree))
+    fillable-few (a .span) (a .first .now) (a .last .now) (a .from .now) (a .to .now) (a .low .now) (a .high .now) _ (c .pre .0)
 
 add-w : tie.Need-add-w
 add-w c = omega (arith, few (c .before .before .before .before .before .before .before))
@@ -60,8 +59,8 @@ clear-requires : tie.Need-clear-requires
 clear-requires c κs =
     let filled = c .before .before .before .before .before .before .before in
     let st = start filled in
-    let fits = st .pre .0 .fits in
-    omega (arith, ap (λ (n : ℕ). n * n) (size st), ap length (filled .fill-limits .ensures), length-limitTable (sheet st) (st .args .table .now) fits)
+    let room = filled-room (sheet st) (st .args .table .now) _ (st .args .span + 1) (size st) (st .pre .0 .fits) (filled .fill-limits .ensures) in
+    omega arith
 
 same-length : tie.Need-same-length
 same-length c = search needs

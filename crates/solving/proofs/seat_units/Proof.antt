@@ -1,3 +1,4 @@
+-- Row 0 of the finished table is the greatest of all potentials, by which the units are seated.
 use borrow.Author.Needs.{needs}
 use Prim.Native.Nat.{_-_}
 use native.Mathlib.Omega.{arith}
