@@ -9,7 +9,7 @@ use native.Mathlib.Decide.{decLe}
 use lib.Dec.{T, leb, ltb, eqb, leb→le, ltb→lt, lt→ltb, eqb→eq, eqb-refl}
 use lib.ListN.{length}
 use lib.IntN.{ℤ, pos, negℤ}
-use Rattle.lists.specs.Lists.{within, keep, howMany, oneIf, smallest, largest}
+use Rattle.lists.specs.Lists.{within, keep, howMany, smallest, largest}
 use Rattle.sheet.specs.Sheet.{Window, Rule, Sheet, countIn, inWindows, insideOf, onStretch, atMost, atLeast, limit}
 use Rattle.lists.specs.Members.{In, both, left, right, within-iff, in-keep, keep-in, in-map, map-in}
 use Rattle.lists.specs.Counts.{oneIf-le, oneIf-most, oneIf-split}
