@@ -106,15 +106,14 @@ fn make_level(d: &[i16], w: usize, prev: &[i16], row: &mut [i16])
     next_level(d, w, prev, row);
 }
 
-// Level k + 1, into its row behind that of level k.
-fn add_level(d: &[i16], w: usize, k: usize, levels: &mut [i16])
-    requires { ⌜ Weighed w (now d) × (w * w + w ≤ length (now levels)) × (k < w) × LevelsUpTo w (now d) (now levels) k ⌝ }
+// Level k + 1, into its row behind that of level k. prev is room for a copy of level k.
+fn add_level(d: &[i16], w: usize, k: usize, prev: &mut [i16], levels: &mut [i16])
+    requires { ⌜ Weighed w (now d) × (w * w + w ≤ length (now levels)) × (k < w) × LevelsUpTo w (now d) (now levels) k × (w ≤ length (now prev)) ⌝ }
     ensures { λ _. ⌜ LevelsUpTo w (now (d .entry)) (now (levels .exit)) (k + 1) ⌝ }
 {
-    let mut prev = [0i16; 49];
     let from = k * w;
     let to = from + w;
-    network::copy_row(&levels[from..to], &mut prev);
+    network::copy_row(&levels[from..to], prev);
     let end = to + w;
     make_level(d, w, &prev[..w], &mut levels[to..end]);
 }
@@ -124,8 +123,9 @@ fn fill_levels(d: &[i16], w: usize, levels: &mut [i16])
     requires { ⌜ Weighed w (now d) × (w * w + w ≤ length (now levels)) × LevelsUpTo w (now d) (now levels) 0 ⌝ }
     ensures { λ _. ⌜ LevelsUpTo w (now (d .entry)) (now (levels .exit)) w ⌝ }
 {
+    let mut prev = [0i16; 49];
     for k in 0..w {
-        add_level(d, w, k, levels);
+        add_level(d, w, k, &mut prev, levels);
     }
 }
 

@@ -32,9 +32,6 @@ part-copy-row-start c = search needs
 part-copy-row-end : tie.Need-part-copy-row-end
 part-copy-row-end c = omega (arith, inside (c .before))
 
-slice-aggregate-copy-row : tie.Need-slice-aggregate-copy-row
-slice-aggregate-copy-row c = search needs
-
 copy-row-requires : tie.Need-copy-row-requires
 copy-row-requires c κs = search needs
 
@@ -52,8 +49,8 @@ copied c =
 add-end : tie.Need-add-end
 add-end c = omega (arith, inside (c .before .before .before .before .before))
 
-array-share-prefix-prev : tie.Need-array-share-prefix-prev
-array-share-prefix-prev c = search needs
+slice-reshare-prefix-make-level : tie.Need-slice-reshare-prefix-make-level
+slice-reshare-prefix-make-level c = search needs
 
 slice-aggregate-make-level : tie.Need-slice-aggregate-make-level
 slice-aggregate-make-level c = sym (copied (c .before .before) .long)
@@ -84,6 +81,9 @@ make-level-requires c κs =
 same-length : tie.Need-same-length
 same-length c = search needs
 
+same-length-2 : tie.Need-same-length-2
+same-length-2 c = search needs
+
 returns : tie.Need-returns
 returns c =
     let st = c .before .before .before .before .before .before .before .before .before in
@@ -102,10 +102,9 @@ add-level-spec =
     sub-copy-row
     part-copy-row-start
     part-copy-row-end
-    slice-aggregate-copy-row
     copy-row-requires
     add-end
-    array-share-prefix-prev
+    slice-reshare-prefix-make-level
     slice-aggregate-make-level
     mul-make-level
     sub-make-level
@@ -113,4 +112,5 @@ add-level-spec =
     part-make-level-end
     make-level-requires
     same-length
+    same-length-2
     returns)

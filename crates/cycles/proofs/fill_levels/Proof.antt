@@ -1,23 +1,29 @@
 -- The rows 0 to k hold their levels.
 use Prim.Native.Nat.{ℕ, _-_, _≤_}
 use native.Mathlib.Omega.{arith}
-use mathlib.Core.Path.{_≡_, refl, subst, _∙_}
+use mathlib.Core.Path.{_≡_, refl, sym, subst, _∙_}
 use lib.ListN.{length}
 use Rattle.cycles.specs.Finder.{LevelsUpTo}
 use Rattle.cycles.proofs.fill_levels.Statement.{statement}
 use Rattle.cycles.proofs.fill_levels.Tie as tie
 
 abbrev Inv-loop : tie.InvT-loop
-Inv-loop d w levels₀ k₀ levels k = (k ≤ w) × (length levels ≡ length levels₀) × LevelsUpTo w d levels k
+Inv-loop d w levels₀ prev₀ k₀ levels prev k = (k ≤ w) × (length levels ≡ length levels₀) × LevelsUpTo w d levels k × (length prev ≡ 49)
 
 abbrev μ-loop : tie.MeasureT-loop
-μ-loop d w levels₀ k₀ levels k = w - k
+μ-loop d w levels₀ prev₀ k₀ levels prev k = w - k
 
 loop-holds : tie.Need-loop-holds Inv-loop μ-loop
-loop-holds c = (omega arith, refl, c .pre .2)
+loop-holds c = (omega arith, refl, c .pre .2, refl)
+
+slice-aggregate-add-level : tie.Need-slice-aggregate-add-level Inv-loop μ-loop
+slice-aggregate-add-level c = sym (c .before .before .loop .inv .3)
 
 add-level-requires : tie.Need-add-level-requires Inv-loop μ-loop
-add-level-requires c κs = (c .before .before .before .pre .0, omega arith, c .before .loop-test .taken, c .before .before .loop .inv .2)
+add-level-requires c κs =
+    let st = c .before .before .before .before in
+    let l = c .before .before .before .loop in
+    (st .pre .0, omega arith, c .before .before .loop-test .taken, l .inv .2, omega (arith, st .pre .0 .few))
 
 add-k : tie.Need-add-k Inv-loop μ-loop
 add-k c = omega arith
@@ -26,7 +32,10 @@ loop-less : tie.Need-loop-less Inv-loop μ-loop
 loop-less c = omega arith
 
 loop-again : tie.Need-loop-again Inv-loop μ-loop
-loop-again c = (omega arith, c .before .add-level .kept .1 .1 .1 .0 ∙ c .before .before .before .before .loop .inv .1, c .before .add-level .ensures)
+loop-again c =
+    let a = c .before .before .add-level in
+    let l = c .before .before .before .before .before .before .loop in
+    (omega arith, a .kept .1 .1 .1 .1 .0 ∙ l .inv .1, a .ensures, a .kept .1 .1 .1 .0 ∙ l .inv .3)
 
 same-length : tie.Need-same-length Inv-loop μ-loop
 same-length c = c .before .loop .inv .1
@@ -45,6 +54,7 @@ fill-levels-spec =
     Inv-loop
     μ-loop
     loop-holds
+    slice-aggregate-add-level
     add-level-requires
     add-k
     loop-less
