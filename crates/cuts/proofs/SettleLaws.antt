@@ -1,7 +1,7 @@
 -- Settling one boundary, as the code does it on parts of lists.
 -- Key idea: the least sum of z and the arcs into b is what the arcs force z down to at b; carrying it through row b is the step of SinkLaws.
 use mathlib.Core.Path.{_≡_, refl, sym, ap, _∙_, subst}
-use mathlib.Core.Logic.{_⊎_, ⊎-elim}
+use mathlib.Core.Logic.{⊎-elim}
 use mathlib.Core.Bool.{Bool, true, false}
 use mathlib.Core.List.{List}
 use Prim.Native.Nat.{ℕ, _+_, _-_, _*_, _≤_, _<_}

@@ -3,8 +3,8 @@
 -- its end b down to k, and the table carries that on: every z(c) becomes min(z(c), k + D(b, c)), which is feasible again and still above all that
 -- keep the arcs. Where this takes z below 0 at its start, nothing keeps the arcs. It ends because z stays above what the table allows.
 use mathlib.Core.Path.{_≡_, subst}
-use mathlib.Core.Logic.{_⊎_, ⊎-elim}
-use Prim.Native.Nat.{ℕ, zero, suc, _+_, _-_, _≤_, _<_}
+use mathlib.Core.Logic.{⊎-elim}
+use Prim.Native.Nat.{ℕ, zero, suc, _-_, _≤_, _<_}
 use native.Mathlib.Omega.{arith}
 use native.Mathlib.Nat.{eq-or-lt-of-le, le-of-suc-le-suc}
 use lib.IntN.{ℤ, pos, _+ℤ_}

@@ -1,7 +1,6 @@
 use integers::less;
 use integers::lesser;
-ghost use mathlib.Core.Path.{_≡_};
-ghost use Prim.Native.Nat.{ℕ, _+_, _<_, _≤_};
+ghost use Prim.Native.Nat.{_+_, _<_, _≤_};
 ghost use lib.ListN.{length};
 ghost use Rattle.cuts.specs.Sink.{Within};
 ghost use Rattle.cuts.specs.Carry.{Modest, Carried, LeastSum, Network, Cuts, SunkAt, AdmitsAt, Settling, Decides, Barred, LeastCutAt};

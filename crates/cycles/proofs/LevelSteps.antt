@@ -32,29 +32,33 @@ above-row : (w i k v : ℕ) → i < k → v < w → i * w + v < k * w
 above-row w i k v h l = let q : (i + 1) * w ≤ k * w = mul-le-mul-right w (omega arith) in omega arith
 
 -- ---- row k, copied
-module _ (w k n : ℕ) (d levels copy old : List ℤ) (size : n ≡ w) (fits : k * w + n ≤ length levels) (room : w ≤ length copy)
-    (made : copy ≡ take n (drop (k * w) levels) ++ drop (length (take n (drop (k * w) levels))) old) (v : LevelsUpTo w d levels k) where
-  pub copy-at : (j : ℕ) → j < w → getD (take w copy) j (pos 0) ≡ level w (entry w d) k j
-  copy-at j h =
+pub record Copied (w k : ℕ) (d xs : List ℤ) : Type 0 where
+  pub long : length xs ≡ w
+  pub at : (j : ℕ) → j < w → getD xs j (pos 0) ≡ level w (entry w d) k j
+
+pub row-copied : (w k n : ℕ) (d levels copy old : List ℤ) → n ≡ w → k * w + n ≤ length levels → w ≤ length copy
+    → copy ≡ take n (drop (k * w) levels) ++ drop (length (take n (drop (k * w) levels))) old → LevelsUpTo w d levels k → Copied w k d (take w copy)
+row-copied w k n d levels copy old size fits room made v = record {
+  long = omega (arith, length-take w copy);
+  at = λ j h.
       let xs = take n (drop (k * w) levels) in
       getD-take w copy j (pos 0) h ∙ ap (λ (x : List ℤ). getD x j (pos 0)) made
       ∙ List·getD-append xs (drop (length xs) old) (pos 0) j (omega (arith, part-length (k * w) n levels fits))
-      ∙ part-at (k * w) n levels (pos 0) j (omega arith) ∙ v k j (omega arith) h
+      ∙ part-at (k * w) n levels (pos 0) j (omega arith) ∙ v k j (omega arith) h;
+}
 
-  pub copy-long : length (take w copy) ≡ w
-  copy-long = omega (arith, length-take w copy)
-
-  pub copy-sums : Weighed w d → k < w → SumsFit w d (take w copy)
-  copy-sums q h a b ha hb =
-      subst (λ (x : ℤ). T (sumInRange (x +ℤ entry w d a b))) (sym (copy-at a ha))
+module _ (w k : ℕ) (d prev : List ℤ) (c : Copied w k d prev) where
+  pub copied-sums : Weighed w d → k < w → SumsFit w d prev
+  copied-sums q h a b ha hb =
+      subst (λ (x : ℤ). T (sumInRange (x +ℤ entry w d a b))) (sym (c .at a ha))
       (level-sum-in-range w d (q .bounded) k a b (omega (arith, q .few)) ha hb)
 
   -- row k + 1 is made
-  pub rows-next : (m : ℕ) (ys : List ℤ) → m ≡ w → k * w + w + m ≤ length levels → ys ≡ listOf w (lower w (entry w d) (λ x. getD (take w copy) x (pos 0)))
-      → LevelsUpTo w d (back (k * w + w) m ys levels) (k + 1)
+  pub rows-next : (m : ℕ) (levels ys : List ℤ) → LevelsUpTo w d levels k → m ≡ w → k * w + w + m ≤ length levels
+      → ys ≡ listOf w (lower w (entry w d) (λ x. getD prev x (pos 0))) → LevelsUpTo w d (back (k * w + w) m ys levels) (k + 1)
   unfolding level
-  rows-next m ys em inside ey i x hi hx =
-      let g : ℕ → ℤ = (λ y. getD (take w copy) y (pos 0)) in
+  rows-next m levels ys v em inside ey i x hi hx =
+      let g : ℕ → ℤ = (λ y. getD prev y (pos 0)) in
       let long : length ys ≡ m = ap length ey ∙ length-listOf (lower w (entry w d) g) w ∙ sym em in
       elim (decLe i k) [
         | yes h ↦ back-before (k * w + w) m ys levels inside long (i * w + x) (pos 0) (omega (arith, above-row w i (k + 1) x (omega arith) hx)) ∙ v i x h hx
@@ -65,8 +69,8 @@ module _ (w k n : ℕ) (d levels copy old : List ℤ) (size : n ≡ w) (fits : k
             ∙ back-inside (k * w + w) m ys levels inside long x (pos 0) (omega arith)
             ∙ ap (λ (l : List ℤ). getD l x (pos 0)) ey ∙ listOf-at (lower w (entry w d) g) w x (pos 0) hx
             ∙ least-same w (λ u. g u +ℤ entry w d u x) (λ u. level w (entry w d) k u +ℤ entry w d u x) (g x)
-            (λ u l. ap (λ (z : ℤ). z +ℤ entry w d u x) (copy-at u l))
-            ∙ ap (leastOver w (λ u. level w (entry w d) k u +ℤ entry w d u x)) (copy-at x hx)
+            (λ u l. ap (λ (z : ℤ). z +ℤ entry w d u x) (c .at u l))
+            ∙ ap (leastOver w (λ u. level w (entry w d) k u +ℤ entry w d u x)) (c .at x hx)
             ∙ ap (λ (n : ℕ). level w (entry w d) n x) (sym e)
       ]
 
@@ -90,31 +94,37 @@ fallen-found w d levels low high r q infeasible long lows highs e =
           omega (ints, f, last v l, highs v l))))
     ]
 
+-- ---- a level read from its row
+module _ (w : ℕ) (d levels : List ℤ) (q : Ready w d levels) where
+  pub level-inside : (k v : ℕ) → k ≤ w → v < w → k * w + v < length levels
+  level-inside k v hk hv = let h : k * w ≤ w * w = mul-le-mul-right w hk in omega (arith, q .long)
+
+  -- what the step from u leaves v
+  pub left-is : (k u v : ℕ) → k < w → u < w → (entry w levels k u +ℤ entry w d u v) ≡ level w (entry w d) k u +ℤ entry w d u v
+  left-is k u v hk hu = ap (λ (z : ℤ). z +ℤ entry w d u v) (q .levels-are k u (omega arith) hu)
+
+  pub left-in-range : (k u v : ℕ) → k < w → u < w → v < w → T (sumInRange (entry w levels k u +ℤ entry w d u v))
+  left-in-range k u v hk hu hv =
+      subst (λ (z : ℤ). T (sumInRange z)) (sym (left-is k u v hk hu))
+      (level-sum-in-range w d (q .weights .bounded) k u v (omega (arith, q .weights .few)) hu hv)
+
 -- ---- the boundary from which v has its level
+-- the step from u leaves v more than its level k
+abbrev pub leavesMore : ℕ → List ℤ → List ℤ → ℕ → ℕ → ℕ → Bool
+leavesMore w d levels k v u = ltZ (entry w levels k v) (level w (entry w d) (k - 1) u +ℤ entry w d u v)
+
 module _ (w : ℕ) (d levels : List ℤ) (k v : ℕ) (q : Ready w d levels) (pk : 0 < k) (hk : k ≤ w) (hv : v < w) where
-  before : k ≡ suc (k - 1)
-  before = omega arith
+  target-is : entry w levels k v ≡ level w (entry w d) (suc (k - 1)) v
+  target-is = let e : k ≡ suc (k - 1) = omega arith in q .levels-are k v hk hv ∙ ap (λ (n : ℕ). level w (entry w d) n v) e
 
-  pub target-is : getD levels (k * w + v) (pos 0) ≡ level w (entry w d) (suc (k - 1)) v
-  target-is = q .levels-are k v hk hv ∙ ap (λ (n : ℕ). level w (entry w d) n v) before
-
-  pub step-is : (u : ℕ) → u < w → (getD levels ((k - 1) * w + u) (pos 0) +ℤ getD d (u * w + v) (pos 0)) ≡ level w (entry w d) (k - 1) u +ℤ entry w d u v
-  step-is u h = ap (λ (z : ℤ). z +ℤ entry w d u v) (q .levels-are (k - 1) u (omega arith) h)
-
-  pub step-in-range : (u : ℕ) → u < w → T (sumInRange (getD levels ((k - 1) * w + u) (pos 0) +ℤ getD d (u * w + v) (pos 0)))
-  step-in-range u h =
-      subst (λ (z : ℤ). T (sumInRange z)) (sym (step-is u h)) (level-sum-in-range w d (q .weights .bounded) (k - 1) u v (omega (arith, q .weights .few)) h hv)
-
-  pub source-found : (u : ℕ) → u < w
-      → ltZ (getD levels (k * w + v) (pos 0)) (getD levels ((k - 1) * w + u) (pos 0) +ℤ getD d (u * w + v) (pos 0)) ≡ false → Source w d (k - 1) v u
-  source-found u h f = record { inside = h; gives = omega (ints, f, target-is, step-is u h, level-step w (entry w d) (k - 1) u v h) }
+  pub source-found : (u : ℕ) → u < w → leavesMore w d levels k v u ≡ false → Source w d (k - 1) v u
+  source-found u h f = record { inside = h; gives = omega (ints, f, target-is, level-step w (entry w d) (k - 1) u v h) }
 
   -- some boundary is one
-  pub source-there : ((u : ℕ) → u < w
-      → ltZ (getD levels (k * w + v) (pos 0)) (getD levels ((k - 1) * w + u) (pos 0) +ℤ getD d (u * w + v) (pos 0)) ≡ true) → ⊥
+  pub source-there : ((u : ℕ) → u < w → leavesMore w d levels k v u ≡ true) → ⊥
   source-there f =
       let s = level-source w (entry w d) (k - 1) v hv (q .weights .zeros v hv) in
-      omega (ints, f (s .place) (s .inside), target-is, step-is (s .place) (s .inside), s .value)
+      omega (ints, f (s .place) (s .inside), target-is, s .value)
 
 -- ---- the room of the levels, before they are made
 zero-at : (n j : ℕ) → getD (replicate n (pos 0)) j (pos 0) ≡ pos 0

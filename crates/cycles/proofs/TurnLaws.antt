@@ -45,8 +45,9 @@ cycle-put w d a b walk out result low f l e =
     let m : length t ≡ b - a = length-append (drop low c) (take low c) ∙ (omega (arith, length-drop low c, length-take low c, l .inside)) in
     let form : result ≡ t ++ drop (b - a) out = e ∙ ap (λ (i : ℕ). t ++ drop i out) n in
     let front : take (b - a) result ≡ t = ap (take (b - a)) form ∙ take-at t (drop (b - a) out) (b - a) m in
+    let turned = turned-at (w - 1) (entry w d) c low (f .cycle) (l .inside) (l .least) in
     record {
       short = f .short;
-      cycle = subst (λ (x : List ℕ). T (isNegativeCycle (w - 1) (entry w d) x)) (sym front) (turned-at (w - 1) (entry w d) c low (f .cycle) (l .inside) (l .least));
+      cycle = subst (λ (x : List ℕ). T (isNegativeCycle (w - 1) (entry w d) x)) (sym front) turned;
       past = ap (drop (b - a)) form ∙ drop-at t (drop (b - a) out) (b - a) m;
     }

@@ -4,14 +4,13 @@
 use Prim.Native.Nat.{ℕ, suc, _+_, _-_, _≤_, _<_}
 use native.Mathlib.Omega.{arith}
 use mathlib.Core.Path.{_≡_, sym, ap, subst, _∙_}
-use mathlib.Core.Bool.{Bool, true}
 use mathlib.Core.List.{List, [], _∷_}
 use borrow.Author.Tests.{eqb-true, eqb-false}
 use lib.Dec.{eqb}
 use lib.ListN.{length, getD, take, drop, set, length-take, length-drop, length-set, drop-of-length-le}
-use lib.Seq.{drop-cons, drop-set-lt, getD-set-same, take-all}
+use lib.Seq.{drop-cons, drop-set-lt, getD-drop, getD-set-same}
 use lib.IntN.{ℤ, _+ℤ_}
-use Rattle.lists.specs.First.{firstPlace, first-before, first-at}
+use Rattle.lists.specs.First.{firstFrom, From, first-from}
 use Rattle.lists.specs.Members.{In}
 use Rattle.network.specs.NetworkLaws.{Upto}
 use Rattle.network.specs.Table.{entry}
@@ -47,47 +46,44 @@ walk-start w d walk last q f l =
       apart = subst (λ (xs : List ℕ). Distinct (last ∷ xs)) (sym none) ((λ m. let r = at-in last [] m in omega (arith, r .inside)), tt);
     }
 
-module _ (w : ℕ) (d : List ℤ) (walk : List ℕ) (k v u n j : ℕ) (q : Weighed w d) (i : WalkInv w d walk k v) (s : Source w d (k - 1) v u) (en : n ≡ w + 1 - k)
-    (ej : j ≡ firstPlace (length (take n (drop k walk))) (λ p. eqb (getD (take n (drop k walk)) p 0) u)) where
+module _ (w : ℕ) (d : List ℤ) (walk : List ℕ) (k v u j : ℕ) (q : Weighed w d) (i : WalkInv w d walk k v) (s : Source w d (k - 1) v u)
+    (ej : j ≡ firstFrom (length walk - k) k (λ p. eqb (getD walk p 0) u)) where
   whole : drop k walk ≡ v ∷ drop (suc k) walk
   whole = drop-cons walk k 0 (omega (arith, i .long, i .most)) ∙ ap (λ (x : ℕ). x ∷ drop (suc k) walk) (i .at)
 
-  part : take n (drop k walk) ≡ v ∷ drop (suc k) walk
-  part = take-all n (drop k walk) (omega (arith, length-drop k walk, i .long)) ∙ whole
-
-  size : length (v ∷ drop (suc k) walk) ≡ n
+  size : length (v ∷ drop (suc k) walk) ≡ w + 1 - k
   size = ap length (sym whole) ∙ (omega (arith, length-drop k walk, i .long))
 
-  test : ℕ → Bool
-  test p = eqb (getD (v ∷ drop (suc k) walk) p 0) u
+  on-walk : (p : ℕ) → getD (v ∷ drop (suc k) walk) p 0 ≡ getD walk (k + p) 0
+  on-walk p = ap (λ (xs : List ℕ). getD xs p 0) (sym whole) ∙ getD-drop k walk p 0
 
-  found-at : j ≡ firstPlace (length (v ∷ drop (suc k) walk)) test
-  unfolding test
-  found-at = ej ∙ ap (λ (xs : List ℕ). firstPlace (length xs) (λ p. eqb (getD xs p 0) u)) part
+  found : From (λ p. eqb (getD walk p 0) u) (length walk - k) k j
+  found = subst (From (λ p. eqb (getD walk p 0) u) (length walk - k) k) (sym ej) (first-from (λ p. eqb (getD walk p 0) u) (length walk - k) k)
 
   -- the boundary stands on the walk already
-  pub walk-found : j < w + 1 - k → Found w d k (k + j + 1) walk
-  unfolding test
+  pub walk-found : j ≤ w → Found w d k (j + 1) walk
   walk-found h =
-      let f : test j ≡ true = ap test found-at ∙ first-at test (length (v ∷ drop (suc k) walk)) (omega (arith, found-at, size)) in
-      let e : suc (k - 1) ≡ k = omega (arith, i .low) in
+      let r = found in
+      let n = j - k in
+      let e : k + n ≡ j = omega (arith, r .least) in
+      let at : getD (v ∷ drop (suc k) walk) n 0 ≡ u =
+      on-walk n ∙ ap (λ (p : ℕ). getD walk p 0) e ∙ eqb-true (getD walk j 0) u (r .at (omega (arith, i .long, i .most))) in
       let z = q .zeros v (omega (arith, i .upto .0, q .some)) in
-      let c = met-again w (entry w d) (w - 1) (k - 1) v (drop (suc k) walk) u j (omega (arith, size)) (eqb-true (getD (v ∷ drop (suc k) walk) j 0) u f)
-      (i .walked) (i .upto) (i .apart) z (s .gives) in
-      let m : k + j + 1 - k ≡ suc j = omega arith in
-      let t : take (suc j) (v ∷ drop (suc k) walk) ≡ take (k + j + 1 - k) (drop k walk) =
-      ap (take (suc j)) (sym whole) ∙ ap (λ (x : ℕ). take x (drop k walk)) (sym m) in
-      let room = distinct-length (w - 1) (take (suc j) (v ∷ drop (suc k) walk)) (c .upto) (c .apart) in
+      let c = met-again w (entry w d) (w - 1) (k - 1) v (drop (suc k) walk) u n (omega (arith, size)) at (i .walked) (i .upto) (i .apart) z (s .gives) in
+      let m : j + 1 - k ≡ suc n = omega arith in
+      let t : take (suc n) (v ∷ drop (suc k) walk) ≡ take (j + 1 - k) (drop k walk) =
+      ap (take (suc n)) (sym whole) ∙ ap (λ (x : ℕ). take x (drop k walk)) (sym m) in
+      let room = distinct-length (w - 1) (take (suc n) (v ∷ drop (suc k) walk)) (c .upto) (c .apart) in
       record {
         order = omega arith;
         inside = omega (arith, i .long);
-        short = omega (arith, room, length-take (suc j) (v ∷ drop (suc k) walk), size, q .some);
+        short = omega (arith, room, length-take (suc n) (v ∷ drop (suc k) walk), size, q .some);
         cycle = subst (Cycle (w - 1) (entry w d)) t c;
       }
 
   -- it does not, and becomes the walk's first
-  pub walk-next : w + 1 - k ≤ j → WalkInv w d (set walk (k - 1) u) (k - 1) u
-  unfolding Walked test
+  pub walk-next : w < j → WalkInv w d (set walk (k - 1) u) (k - 1) u
+  unfolding Walked
   walk-next h =
       let t = set walk (k - 1) u in
       let e : suc (k - 1) ≡ k = omega (arith, i .low) in
@@ -95,8 +91,8 @@ module _ (w : ℕ) (d : List ℤ) (walk : List ℕ) (k v u n j : ℕ) (q : Weigh
       drop-set-lt (suc (k - 1)) walk (k - 1) u (omega arith) ∙ ap (λ (x : ℕ). drop x walk) e ∙ whole in
       let fresh : In u (v ∷ drop (suc k) walk) → ⊥ = (λ m.
       let r = at-in u (v ∷ drop (suc k) walk) m in
-      let f = first-before test (length (v ∷ drop (suc k) walk)) (r .place) (omega (arith, r .inside, found-at, size)) in
-      eqb-false (getD (v ∷ drop (suc k) walk) (r .place) 0) u f (r .value)) in
+      let f = found .before (k + r .place) (omega arith) (omega (arith, r .inside, size)) in
+      eqb-false (getD walk (k + r .place) 0) u f (sym (on-walk (r .place)) ∙ r .value)) in
       let below : u ≤ w - 1 = omega (arith, s .inside) in
       let upto : Upto (w - 1) (u ∷ (v ∷ drop (suc k) walk)) = (below, i .upto) in
       let apart : Distinct (u ∷ (v ∷ drop (suc k) walk)) = (fresh, i .apart) in

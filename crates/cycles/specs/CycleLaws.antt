@@ -4,8 +4,9 @@
 use mathlib.Core.Path.{_≡_, refl, sym, ap, _∙_, subst}
 use mathlib.Core.Logic.{_⊎_, inl, inr, ⊎-elim}
 use mathlib.Core.Bool.{Bool, true, false, not, _&&_, _||_}
-use mathlib.Core.List.{List, [], _∷_, _++_, List·Memᴰ·head, List·Memᴰ·tail, List·Memᴰ·not-nil, List·Memᴰ·cases-cons, List·Memᴰ·append-cases, Memᴰ·append-left, Memᴰ·append-right, Memᴰ·cast}
-use Prim.Native.Nat.{ℕ, zero, suc, _≤_, _<_}
+use mathlib.Core.List.{List, [], _∷_, _++_, Memᴰ·append-left, Memᴰ·append-right, Memᴰ·cast}
+use mathlib.Core.List.{List·Memᴰ·head, List·Memᴰ·tail, List·Memᴰ·not-nil, List·Memᴰ·cases-cons, List·Memᴰ·append-cases}
+use Prim.Native.Nat.{ℕ, suc, _≤_, _<_}
 use native.Mathlib.Omega.{arith}
 use native.Mathlib.Nat.{eq-or-lt-of-le}
 use lib.Dec.{T, leb, ltb, eqb, le→leb, lt→ltb, eqb→eq, eqb-refl, not-T}
@@ -87,11 +88,6 @@ pub distinct-length : (top : ℕ) (c : List ℕ) → Upto top c → Distinct c �
 distinct-length top c u g = omega (arith, length-count top c u g, count-most (suc top) (mem c))
 
 -- ---- places and members
-pub in-at : (c : List ℕ) (j : ℕ) → j < length c → In (getD c j 0) c
-in-at [] j h = absurd (omega arith)
-in-at (a ∷ bs) zero h = List·Memᴰ·head refl
-in-at (a ∷ bs) (suc j) h = List·Memᴰ·tail (in-at bs j (omega arith))
-
 pub record Place (x : ℕ) (c : List ℕ) : Type 0 where
   pub place : ℕ
   pub inside : place < length c
@@ -139,7 +135,8 @@ module _ (top : ℕ) (d : Weights) (us : List ℕ) (low : ℕ) (vs : List ℕ) (
       let upto : Upto top c = (u .0, upto-append top vs us (u .1) (upto-left top us (low ∷ vs) (r .upto))) in
       let apart : Distinct c = (
         (λ m. let l = above low m in omega arith),
-        distinct-join vs us (distinct-right us (low ∷ vs) g .1) (distinct-left us (low ∷ vs) g) (λ x p q. distinct-apart us (low ∷ vs) g x q (List·Memᴰ·tail p)),
+        distinct-join vs us (distinct-right us (low ∷ vs) g .1) (distinct-left us (low ∷ vs) g)
+            (λ x p q. distinct-apart us (low ∷ vs) g x q (List·Memᴰ·tail p)),
       ) in
       let negative : around d c <ℤ pos 0 = omega (ints, r .negative, around-turned d us low vs) in
       let size : 2 ≤ length c = omega (arith, r .long, length-append us (low ∷ vs), length-append vs us) in

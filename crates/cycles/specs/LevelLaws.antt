@@ -45,7 +45,8 @@ least-among (suc n) g z Q q f =
 -- the same numbers have the same smallest one
 pub least-same : (n : ℕ) (g h : ℕ → ℤ) (z : ℤ) → ((u : ℕ) → u < n → g u ≡ h u) → leastOver n g z ≡ leastOver n h z
 least-same zero g h z f = refl
-least-same (suc n) g h z f = ap (λ (x : ℤ). minℤ x (g n)) (least-same n g h z (λ u l. f u (omega arith))) ∙ ap (λ (x : ℤ). minℤ (leastOver n h z) x) (f n (omega arith))
+least-same (suc n) g h z f =
+    ap (λ (x : ℤ). minℤ x (g n)) (least-same n g h z (λ u l. f u (omega arith))) ∙ ap (λ (x : ℤ). minℤ (leastOver n h z) x) (f n (omega arith))
 
 -- ---- levels
 module _ (w : ℕ) (d : Weights) where

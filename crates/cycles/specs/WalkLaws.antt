@@ -21,11 +21,6 @@ Walked w d k v [] = (v < w) × (level w d (suc k) v <ℤ level w d k v)
 Walked w d k v (x ∷ xs) = (v < w) × ((level w d (suc k) v +ℤ d v x) ≡ level w d (suc (suc k)) x) × Walked w d (suc k) x xs
 
 module _ (w : ℕ) (d : Weights) where
-  pub walked-inside : (k v : ℕ) (xs : List ℕ) → Walked w d k v xs → v < w
-  unfolding Walked
-  walked-inside k v [] h = h .0
-  walked-inside k v (x ∷ xs) h = h .0
-
   -- its first boundary fell
   pub walked-fell : (k v : ℕ) (xs : List ℕ) → Walked w d k v xs → level w d (suc k) v <ℤ level w d k v
   unfolding Walked

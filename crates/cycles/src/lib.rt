@@ -1,14 +1,14 @@
 ghost use mathlib.Core.Path.{_≡_};
 ghost use mathlib.Core.List.{_++_};
-ghost use Prim.Native.Nat.{ℕ, _+_, _-_, _*_, _≤_, _<_};
+ghost use Prim.Native.Nat.{_+_, _-_, _*_, _≤_, _<_};
 ghost use lib.Dec.{eqb};
 ghost use lib.ListN.{length, getD, take, drop};
-ghost use lib.IntN.{pos};
+ghost use lib.IntN.{pos, _+ℤ_};
 ghost use lib.Signed.{ltZ};
-ghost use Rattle.lists.specs.First.{firstPlace};
+ghost use Rattle.lists.specs.First.{firstPlace, firstFrom};
 ghost use Rattle.lists.specs.Values.{listOf};
 ghost use Rattle.network.specs.Table.{mostBoundaries, entry};
-ghost use Rattle.cycles.specs.Levels.{lower};
+ghost use Rattle.cycles.specs.Levels.{lower, level};
 ghost use Rattle.cycles.specs.Finder.{Infeasible, SumsFit, LevelsUpTo, Weighed, Ready, Fallen, Source, Lowest, Found, CycleAt};
 
 // A stretch of a walk: from its first place to behind its last one.
@@ -43,12 +43,13 @@ fn first_below(low: &[i16], high: &[i16]) -> usize
     v
 }
 
-// The first place of x, or the length.
-fn place_of(c: &[u16], x: u16) -> usize
-    ensures { λ r. ⌜ r ≡ firstPlace (length (now (c .entry))) (λ j. eqb (getD (now (c .entry)) j 0) x) ⌝ }
+// The first place of x that is not before from, or the length.
+fn place_of(c: &[u16], from: usize, x: u16) -> usize
+    requires { ⌜ from ≤ length (now c) ⌝ }
+    ensures { λ r. ⌜ r ≡ firstFrom (length (now (c .entry)) - from) from (λ j. eqb (getD (now (c .entry)) j 0) x) ⌝ }
 {
     let n = c.len();
-    let mut j = 0;
+    let mut j = from;
     while j < n {
         if c[j] == x {
             return j;
@@ -104,6 +105,18 @@ fn make_level(d: &[i16], w: usize, prev: &[i16], row: &mut [i16])
     next_level(d, w, prev, row);
 }
 
+// Level k + 1, into its row behind that of level k. prev is room for a copy of level k.
+fn add_level(d: &[i16], w: usize, k: usize, prev: &mut [i16], levels: &mut [i16])
+    requires { ⌜ Weighed w (now d) × (w * w + w ≤ length (now levels)) × (k < w) × LevelsUpTo w (now d) (now levels) k × (w ≤ length (now prev)) ⌝ }
+    ensures { λ _. ⌜ LevelsUpTo w (now (d .entry)) (now (levels .exit)) (k + 1) ⌝ }
+{
+    let from = k * w;
+    let to = from + w;
+    network::copy_row(&levels[from..to], prev);
+    let end = to + w;
+    make_level(d, w, &prev[..w], &mut levels[to..end]);
+}
+
 // The levels 0 to w, row by row. Level 0 stands there already.
 fn fill_levels(d: &[i16], w: usize, levels: &mut [i16])
     requires { ⌜ Weighed w (now d) × (w * w + w ≤ length (now levels)) × LevelsUpTo w (now d) (now levels) 0 ⌝ }
@@ -111,12 +124,23 @@ fn fill_levels(d: &[i16], w: usize, levels: &mut [i16])
 {
     let mut prev = [0i16; 49];
     for k in 0..w {
-        let from = k * w;
-        let to = from + w;
-        network::copy_row(&levels[from..to], &mut prev);
-        let end = to + w;
-        make_level(d, w, &prev[..w], &mut levels[to..end]);
+        add_level(d, w, k, &mut prev, levels);
     }
+}
+
+fn entry_at(t: &[i16], w: usize, a: usize, b: usize) -> i16
+    requires { ⌜ a * w + b < length (now t) ⌝ }
+    ensures { λ r. ⌜ r ≡ entry w (now (t .entry)) a b ⌝ }
+{
+    t[a * w + b]
+}
+
+// What the step from u leaves v at level k + 1.
+fn left_by(d: &[i16], w: usize, levels: &[i16], k: usize, u: usize, v: usize) -> i16
+    requires { ⌜ Ready w (now d) (now levels) × (k < w) × (u < w) × (v < w) ⌝ }
+    ensures { λ r. ⌜ r ≡ level w (entry w (now (d .entry))) k u +ℤ entry w (now (d .entry)) u v ⌝ }
+{
+    entry_at(levels, w, k, u) + entry_at(d, w, u, v)
 }
 
 // A boundary from which v has its level k.
@@ -124,11 +148,11 @@ fn source_of(d: &[i16], w: usize, levels: &[i16], k: usize, v: usize) -> usize
     requires { ⌜ Ready w (now d) (now levels) × (0 < k) × (k ≤ w) × (v < w) ⌝ }
     ensures { λ r. ⌜ Source w (now (d .entry)) (k - 1) v r ⌝ }
 {
-    let above = (k - 1) * w;
-    let target = levels[k * w + v];
+    let above = k - 1;
+    let target = entry_at(levels, w, k, v);
     let mut u = 0;
     while u < w {
-        let x = levels[above + u] + d[u * w + v];
+        let x = left_by(d, w, levels, above, u, v);
         if integers::less(target, x) {} else {
             return u;
         }
@@ -154,15 +178,15 @@ fn walk_back(d: &[i16], w: usize, levels: &[i16], last: usize, walk: &mut [u16])
     ensures { λ r. ⌜ Found w (now (d .entry)) (r .0) (r .1) (now (walk .exit)) ⌝ }
 {
     walk[w] = last as u16;
-    let end = w + 1;
     let mut k = w;
     let mut v = last;
     loop {
         let u = source_of(d, w, levels, k, v);
         let x = u as u16;
-        let j = place_of(&walk[k..end], x);
-        if j < end - k {
-            return Stretch(k, k + j + 1);
+        let j = place_of(walk, k, x);
+        if j <= w {
+            let to = j + 1;
+            return Stretch(k, to);
         }
         k -= 1;
         walk[k] = x;

@@ -156,10 +156,6 @@ class-small b = go (isPrintable b) (isDigit b) (member b classBytes) refl
 abbrev shown : ℕ → Bool
 shown x = member x classBytes && (not (isDigit x) && not (eqb x 33))
 
-holds-true : (b : Bool) → T b → b ≡ true
-holds-true true h = refl
-holds-true false h = absurd h
-
 fails-false : (b : Bool) → T (not b) → b ≡ false
 fails-false true h = absurd h
 fails-false false h = refl

@@ -1,7 +1,7 @@
 -- What the line reader answers: questions 2, 11, 3 and 4 of one line, in this order, and else its values.
 use Prim.Native.Nat.{ℕ, _+_}
 use mathlib.Core.Bool.{Bool, true, false, _&&_, cond}
-use mathlib.Core.List.{List, []}
+use mathlib.Core.List.{List}
 use lib.ListN.{length, drop}
 use Rattle.lists.specs.Lists.{every}
 use Rattle.form.specs.Form.{printable, leading, past, plain, value, numbers, sheetForm, unitForm, ruleForm}

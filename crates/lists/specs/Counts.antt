@@ -1,9 +1,9 @@
 -- How many of the places below n pass a test, and the laws that make a count behave as the size of a set.
-use mathlib.Core.Path.{_≡_, refl, sym, ap, _∙_, subst}
-use mathlib.Core.Logic.{_⊎_, inl, inr, ⊎-elim, _≢_}
-use mathlib.Core.Bool.{Bool, true, false, not, _&&_, _||_}
+use mathlib.Core.Path.{_≡_, refl, sym, subst}
+use mathlib.Core.Logic.{_⊎_, ⊎-elim, _≢_}
+use mathlib.Core.Bool.{Bool, true, false}
 use mathlib.Core.List.{List, [], _∷_}
-use Prim.Native.Nat.{ℕ, zero, suc, _+_, _-_, _≤_, _<_}
+use Prim.Native.Nat.{ℕ, zero, suc, _+_, _≤_, _<_}
 use native.Mathlib.Omega.{arith}
 use native.Mathlib.Nat.{eq-or-lt-of-le, le-of-suc-le-suc}
 use native.Mathlib.Decide.{ℕ-discrete}
@@ -16,7 +16,7 @@ count zero t = 0
 count (suc n) t = oneIf (t n) + count n t
 
 -- a set inside another is no larger
-oneIf-le : (a b : Bool) → (T a → T b) → oneIf a ≤ oneIf b
+pub oneIf-le : (a b : Bool) → (T a → T b) → oneIf a ≤ oneIf b
 oneIf-le true true f = omega arith
 oneIf-le true false f = absurd (f tt)
 oneIf-le false b f = omega arith
@@ -52,13 +52,16 @@ unfolding count
 count-lt zero t u j h p q f = absurd (omega arith)
 count-lt (suc n) t u j h p q f =
     ⊎-elim
-    (λ (e : j ≡ n). omega (arith, oneIf-one (u n) (subst (λ i. T (u i)) e p), oneIf-none (t n) (subst (λ i. T (t i) → ⊥) e q), count-le n t u (λ i l. f i (omega arith))))
+    (λ (e : j ≡ n).
+    let one = oneIf-one (u n) (subst (λ i. T (u i)) e p) in
+    let none = oneIf-none (t n) (subst (λ i. T (t i) → ⊥) e q) in
+    omega (arith, count-le n t u (λ i l. f i (omega arith))))
     (λ l. omega (arith, oneIf-le (t n) (u n) (f n (omega arith)), count-lt n t u j l p q (λ i l′. f i (omega arith))))
     (eq-or-lt-of-le (le-of-suc-le-suc h))
 
-most : (a : Bool) → oneIf a ≤ 1
-most true = omega arith
-most false = omega arith
+pub oneIf-most : (a : Bool) → oneIf a ≤ 1
+oneIf-most true = omega arith
+oneIf-most false = omega arith
 
 -- at most one place more
 pub count-suc : (n : ℕ) (t u : ℕ → Bool) (j : ℕ) → ((i : ℕ) → i < n → i ≢ j → T (u i) → T (t i)) → count n u ≤ suc (count n t)
@@ -66,7 +69,7 @@ unfolding count
 count-suc zero t u j f = omega arith
 count-suc (suc n) t u j f =
     elim (ℕ-discrete n j) [
-      | yes e ↦ omega (arith, most (u n), count-le n u t (λ i l. f i (omega arith) (omega arith)))
+      | yes e ↦ omega (arith, oneIf-most (u n), count-le n u t (λ i l. f i (omega arith) (omega arith)))
       | no ne ↦ omega (arith, oneIf-le (u n) (t n) (f n (omega arith) ne), count-suc n t u j (λ i l. f i (omega arith)))
     ]
 
@@ -104,7 +107,7 @@ count-front (suc n) t = omega (arith, count-front n t)
 pub count-most : (n : ℕ) (t : ℕ → Bool) → count n t ≤ n
 unfolding count
 count-most zero t = omega arith
-count-most (suc n) t = omega (arith, most (t n), count-most n t)
+count-most (suc n) t = omega (arith, oneIf-most (t n), count-most n t)
 
 -- ---- counts of a list, as counts of places
 pub howMany-count : {A : Type 0} (t : A → Bool) (d : A) (xs : List A) → howMany t xs ≡ count (length xs) (λ j. t (getD xs j d))
@@ -112,7 +115,7 @@ unfolding count
 howMany-count t d [] = refl
 howMany-count t d (x ∷ xs) = omega (arith, howMany-count t d xs, count-front (length xs) (λ j. t (getD (x ∷ xs) j d)))
 
-oneIf-split : (p q r : Bool) → (T p → T q ⊎ T r) → (T q → T p) → (T r → T p) → (T q → T r → ⊥) → oneIf p ≡ oneIf q + oneIf r
+pub oneIf-split : (p q r : Bool) → (T p → T q ⊎ T r) → (T q → T p) → (T r → T p) → (T q → T r → ⊥) → oneIf p ≡ oneIf q + oneIf r
 oneIf-split true true true f g h k = absurd (k tt tt)
 oneIf-split true true false f g h k = refl
 oneIf-split true false true f g h k = refl

@@ -33,15 +33,15 @@ module _ (t : ℕ → Bool) where
   first-none n i h = let e : n - i ≡ 0 = omega arith in ap (λ (k : ℕ). firstFrom k i t) e
 
   -- ---- what was found
-  record From (k i r : ℕ) : Type 0 where
-    most : r ≤ i + k
-    least : i ≤ r
-    before : (j : ℕ) → i ≤ j → j < r → t j ≡ false
-    at : r < i + k → t r ≡ true
+  pub record From (k i r : ℕ) : Type 0 where
+    pub most : r ≤ i + k
+    pub least : i ≤ r
+    pub before : (j : ℕ) → i ≤ j → j < r → t j ≡ false
+    pub at : r < i + k → t r ≡ true
 
-  from : (k i : ℕ) → From k i (firstFrom k i t)
-  from zero i = record { most = omega arith; least = omega arith; before = λ j a b. absurd (omega arith); at = λ h. absurd (omega arith) }
-  from (suc k) i = go (t i) refl (from k (suc i))
+  pub first-from : (k i : ℕ) → From k i (firstFrom k i t)
+  first-from zero i = record { most = omega arith; least = omega arith; before = λ j a b. absurd (omega arith); at = λ h. absurd (omega arith) }
+  first-from (suc k) i = go (t i) refl (first-from k (suc i))
     where
       go : (b : Bool) → t i ≡ b → From k (suc i) (firstFrom k (suc i) t) → From (suc k) i (cond b i (firstFrom k (suc i) t))
       go true e r = record { most = omega arith; least = omega arith; before = λ j a b. absurd (omega arith); at = λ h. e }
@@ -52,11 +52,8 @@ module _ (t : ℕ → Bool) where
         at = λ h. r .at (omega arith);
       }
 
-  pub first-most : (n : ℕ) → firstPlace n t ≤ n
-  first-most n = omega (arith, from n 0 .most)
-
   pub first-before : (n j : ℕ) → j < firstPlace n t → t j ≡ false
-  first-before n j h = from n 0 .before j (omega arith) h
+  first-before n j h = first-from n 0 .before j (omega arith) h
 
   pub first-at : (n : ℕ) → firstPlace n t < n → t (firstPlace n t) ≡ true
-  first-at n h = from n 0 .at (omega arith)
+  first-at n h = first-from n 0 .at (omega arith)

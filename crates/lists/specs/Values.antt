@@ -86,9 +86,6 @@ module _ {A : Type 0} (g : ℕ → A) where
     pub filled-length : i ≤ length t₀ → length t ≡ length t₀
     filled-length = front-length (listOf i g) i (length-listOf i) t₀ t f
 
-    pub filled-past : (k : ℕ) → i ≤ k → drop k t ≡ drop k t₀
-    filled-past = front-past (listOf i g) i (length-listOf i) t₀ t f
-
     pub filled-old : (j : ℕ) (d : A) → i ≤ j → getD t j d ≡ getD t₀ j d
     filled-old = front-old (listOf i g) i (length-listOf i) t₀ t f
 

@@ -1,7 +1,7 @@
 -- What potentials and walks say of each other.
 -- Key idea: along a walk a feasible potential rises by at most the weights of the steps, so around a closed walk these add up to at least 0. A negative
 -- cycle therefore leaves no feasible potential. And the smaller of two feasible potentials, one of them shifted, is feasible again.
-use mathlib.Core.Path.{_≡_, refl, sym, ap, _∙_}
+use mathlib.Core.Path.{_≡_, refl, sym, ap, ap₂, _∙_}
 use mathlib.Core.Bool.{_&&_}
 use mathlib.Core.List.{List, [], _∷_, _++_, append-nil}
 use Prim.Native.Nat.{ℕ, _≤_}
@@ -49,6 +49,16 @@ upto-left top (u ∷ us) vs h = (h .0, upto-left top us vs (h .1))
 pub upto-right : (top : ℕ) (us vs : List ℕ) → Upto top (us ++ vs) → Upto top vs
 upto-right top [] vs h = h
 upto-right top (u ∷ us) vs h = upto-right top us vs (h .1)
+
+-- ---- two weights that agree up to the top boundary
+module _ (top : ℕ) (d e : Weights) (same : (a b : ℕ) → a ≤ top → b ≤ top → d a b ≡ e a b) where
+  pub via-same : (a : ℕ) (bs : List ℕ) (z : ℕ) → a ≤ top → Upto top bs → z ≤ top → via d a bs z ≡ via e a bs z
+  via-same a [] z ha h hz = same a z ha hz
+  via-same a (b ∷ bs) z ha h hz = ap₂ _+ℤ_ (same a b ha (h .0)) (via-same b bs z (h .0) (h .1) hz)
+
+  pub around-same : (c : List ℕ) → Upto top c → around d c ≡ around e c
+  around-same [] h = refl
+  around-same (a ∷ bs) h = via-same a bs a (h .0) (h .1) (h .0)
 
 -- ---- walks
 module _ (d : Weights) where

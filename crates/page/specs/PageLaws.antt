@@ -16,7 +16,7 @@ use Rattle.integers.specs.Parts.{up, dn, sum, neg, apart}
 use Rattle.lists.specs.Lists.{joined}
 use Rattle.lists.specs.Values.{values-same, length-listOf, listOf-at}
 use Rattle.network.specs.Network.{Weights, via, around}
-use Rattle.network.specs.NetworkLaws.{Upto}
+use Rattle.network.specs.NetworkLaws.{Upto, via-same}
 use Rattle.network.specs.Table.{mostBoundaries}
 use Rattle.sheet.specs.Limits.{maxSlots}
 use Rattle.writing.specs.Writing.{text, digits, planHead, boundLine, shortfallLine}
@@ -185,13 +185,9 @@ module _ (top : ℕ) (d e : Weights) (same : (a b : ℕ) → a ≤ top → b ≤
   stepLines-same a [] z ha h hz = ap (λ l. l ∷ []) (stepLine-same a z ha hz)
   stepLines-same a (b ∷ bs) z ha h hz = ap₂ (λ l ls. l ∷ ls) (stepLine-same a b ha (h .0)) (stepLines-same b bs z (h .0) (h .1) hz)
 
-  via-same : (a : ℕ) (bs : List ℕ) (z : ℕ) → a ≤ top → Upto top bs → z ≤ top → via d a bs z ≡ via e a bs z
-  via-same a [] z ha h hz = same a z ha hz
-  via-same a (b ∷ bs) z ha h hz = ap₂ _+ℤ_ (same a b ha (h .0)) (via-same b bs z (h .0) (h .1) hz)
-
   pub nonePage-same : (ring : List ℕ) → Upto top ring → nonePage d ring ≡ nonePage e ring
   unfolding nonePage ringLines
   nonePage-same [] h = refl
   nonePage-same (a ∷ bs) h =
       ap₂ (λ ls k. joined (text "(answer none)\n" ∷ joined ls ∷ shortfallLine (up (negℤ k)) ∷ []))
-      (stepLines-same a bs a (h .0) (h .1) (h .0)) (via-same a bs a (h .0) (h .1) (h .0))
+      (stepLines-same a bs a (h .0) (h .1) (h .0)) (via-same top d e same a bs a (h .0) (h .1) (h .0))

@@ -4,19 +4,20 @@
 use mathlib.Core.Path.{_≡_, refl, sym, ap, ap₂, _∙_, subst}
 use mathlib.Core.Bool.{Bool, true, false, _&&_, _||_, not, cond}
 use mathlib.Core.List.{List, [], _∷_, _++_, map, append-assoc, append-nil}
-use Prim.Native.Nat.{ℕ, zero, suc, _+_, _≤_}
-use native.Mathlib.Omega.{arith}
+use Prim.Native.Nat.{ℕ, suc}
 use lib.Dec.{T, leb}
 use lib.ListN.{length}
 use Rattle.lists.specs.Lists.{within, every, joined}
 use Rattle.lists.specs.Members.{both, left, right}
-use Rattle.sheet.specs.Limits.{maxSlots, maxUnits, maxRules, maxCount}
+use Rattle.sheet.specs.Limits.{maxSlots, maxUnits, maxRules}
 use Rattle.sheet.specs.Sheet.{Window, Rule, Sheet, top}
 use Rattle.sheet.specs.Questions as Sheet
 use Rattle.form.specs.Form.{value}
 use Rattle.line.specs.Lines.{TextLine, lines}
 use Rattle.line.specs.Content.{Content, note, sheet, unit, rule, other, contentOf}
-use Rattle.questions.specs.Reading.{contents, isSheet, hasSheet, spanElse, spanIn, windowOf, unitsIn, ruleOf, rulesIn, sheetIn, Question, ask, inOrder, spanFits, isStretch, inSpan, isCount, countFits, questionsOf, lineQuestions, questions, Rooms, roomsFit, Verdict, no, allYes, firstNo}
+use Rattle.questions.specs.Reading.{contents, isSheet, hasSheet, spanElse, spanIn, windowOf, unitsIn, ruleOf, rulesIn, sheetIn}
+use Rattle.questions.specs.Reading.{Question, ask, spanFits, isStretch, isCount, questionsOf, lineQuestions, questions}
+use Rattle.questions.specs.Reading.{Rooms, roomsFit, Verdict, no, allYes, firstNo}
 
 -- ---- all answers are yes
 

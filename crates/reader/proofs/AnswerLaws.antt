@@ -13,7 +13,8 @@ use Rattle.sheet.specs.Limits.{maxUnits, maxRules}
 use Rattle.sheet.specs.declared.Sheet.{Sheet}
 use Rattle.form.specs.FormLaws.{and-left, and-right}
 use Rattle.line.specs.Lines.{lines}
-use Rattle.questions.specs.Reading.{maxBytes, contents, hasSheet, sheetIn, ask, lineQuestions, Rooms, roomsFit, questions, Answer, refused, read, Verdict, no, allYes, firstNo, concluded, reading}
+use Rattle.questions.specs.Reading.{maxBytes, contents, hasSheet, sheetIn, ask, lineQuestions, Rooms, roomsFit, questions}
+use Rattle.questions.specs.Reading.{Answer, refused, read, Verdict, no, allYes, firstNo, concluded, reading}
 use Rattle.questions.specs.Steps.{windowNumbers, ruleNumbers, unitStream, ruleStream, passQuestions, passAnswer, KeptNumbers}
 use Rattle.reader.specs.Rooms.{sizesOf, onto, leaves, roomsAfter}
 use Rattle.reader.specs.Spread.{strided, filled, Filling}

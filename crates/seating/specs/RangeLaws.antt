@@ -14,7 +14,8 @@ use Rattle.lists.specs.Members.{in-map, map-in}
 use Rattle.lists.specs.Extremes.{greatest-is, least-is}
 use Rattle.network.specs.Network.{Weights, Potential}
 use Rattle.network.specs.Closure.{step, Level, between}
-use Rattle.network.specs.ClosureLaws.{step-sound, level-start, level-step, level-finished, row-feasible, there-and-back, between-feasible, between-start, between-end}
+use Rattle.network.specs.ClosureLaws.{step-sound, level-start, level-step, level-finished}
+use Rattle.network.specs.ClosureLaws.{row-feasible, there-and-back, between-feasible, between-start, between-end}
 use Rattle.sheet.specs.Sheet.{Sheet, top, countIn, lawful, lawfulPlans, leastIn, greatestIn, limit}
 use Rattle.sheet.specs.PlanLaws.{in-lawfulPlans, leastIn-bound, greatestIn-bound}
 use Rattle.sheet.specs.LimitLaws.{countIn-split, limit-same}

@@ -6,7 +6,8 @@ use lib.Dec.{T}
 use lib.IntN.{pos}
 use Rattle.lists.specs.Lists.{fromTo}
 use Rattle.network.specs.Network.{isNegativeCycle}
-use Rattle.sheet.specs.Sheet.{Window, Rule, Sheet, Slot, Boundary, top, lawful, lawfulPlans, leastIn, greatestIn, earliest, latest, earliestSlots, latestSlots, soonest, fair, printedPlans, atMost, atLeast, limit, isRing, ringSum, shortfall}
+use Rattle.sheet.specs.Sheet.{Window, Rule, Sheet, Slot, Boundary, top, atMost, atLeast, limit, isRing, ringSum, shortfall}
+use Rattle.sheet.specs.Sheet.{lawful, lawfulPlans, leastIn, greatestIn, earliest, latest, earliestSlots, latestSlots, soonest, fair, printedPlans}
 
 -- `w 1 4`: window 1-4
 abbrev w : Slot → Slot → Window
@@ -76,6 +77,14 @@ cases =
     (0 ∷ 1 ∷ 1 ∷ []) (0 ∷ 1 ∷ 1 ∷ [])
     ∷ []
 
+-- the first case and the others
+also : {A B : Type 0} → A → B → A × B
+also a b = (a, b)
+
 pub all-cases-hold : All cases
-unfolding top lawful lawfulPlans leastIn greatestIn earliest latest earliestSlots latestSlots soonest fair printedPlans atMost atLeast limit isRing ringSum shortfall isNegativeCycle
-all-cases-hold = ((refl, refl, refl, refl, refl), ((refl, refl, refl, refl, refl), ((refl, refl, refl, refl, refl), ((refl, tt, refl), ((refl, tt, refl), ((refl, refl, refl, refl, refl), ((refl, refl, refl, refl, refl), ((refl, tt, refl), ((refl, refl, refl, refl, refl), ((refl, refl, refl, refl, refl), tt))))))))))
+unfolding top lawful lawfulPlans leastIn greatestIn earliest latest earliestSlots latestSlots soonest fair printedPlans atMost atLeast limit isRing ringSum
+    shortfall isNegativeCycle
+all-cases-hold =
+    also (refl, refl, refl, refl, refl) (also (refl, refl, refl, refl, refl) (also (refl, refl, refl, refl, refl) (also (refl, tt, refl)
+    (also (refl, tt, refl) (also (refl, refl, refl, refl, refl) (also (refl, refl, refl, refl, refl) (also (refl, tt, refl)
+    (also (refl, refl, refl, refl, refl) (also (refl, refl, refl, refl, refl) tt)))))))))

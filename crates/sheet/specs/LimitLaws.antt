@@ -1,27 +1,19 @@
 -- The limits of a sheet's steps, as bounds; a stretch in two parts; windows inside a stretch have their slots there.
-use mathlib.Core.Path.{_≡_, refl, sym, ap, _∙_, subst}
-use mathlib.Core.Logic.{_⊎_, inl, inr, ⊎-elim, _↔_}
-use mathlib.Core.Bool.{Bool, true, false, not, _&&_, cond}
-use mathlib.Core.List.{List, [], _∷_, map, List·Memᴰ, List·Memᴰ·head, List·Memᴰ·tail, List·Memᴰ·not-nil, List·Memᴰ·cases-cons}
-use Prim.Native.Nat.{ℕ, zero, suc, _+_, _-_, _≤_, _<_, min, max}
+use mathlib.Core.Path.{_≡_, refl, _∙_}
+use mathlib.Core.Logic.{inl, inr, ⊎-elim}
+use mathlib.Core.Bool.{Bool, true, false, _&&_, cond}
+use mathlib.Core.List.{List, [], _∷_, map}
+use Prim.Native.Nat.{ℕ, suc, _+_, _≤_, _<_}
 use native.Mathlib.Omega.{arith}
 use native.Mathlib.Decide.{decLe}
-use lib.Dec.{T, leb, ltb, eqb, leb→le, le→leb, ltb→lt, lt→ltb, eqb→eq, eqb-refl, not-T}
-use lib.ListN.{length, getD}
+use lib.Dec.{T, leb, ltb, eqb, leb→le, ltb→lt, lt→ltb, eqb→eq, eqb-refl}
+use lib.ListN.{length}
 use lib.IntN.{ℤ, pos, negℤ}
-use Rattle.lists.specs.Lists.{within, every, keep, howMany, oneIf, smallest, largest}
+use Rattle.lists.specs.Lists.{within, keep, howMany, smallest, largest}
 use Rattle.sheet.specs.Sheet.{Window, Rule, Sheet, countIn, inWindows, insideOf, onStretch, atMost, atLeast, limit}
 use Rattle.lists.specs.Members.{In, both, left, right, within-iff, in-keep, keep-in, in-map, map-in}
+use Rattle.lists.specs.Counts.{oneIf-le, oneIf-most, oneIf-split}
 use Rattle.lists.specs.Extremes.{largest-base, largest-ge, largest-in, smallest-base, smallest-le, smallest-in}
-
-oneIf-split : (p q r : Bool) → (T p → T q ⊎ T r) → (T q → T p) → (T r → T p) → (T q → T r → ⊥) → oneIf p ≡ oneIf q + oneIf r
-oneIf-split true true true f g h k = absurd (k tt tt)
-oneIf-split true true false f g h k = refl
-oneIf-split true false true f g h k = refl
-oneIf-split true false false f g h k = absurd (⊎-elim (λ x. x) (λ x. x) (f tt))
-oneIf-split false true r f g h k = absurd (g tt)
-oneIf-split false false true f g h k = absurd (h tt)
-oneIf-split false false false f g h k = refl
 
 -- a stretch in two parts
 pub countIn-split : (a b : ℕ) → a ≤ b → (xs : List ℕ) → countIn 1 b xs ≡ countIn 1 a xs + countIn (suc a) b xs
@@ -30,7 +22,9 @@ countIn-split a b h (x ∷ xs) = omega (
   arith,
   countIn-split a b h xs,
   oneIf-split (within 1 b x) (within 1 a x) (within (suc a) b x)
-      (λ t. let p = within-iff 1 b x .0 t in elim (decLe x a) [ yes l ↦ inl (within-iff 1 a x .1 (omega arith)) | no g ↦ inr (within-iff (suc a) b x .1 (omega arith)) ])
+      (λ t.
+      let p = within-iff 1 b x .0 t in
+      elim (decLe x a) [ yes l ↦ inl (within-iff 1 a x .1 (omega arith)) | no g ↦ inr (within-iff (suc a) b x .1 (omega arith)) ])
       (λ t. let p = within-iff 1 a x .0 t in within-iff 1 b x .1 (omega arith))
       (λ t. let p = within-iff (suc a) b x .0 t in within-iff 1 b x .1 (omega arith))
       (λ t u. let p = within-iff 1 a x .0 t in let q = within-iff (suc a) b x .0 u in omega arith),
@@ -38,11 +32,7 @@ countIn-split a b h (x ∷ xs) = omega (
 
 pub countIn-length : (a b : ℕ) (xs : List ℕ) → countIn a b xs ≤ length xs
 countIn-length a b [] = omega arith
-countIn-length a b (x ∷ xs) = omega (arith, countIn-length a b xs, most (within a b x))
-  where
-    most : (c : Bool) → oneIf c ≤ 1
-    most true = omega arith
-    most false = omega arith
+countIn-length a b (x ∷ xs) = omega (arith, countIn-length a b xs, oneIf-most (within a b x))
 
 -- windows inside a stretch have their slots there
 pub inside-count : (f t : ℕ) (ws : List Window) (xs : List ℕ) → T (inWindows ws xs) → howMany (insideOf f t) ws ≤ countIn f t xs
@@ -54,14 +44,11 @@ inside-count f t (w ∷ ws) (x ∷ xs) h =
     omega (
       arith,
       inside-count f t ws xs (right (within (w .first) (w .last) x) (inWindows ws xs) h),
-      one (leb f (w .first) && leb (w .last) t) (within f t x)
-          (λ q. within-iff f t x .1 (let a = leb→le f (w .first) (left (leb f (w .first)) (leb (w .last) t) q) in let b = leb→le (w .last) t (right (leb f (w .first)) (leb (w .last) t) q) in omega arith)),
+      oneIf-le (leb f (w .first) && leb (w .last) t) (within f t x) (λ q.
+          let a = leb→le f (w .first) (left (leb f (w .first)) (leb (w .last) t) q) in
+          let b = leb→le (w .last) t (right (leb f (w .first)) (leb (w .last) t) q) in
+          within-iff f t x .1 (omega arith)),
     )
-  where
-    one : (a b : Bool) → (T a → T b) → oneIf a ≤ oneIf b
-    one true true g = omega arith
-    one true false g = absurd (g tt)
-    one false b g = omega arith
 
 -- ---- limits
 cond-yes : (c : Bool) (x y : ℤ) → T c → cond c x y ≡ x
@@ -123,7 +110,8 @@ module _ (s : Sheet) where
       let w = on f t (p .0) (q .1) in
       omega (arith, g (p .0) (q .0) (w .0) (w .1), p .2)) (smallest-in (length (s .units)) hs)
 
-  pub atLeast-le : (f t k : ℕ) → howMany (insideOf f t) (s .units) ≤ k → ((r : Rule) → In r (s .rules) → r .from ≡ f → r .to ≡ t → r .low ≤ k) → atLeast s f t ≤ k
+  pub atLeast-le : (f t k : ℕ) → howMany (insideOf f t) (s .units) ≤ k → ((r : Rule) → In r (s .rules) → r .from ≡ f → r .to ≡ t → r .low ≤ k)
+      → atLeast s f t ≤ k
   unfolding atLeast
   atLeast-le f t k h g =
       let hs = map (λ (q : Rule). q .low) (keep (onStretch f t) (s .rules)) in

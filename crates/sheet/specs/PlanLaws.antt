@@ -1,29 +1,19 @@
 -- What the list of lawful plans holds: a plan is in it exactly when each unit has one slot, in its window, and each rule holds.
 -- And least and greatest over it, as bounds that are attained.
-use mathlib.Core.Path.{_≡_, refl, sym, ap, _∙_, subst}
-use mathlib.Core.Logic.{_⊎_, inl, inr, ⊎-elim, _↔_}
-use mathlib.Core.Bool.{Bool, true, false, _&&_}
-use mathlib.Core.List.{List, [], _∷_, map, List·Memᴰ·head, List·Memᴰ·not-nil, List·Memᴰ·cases-cons, cons≢nil}
-use Prim.Native.Nat.{ℕ, zero, suc, _+_, _-_, _≤_, _<_}
+use mathlib.Core.Path.{_≡_, refl, ap}
+use mathlib.Core.Logic.{_↔_}
+use mathlib.Core.List.{List, [], _∷_, map, List·Memᴰ·head}
+use Prim.Native.Nat.{ℕ, zero, suc, _≤_, _<_}
 use native.Mathlib.Omega.{arith}
 use lib.Dec.{T}
 use lib.ListN.{length, getD}
 use Rattle.lists.specs.Lists.{fromTo, within, every, least, greatest}
-use Rattle.lists.specs.Members.{In, both, left, right, within-iff, in-keep, keep-in, in-joined, joined-in, in-map, map-in, in-fromTo, every-at, at-every}
+use Rattle.lists.specs.Members.{In, both, left, right, within-iff, in-keep, keep-in, joined-in, in-map, map-in, in-fromTo, every-at, at-every}
 use Rattle.lists.specs.Extremes.{least-le, least-in, greatest-ge, greatest-in}
-use Rattle.sheet.specs.Sheet.{Window, Rule, Sheet, noWindow, countIn, assignments, inWindows, obeys, lawful, lawfulPlans, leastIn, greatestIn, earliest, latest}
+use Rattle.sheet.specs.Sheet.{Window, Rule, Sheet, noWindow, countIn, assignments, inWindows, obeys}
+use Rattle.sheet.specs.Sheet.{lawful, lawfulPlans, leastIn, greatestIn, earliest, latest}
 
 -- ---- the plans that give each unit a slot of its window
-pub in-assignments : (ws : List Window) (x : List ℕ) → In x (assignments ws) → T (inWindows ws x)
-in-assignments [] [] h = tt
-in-assignments [] (x ∷ xs) h = ⊎-elim (λ e. cons≢nil e) (λ m. List·Memᴰ·not-nil m) (List·Memᴰ·cases-cons h)
-in-assignments (w ∷ ws) x h =
-    let j = in-joined x (map (λ slot. map (λ plan. slot ∷ plan) (assignments ws)) (fromTo (w .first) (w .last))) h in
-    let s = in-map (λ (slot : ℕ). map (λ plan. slot ∷ plan) (assignments ws)) (j .0) (fromTo (w .first) (w .last)) (j .1) in
-    let p = in-map (λ (plan : List ℕ). s .0 ∷ plan) x (assignments ws) (subst (λ zs. In x zs) (s .2) (j .2)) in
-    subst (λ (z : List ℕ). T (inWindows (w ∷ ws) z)) (sym (p .2))
-    (both (within (w .first) (w .last) (s .0)) (inWindows ws (p .0)) (in-fromTo (w .first) (w .last) (s .0) .0 (s .1)) (in-assignments ws (p .0) (p .1)))
-
 pub assignments-in : (ws : List Window) (x : List ℕ) → T (inWindows ws x) → In x (assignments ws)
 assignments-in [] [] h = List·Memᴰ·head refl
 assignments-in [] (x ∷ xs) h = absurd h
@@ -58,7 +48,8 @@ inWindows-seated [] (x ∷ xs) h = absurd h
 inWindows-seated (w ∷ ws) [] h = absurd h
 inWindows-seated (w ∷ ws) (x ∷ xs) h =
     let r = inWindows-seated ws xs (right (within (w .first) (w .last) x) (inWindows ws xs) h) in
-    record { size = ap suc (r .size); inside = λ j. elim j [ zero ↦ λ l. within-iff (w .first) (w .last) x .0 (left (within (w .first) (w .last) x) (inWindows ws xs) h) | suc k ↦ λ l. r .inside k (omega arith) ] }
+    let first = within-iff (w .first) (w .last) x .0 (left (within (w .first) (w .last) x) (inWindows ws xs) h) in
+    record { size = ap suc (r .size); inside = λ j. elim j [ zero ↦ λ l. first | suc k ↦ λ l. r .inside k (omega arith) ] }
 
 pub seated-inWindows : (ws : List Window) (x : List ℕ) → Seated ws x → T (inWindows ws x)
 seated-inWindows [] [] h = tt
@@ -84,7 +75,9 @@ lawful-iff s x = (
         (every-at (obeys x) noRule (s .rules) (right (inWindows (s .units) x) (every (obeys x) (s .rules)) t) i l);
   },
   λ h. both (inWindows (s .units) x) (every (obeys x) (s .rules)) (seated-inWindows (s .units) x (h .seated))
-      (at-every (obeys x) noRule (s .rules) (λ i l. let r = getD (s .rules) i noRule in within-iff (r .low) (r .high) (countIn (r .from) (r .to) x) .1 (h .obeyed i l))),
+      (at-every (obeys x) noRule (s .rules) (λ i l.
+      let r = getD (s .rules) i noRule in
+      within-iff (r .low) (r .high) (countIn (r .from) (r .to) x) .1 (h .obeyed i l))),
 )
 
 pub in-lawfulPlans-iff : (s : Sheet) (x : List ℕ) → In x (lawfulPlans s) ↔ Lawful s x
@@ -114,17 +107,9 @@ module _ (s : Sheet) (x : List ℕ) (l : T (lawful s x)) where
   unfolding leastIn
   leastIn-bound f t = least-bound s (countIn f t) x l
 
-  pub leastIn-attained : (f t : ℕ) → (y : List ℕ) × T (lawful s y) × (leastIn s f t ≡ countIn f t y)
-  unfolding leastIn
-  leastIn-attained f t = least-attained s (countIn f t) x l
-
   pub greatestIn-bound : (f t : ℕ) → countIn f t x ≤ greatestIn s f t
   unfolding greatestIn
   greatestIn-bound f t = greatest-bound s (countIn f t) x l
-
-  pub greatestIn-attained : (f t : ℕ) → (y : List ℕ) × T (lawful s y) × (greatestIn s f t ≡ countIn f t y)
-  unfolding greatestIn
-  greatestIn-attained f t = greatest-attained s (countIn f t) x l
 
   pub earliest-bound : (j : ℕ) → earliest s j ≤ getD x j 0
   unfolding earliest

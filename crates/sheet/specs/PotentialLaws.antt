@@ -1,27 +1,27 @@
 -- A lawful plan's deliveries by the end of each slot are a feasible potential of the sheet's limits. So a ring leaves no lawful plan.
-use mathlib.Core.Path.{_≡_, refl, sym, ap, _∙_, subst}
-use mathlib.Core.Logic.{_⊎_, inl, inr, ⊎-elim}
-use mathlib.Core.Bool.{Bool, true, false, _&&_}
-use mathlib.Core.List.{List, [], _∷_}
-use Prim.Native.Nat.{ℕ, zero, suc, _+_, _≤_, _<_}
+use mathlib.Core.Path.{_≡_, ap, _∙_, subst}
+use mathlib.Core.Logic.{⊎-elim}
+use mathlib.Core.List.{List}
+use Prim.Native.Nat.{ℕ, suc, _≤_, _<_}
 use native.Mathlib.Omega.{arith}
 use native.Mathlib.Nat.{eq-or-lt-of-le}
 use native.Mathlib.Decide.{decLe}
 use lib.Dec.{T}
 use lib.ListN.{length, getD}
-use lib.IntN.{ℤ, pos, negℤ, _+ℤ_}
-use lib.Signed.{_≤ℤ_}
-use Rattle.integers.specs.Parts.{up, dn, ints, sum, neg, ≤-read, ≤-make, <-read, <-make, ≡-read, ≡-make, ltZ-true, ltZ-false, leZ-true, leZ-false, true-ltZ, false-ltZ}
+use lib.IntN.{pos}
+use Rattle.integers.specs.Parts.{ints, sum, neg}
 use Rattle.network.specs.Network.{Feasible}
-use Rattle.lists.specs.Lists.{within, every}
+use Rattle.lists.specs.Lists.{every}
 use Rattle.lists.specs.Members.{In, left, right, within-iff, every-in}
-use Rattle.sheet.specs.Sheet.{Window, Rule, Sheet, noWindow, top, countIn, inWindows, obeys, lawful, atMost, atLeast, limit}
+use Rattle.sheet.specs.Sheet.{Rule, Sheet, noWindow, top, countIn, inWindows, obeys, lawful, atMost, atLeast, limit}
 use Rattle.sheet.specs.PlanLaws.{inWindows-seated}
 use Rattle.sheet.specs.LimitLaws.{countIn-split, countIn-length, inside-count, limit-fwd, limit-back, limit-same, atMost-ge, atLeast-le}
 
 pub record Valid (s : Sheet) : Type 0 where
   pub spans : 1 ≤ top s
-  pub windows : (j : ℕ) → j < length (s .units) → (1 ≤ getD (s .units) j noWindow .first) × (getD (s .units) j noWindow .first ≤ getD (s .units) j noWindow .last) × (getD (s .units) j noWindow .last ≤ top s)
+  pub windows : (j : ℕ) → j < length (s .units) →
+      (1 ≤ getD (s .units) j noWindow .first) × (getD (s .units) j noWindow .first ≤ getD (s .units) j noWindow .last)
+      × (getD (s .units) j noWindow .last ≤ top s)
   pub stretches : (r : Rule) → In r (s .rules) → (1 ≤ r .from) × (r .from ≤ r .to) × (r .to ≤ top s)
 
 -- ---- a lawful plan's deliveries are a feasible potential

@@ -1,18 +1,18 @@
 -- What an accepted sheet is, place by place; its limits are within 300 of 0; and the parallel lists, place by place.
-use mathlib.Core.Path.{_≡_, refl, sym, ap, _∙_, subst}
-use mathlib.Core.Bool.{Bool, true, false, _&&_}
+use mathlib.Core.Path.{_≡_, refl, ap}
+use mathlib.Core.Bool.{_&&_}
 use mathlib.Core.List.{List, [], _∷_}
-use Prim.Native.Nat.{ℕ, zero, suc, _+_, _≤_, _<_}
+use Prim.Native.Nat.{ℕ, zero, suc, _≤_, _<_}
 use native.Mathlib.Omega.{arith}
 use lib.Dec.{T, leb, eqb, leb→le, eqb→eq}
 use lib.ListN.{length, getD}
-use Rattle.lists.specs.Lists.{within, every}
 use Rattle.lists.specs.Members.{In, left, right, within-iff, every-at, every-in}
 use Rattle.sheet.specs.Limits.{maxSlots, maxUnits, maxRules, maxCount}
-use Rattle.sheet.specs.Sheet.{Window, Rule, Sheet, top, noWindow}
+use Rattle.sheet.specs.Sheet.{Rule, Sheet, top, noWindow}
 use Rattle.sheet.specs.PlanLaws.{noRule}
 use Rattle.sheet.specs.PotentialLaws.{Valid}
-use Rattle.sheet.specs.Questions.{windowsOf, rulesOf, sheetOf, listsAgree, spanFits, stretchWithin, windowsFit, stretchesFit, countsFit, unitsFit, rulesFit, accepted}
+use Rattle.sheet.specs.Questions.{windowsOf, rulesOf, listsAgree, accepted}
+use Rattle.sheet.specs.Questions.{spanFits, stretchWithin, windowsFit, stretchesFit, countsFit, unitsFit, rulesFit}
 
 -- ---- the parallel lists
 
@@ -105,7 +105,8 @@ module _ (s : Sheet) (ok : T (accepted s)) where
     rules = leb→le (length (s .rules)) maxRules (left (rulesFit s) (windowsFit s && (stretchesFit s && countsFit s)) past-units);
     counts = λ r m.
         let t = every-in (λ q. leb (q .low) (q .high) && leb (q .high) maxCount) r (s .rules) m (right (stretchesFit s) (countsFit s) past-windows) in
-        (leb→le (r .low) (r .high) (left (leb (r .low) (r .high)) (leb (r .high) maxCount) t), leb→le (r .high) maxCount (right (leb (r .low) (r .high)) (leb (r .high) maxCount) t));
+        let order = leb→le (r .low) (r .high) (left (leb (r .low) (r .high)) (leb (r .high) maxCount) t) in
+        (order, leb→le (r .high) maxCount (right (leb (r .low) (r .high)) (leb (r .high) maxCount) t));
   }
 
   pub accepted-valid : Valid s

@@ -1,5 +1,4 @@
 -- What a finished pass over a sheet's limits leaves behind, and what seating and narrowing rest on.
-use Prim.Native.Nat.{ℕ}
 use Rattle.network.specs.Network.{Weights, Potential, Feasible}
 use Rattle.network.specs.Closure.{Finished}
 use Rattle.sheet.specs.Sheet.{Sheet, top, limit}

@@ -1,6 +1,5 @@
 ghost use mathlib.Core.Path.{_≡_};
-ghost use Prim.Native.Nat.{ℕ, _+_, _-_, _*_, _^_, _<_, _≤_};
-ghost use Rattle.sheet.specs.Limits.{maxSlots, maxUnits, maxRules, maxCount};
+ghost use Prim.Native.Nat.{_+_, _-_, _<_};
 
 // Slots run 1 to span, boundaries 0 to top; boundary b is the end of slot b.
 pub struct Slot(pub usize);

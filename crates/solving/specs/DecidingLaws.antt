@@ -1,19 +1,29 @@
 -- The pass over the limits in a longer room is the pass over the table of the limits, with the room's other places behind it.
 use mathlib.Core.Path.{_≡_, refl, sym, ap, _∙_, subst}
 use mathlib.Core.List.{List, _++_}
-use Prim.Native.Nat.{ℕ, _*_}
-use lib.ListN.{drop, replicate}
+use Prim.Native.Nat.{ℕ, _+_, _*_, _≤_}
+use native.Mathlib.Omega.{arith}
+use lib.ListN.{length, drop, replicate}
 use lib.Seq.{drop-at}
 use lib.IntN.{ℤ, pos}
-use Rattle.network.specs.Table.{Passed, finished, stopped, outOfRange, tableOf, passOf, outcomeOf, cleared, tableAfter, After}
+use Rattle.network.specs.Table.{mostBoundaries, Passed, finished, stopped, outOfRange, tableOf, passOf, outcomeOf, cleared, tableAfter, After}
 use Rattle.network.specs.TableLaws.{length-tableOf}
 use Rattle.network.specs.PassFront.{withRest, pass-front}
 use Rattle.network.specs.declared.Outcome.{Outcome}
 use Rattle.sheet.specs.Sheet.{Sheet, limit, boundaries}
-use Rattle.limits.specs.LimitTable.{limitTable}
+use Rattle.limits.specs.LimitTable.{limitTable, Fillable}
+use Rattle.limits.specs.LimitTableLaws.{accepted-span, length-limitTable}
 use Rattle.asking.specs.Questions.{places, passed}
 use Rattle.solving.specs.Deciding.{tableLeft, Decided}
 
+-- ---- the table, filled with the limits
+pub fillable-few : (span : ℕ) (first last from to low high : List ℕ) (room : ℕ) → Fillable span first last from to low high room → span + 1 ≤ mostBoundaries
+fillable-few span first last from to low high room f = omega (arith, accepted-span span first last from to low high (f .ok) (f .agree))
+
+pub filled-room : (s : Sheet) (room filled : List ℤ) (w : ℕ) → boundaries s ≡ w → places s ≤ length room → filled ≡ limitTable s room → w * w ≤ length filled
+filled-room s room filled w e fits is = omega (arith, ap (λ (n : ℕ). n * n) e, ap length is, length-limitTable s room fits)
+
+-- ---- the pass over it
 outcome-front : (r : List ℤ) (p : Passed) → outcomeOf (withRest r p) ≡ outcomeOf p
 outcome-front r (finished t) = refl
 outcome-front r stopped = refl

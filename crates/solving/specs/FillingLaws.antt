@@ -1,7 +1,7 @@
 -- Row 0 of the finished table, as seating takes it; and a finished table at the front of a longer room.
-use mathlib.Core.Path.{_≡_, refl, sym, ap, ap₂, _∙_, subst}
+use mathlib.Core.Path.{_≡_, sym, ap, _∙_, subst}
 use mathlib.Core.List.{List, _++_}
-use Prim.Native.Nat.{ℕ, suc, _+_, _*_, _-_, _≤_, _<_}
+use Prim.Native.Nat.{ℕ, _+_, _*_, _≤_}
 use native.Mathlib.Omega.{arith}
 use lib.Dec.{T}
 use lib.ListN.{length, getD, take, drop, List·getD-append}
@@ -9,19 +9,17 @@ use lib.Seq.{getD-take, length-take-le, take-at}
 use lib.IntN.{ℤ, pos, _+ℤ_}
 use lib.Signed.{_≤ℤ_}
 use Rattle.integers.specs.Parts.{ints, sum}
-use Rattle.network.specs.Network.{Weights, Potential, Feasible}
-use Rattle.network.specs.Closure.{Finished}
+use Rattle.network.specs.Network.{Weights}
 use Rattle.network.specs.Table.{entry}
 use Rattle.network.specs.TableLaws.{row-inside}
 use Rattle.sheet.specs.Limits.{maxSlots, maxUnits}
 use Rattle.sheet.specs.Sheet.{Sheet, top, boundaries, limit, lawful, printedPlan}
 use Rattle.sheet.specs.PlanLaws.{lawful-iff}
-use Rattle.sheet.specs.Questions.{windowsOf, accepted}
 use Rattle.sheet.specs.QuestionLaws.{windowsOf-length, accepted-sized}
 use Rattle.sheet.specs.Solved.{Solved}
 use Rattle.seating.specs.Row.{Seatable, RowOf}
 use Rattle.seating.specs.RowLaws.{row-seatable}
-use Rattle.seating.specs.PrintedLaws.{Printed, some-printed}
+use Rattle.seating.specs.PrintedLaws.{some-printed}
 use Rattle.narrowing.specs.Narrowing.{Narrowable}
 use Rattle.solving.specs.Filling.{Ready}
 
@@ -89,7 +87,8 @@ module _ (s : Sheet) (D E : Weights) (same : (a b : ℕ) → a ≤ top s → b �
         sound = λ z f a b ha hb. subst (λ (d : ℤ). z b ≤ℤ (z a +ℤ d)) (sym (same a b ha hb)) (S .sound z f a b ha hb);
       }
 
-pub solved-front : (s : Sheet) (t r : List ℤ) → length t ≡ boundaries s * boundaries s → Solved s (entry (boundaries s) t) → Solved s (entry (boundaries s) (t ++ r))
+pub solved-front : (s : Sheet) (t r : List ℤ) → length t ≡ boundaries s * boundaries s → Solved s (entry (boundaries s) t)
+    → Solved s (entry (boundaries s) (t ++ r))
 solved-front s t r size =
     let w = boundaries s in
     solved-same s (entry w t) (entry w (t ++ r))

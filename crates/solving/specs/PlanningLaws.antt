@@ -1,21 +1,16 @@
 -- What a call that is not refused knows: every question was answered yes, and the pass over the sheet's limits finished or stopped.
 -- Key idea: the table of the limits has the limits as its entries, so what the pass says of its table it says of the sheet.
-use mathlib.Core.Path.{_≡_, refl, sym, ap, ap₂, _∙_, subst}
-use mathlib.Core.Logic.{_⊎_, inl, inr}
-use mathlib.Core.Bool.{Bool, true, false, _&&_, cond}
+use mathlib.Core.Path.{_≡_, refl, sym, ap, _∙_, subst}
+use mathlib.Core.Bool.{Bool, true, false, cond}
 use mathlib.Core.List.{List, [], _∷_, _++_}
-use Prim.Native.Nat.{ℕ, zero, suc, _+_, _*_, _≤_, _<_}
+use Prim.Native.Nat.{ℕ, suc, _≤_}
 use native.Mathlib.Omega.{arith}
 use lib.Dec.{T, eqb}
-use lib.ListN.{length, getD}
 use lib.IntN.{ℤ, pos, _+ℤ_}
 use lib.Signed.{_≤ℤ_}
-use Rattle.lists.specs.Lists.{every}
-use Rattle.lists.specs.Members.{both, left, right}
-use Rattle.integers.specs.Parts.{ints, sum}
-use Rattle.network.specs.Network.{Weights, Potential, Feasible}
-use Rattle.network.specs.Closure.{Finished}
-use Rattle.network.specs.Table.{Passed, finished, stopped, outOfRange, tableOf, entry, passOf}
+use Rattle.lists.specs.Members.{both}
+use Rattle.network.specs.Network.{Potential, Feasible}
+use Rattle.network.specs.Table.{finished, stopped, tableOf, entry}
 use Rattle.network.specs.TableLaws.{entry-tableOf}
 use Rattle.network.specs.PassLaws.{pass-finished, pass-sound, stopped-infeasible}
 use Rattle.sheet.specs.Sheet.{Sheet, top, boundaries, limit, lawful, countIn}
@@ -23,7 +18,7 @@ use Rattle.sheet.specs.LimitLaws.{limit-same}
 use Rattle.sheet.specs.PotentialLaws.{Valid, lawful-feasible}
 use Rattle.sheet.specs.Solved.{Solved}
 use Rattle.sheet.specs.Questions.{spanFits, windowsFit, stretchesFit, countsFit, unitsFit, rulesFit, accepted}
-use Rattle.asking.specs.Questions.{Lists, Rooms, Question, given, agree, fitsRooms, passed, inRange, firstNo, asked, questions, refusal}
+use Rattle.asking.specs.Questions.{Lists, Rooms, Question, given, agree, fitsRooms, passed, inRange, firstNo, asked, refusal}
 
 -- ---- no question was answered no
 
@@ -51,7 +46,8 @@ asked-yes lists rooms s e =
     let q₇ = yes-then (countsFit s) 8 _ (λ z. omega arith) (q₆ .1) in
     let q₈ = yes-then rooms 12 _ (λ z. omega arith) (q₇ .1) in (
       q₁ .0,
-      both (spanFits s) _ (q₂ .0) (both (unitsFit s) _ (q₃ .0) (both (rulesFit s) _ (q₄ .0) (both (windowsFit s) _ (q₅ .0) (both (stretchesFit s) _ (q₆ .0) (q₇ .0))))),
+      both (spanFits s) _ (q₂ .0) (both (unitsFit s) _ (q₃ .0) (both (rulesFit s) _ (q₄ .0)
+          (both (windowsFit s) _ (q₅ .0) (both (stretchesFit s) _ (q₆ .0) (q₇ .0))))),
       q₈ .0,
     )
 
@@ -134,7 +130,8 @@ pub no-refusal : (l : Lists) (r : Rooms) → refusal l r ≡ 0 → Yes l r
 unfolding refusal
 no-refusal l r e =
     let s = given l in
-    let f = yes-both (asked (agree l) s (fitsRooms s r)) (record { number = 14; yes = inRange (passed s) } ∷ []) (asked-positive (agree l) (fitsRooms s r) s) e in
+    let range : Question = record { number = 14; yes = inRange (passed s) } in
+    let f = yes-both (asked (agree l) s (fitsRooms s r)) (range ∷ []) (asked-positive (agree l) (fitsRooms s r) s) e in
     let y = asked-yes (agree l) (fitsRooms s r) s (f .0) in
     record { lists = y .0; sheet = y .1; rooms = y .2; range = yes-then (inRange (passed s)) 14 0 (λ z. omega arith) (f .1) .0 }
 

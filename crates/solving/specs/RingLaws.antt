@@ -1,19 +1,20 @@
 -- A negative cycle of the table of the limits is a ring of the sheet.
 -- Key idea: a cycle's boundaries lie inside the table, where the entries are the limits, so both add up to the same sum.
-use mathlib.Core.Path.{_≡_, refl, sym, ap, ap₂, _∙_, subst}
-use mathlib.Core.Bool.{Bool, true, false, _&&_}
-use mathlib.Core.List.{List, [], _∷_, _++_}
-use Prim.Native.Nat.{ℕ, suc, _+_, _-_, _*_, _≤_, _<_}
+use mathlib.Core.Path.{_≡_, sym, ap, ap₂, _∙_, subst}
+use mathlib.Core.Bool.{_&&_}
+use mathlib.Core.List.{List, _++_}
+use Prim.Native.Nat.{ℕ, _-_, _*_, _≤_}
 use native.Mathlib.Omega.{arith}
-use lib.Dec.{T, leb, leb→le}
-use lib.ListN.{length, getD, take, drop, take-append-drop}
+use lib.Dec.{T, leb}
+use lib.ListN.{length, take, drop, take-append-drop}
 use lib.Seq.{length-take-le}
 use lib.IntN.{ℤ, pos, _+ℤ_}
 use lib.Signed.{_≤ℤ_, ltZ}
 use Rattle.integers.specs.Parts.{ints}
 use Rattle.lists.specs.Lists.{every}
 use Rattle.lists.specs.Members.{left, right}
-use Rattle.network.specs.Network.{Weights, Potential, Feasible, via, around, distinct, lowestFirst, isNegativeCycle}
+use Rattle.network.specs.Network.{Weights, Potential, Feasible, around, distinct, lowestFirst, isNegativeCycle}
+use Rattle.network.specs.NetworkLaws.{upto-of-every, around-same}
 use Rattle.network.specs.Table.{entry, stopped, cleared}
 use Rattle.cycles.specs.Finder.{Infeasible, Weighed, CycleAt}
 use Rattle.sheet.specs.Sheet.{Sheet, top, boundaries, limit, isRing}
@@ -26,28 +27,15 @@ use Rattle.solving.specs.Deciding.{RingFound}
 use Rattle.solving.specs.DecidingLaws.{cleared-limits}
 
 -- ---- two weights that agree up to the top boundary
-module _ (top : ℕ) (d e : Weights) (same : (a b : ℕ) → a ≤ top → b ≤ top → d a b ≡ e a b) where
-  abbrev within : List ℕ → Bool
-  within c = every (λ b. leb b top) c
-
-  via-same : (a : ℕ) (bs : List ℕ) (z : ℕ) → a ≤ top → T (within bs) → z ≤ top → via d a bs z ≡ via e a bs z
-  via-same a [] z ha h hz = same a z ha hz
-  via-same a (b ∷ bs) z ha h hz =
-      let hb = leb→le b top (left (leb b top) (within bs) h) in
-      ap₂ _+ℤ_ (same a b ha hb) (via-same b bs z hb (right (leb b top) (within bs) h) hz)
-
-  around-same : (c : List ℕ) → T (within c) → around d c ≡ around e c
-  around-same [] h = refl
-  around-same (a ∷ bs) h =
-      let ha = leb→le a top (left (leb a top) (within bs) h) in
-      via-same a bs a ha (right (leb a top) (within bs) h) ha
-
-  pub cycle-same : (c : List ℕ) → T (isNegativeCycle top d c) → T (isNegativeCycle top e c)
-  unfolding isNegativeCycle
-  cycle-same c h =
-      let inside = left (within c) (distinct c && (lowestFirst c && ltZ (around d c) (pos 0)))
-      (right (leb 2 (length c)) (within c && (distinct c && (lowestFirst c && ltZ (around d c) (pos 0)))) h) in
-      subst (λ (z : ℤ). T (leb 2 (length c) && (within c && (distinct c && (lowestFirst c && ltZ z (pos 0)))))) (around-same c inside) h
+cycle-same : (top : ℕ) (d e : Weights) → ((a b : ℕ) → a ≤ top → b ≤ top → d a b ≡ e a b)
+    → (c : List ℕ) → T (isNegativeCycle top d c) → T (isNegativeCycle top e c)
+unfolding isNegativeCycle
+cycle-same top d e same c h =
+    let within = every (λ b. leb b top) c in
+    let inside = left within (distinct c && (lowestFirst c && ltZ (around d c) (pos 0)))
+    (right (leb 2 (length c)) (within && (distinct c && (lowestFirst c && ltZ (around d c) (pos 0)))) h) in
+    subst (λ (z : ℤ). T (leb 2 (length c) && (within && (distinct c && (lowestFirst c && ltZ z (pos 0))))))
+    (around-same top d e same c (upto-of-every top c inside)) h
 
 -- ---- the table of the limits, filled in once more
 module _ (s : Sheet) (room : List ℤ) where
@@ -62,7 +50,8 @@ module _ (s : Sheet) (room : List ℤ) where
   infeasible e z f = stopped-no-potential s e z (λ a b ha hb. subst (λ (x : ℤ). z b ≤ℤ (z a +ℤ x)) (at a b ha hb) (f a b ha hb))
 
 -- what the finder of negative cycles asks of the room that the limits fill, and what it then shows
-module _ (s : Sheet) (ok : T (accepted s)) (room filled : List ℤ) (big : places s ≤ length room) (is : filled ≡ limitTable s room) (w : ℕ) (size : boundaries s ≡ w) where
+module _ (s : Sheet) (ok : T (accepted s)) (room filled : List ℤ) (big : places s ≤ length room) (is : filled ≡ limitTable s room)
+    (w : ℕ) (size : boundaries s ≡ w) where
   weighed-here : Weighed (boundaries s) (limitTable s room)
   weighed-here =
       let fit = boundaries-fit s ok in

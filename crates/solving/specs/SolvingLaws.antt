@@ -21,13 +21,12 @@ use Rattle.sheet.specs.Questions.{accepted, windowsOf, sheetOf}
 use Rattle.sheet.specs.QuestionLaws.{Agree, listsAgree-read, windowsOf-length, accepted-valid}
 use Rattle.sheet.specs.Solved.{Solved}
 use Rattle.asking.specs.Questions.{Lists, Rooms, given, lent, fitsRooms, roomsFit, places, passed}
-use Rattle.solving.specs.Planning.{refused, planned, ringed, byPass, Left}
+use Rattle.solving.specs.Planning.{ringed, byPass, Left}
 use Rattle.solving.specs.PlanningLaws.{passed-solved}
 use Rattle.solving.specs.Deciding.{tableLeft, Decided, RingFound}
 use Rattle.asking.specs.Asking.{Solvable}
 use Rattle.solving.specs.Filling.{Ready, Filled}
 use Rattle.solving.specs.FillingLaws.{solved-front}
-use Rattle.solving.specs.declared.Answer.{Answer}
 use Rattle.solving.specs.declared.Answer.the-variants.{Refused, Plan, None}
 
 -- ---- which pass had the outcome
@@ -61,7 +60,7 @@ abbrev pub withTable : Rooms → List ℤ → Rooms
 withTable r t = record { table = t; plan = r .plan; earliest = r .earliest; latest = r .latest; ring = r .ring }
 
 rooms-same : (t t′ : List ℤ) (p p′ e e′ l l′ r : List ℕ) → t ≡ t′ → p ≡ p′ → e ≡ e′ → l ≡ l′
-    → _≡_ {A = Rooms} (record { table = t; plan = p; earliest = e; latest = l; ring = r }) (record { table = t′; plan = p′; earliest = e′; latest = l′; ring = r })
+    → lent t p e l r ≡ lent t′ p′ e′ l′ r
 rooms-same t t′ p p′ e e′ l l′ r a b c d = rw (a, b, c, d)
 
 module _ (s : Sheet) (before : Rooms) (table : List ℤ) where
@@ -120,9 +119,9 @@ module _ (s : Sheet) (before : Rooms) (table : List ℤ) where
         → plan ≡ printedPlan s ++ drop (length (s .units)) (before .plan)
         → earliest ≡ earliestSlots s ++ drop (length (s .units)) (before .earliest)
         → latest ≡ latestSlots s ++ drop (length (s .units)) (before .latest)
-        → Left (byPass (passed s)) s before Plan (record { table = table; plan = plan; earliest = earliest; latest = latest; ring = before .ring })
+        → Left (byPass (passed s)) s before Plan (lent table plan earliest latest (before .ring))
     left-plan plan earliest latest p e l =
-        subst (λ (x : Passed). Left (byPass x) s before Plan (record { table = table; plan = plan; earliest = earliest; latest = latest; ring = before .ring })) (sym is-t)
+        subst (λ (x : Passed). Left (byPass x) s before Plan (lent table plan earliest latest (before .ring))) (sym is-t)
         (refl, rooms-same table _ plan _ earliest _ latest _ (before .ring) table-is p e l)
 
 -- ---- the same, of a call's lists and rooms
@@ -205,9 +204,11 @@ module _ (l : Lists) (before : Rooms) (S : Solvable l before) where
       pub ring-left : (k : ℕ) (zeros : List ℤ) (ring : List ℕ) → RingFound (given l) table (before .ring) k zeros ring
           → Left (byPass (passed (given l))) (given l) before (None k) (lent zeros (before .plan) (before .earliest) (before .latest) ring)
       ring-left k zeros ring R =
-          let z : zeros ≡ cleared (places (given l)) (before .table) = R .zeros ∙ ap (cleared (places (given l))) table-cleared ∙ cleared-twice (places (given l)) (before .table) in
-          subst (λ (n : ℕ). Left (byPass (passed (given l))) (given l) before (None n) (lent zeros (before .plan) (before .earliest) (before .latest) ring)) (sym (R .size))
-          (left-ring (given l) before table D (R .ring) (R .closed) (lent zeros (before .plan) (before .earliest) (before .latest) ring)
+          let n = places (given l) in
+          let z : zeros ≡ cleared n (before .table) = R .zeros ∙ ap (cleared n) table-cleared ∙ cleared-twice n (before .table) in
+          let after = lent zeros (before .plan) (before .earliest) (before .latest) ring in
+          subst (λ (n : ℕ). Left (byPass (passed (given l))) (given l) before (None n) after) (sym (R .size))
+          (left-ring (given l) before table D (R .ring) (R .closed) after
           (ap₂ (λ (t : List ℤ) (c : List ℕ). lent t (before .plan) (before .earliest) (before .latest) c) z (R .front)))
 
     module _ (e : r ≡ Finished) where
@@ -219,7 +220,8 @@ module _ (l : Lists) (before : Rooms) (S : Solvable l before) where
           ready (given l) before table (S .sheet) F (holds .table) (l .first) (l .last) (l .span + 1)
           (boundaries-are (l .span) (l .first) (l .last) (l .from) (l .to) (l .low) (l .high)) units-are (lists .windows)
 
-      pub plan-rooms : (length (l .first) ≤ length (before .plan)) × (length (l .first) ≤ length (before .earliest)) × (length (l .first) ≤ length (before .latest))
+      pub plan-rooms : (length (l .first) ≤ length (before .plan)) × (length (l .first) ≤ length (before .earliest))
+          × (length (l .first) ≤ length (before .latest))
       plan-rooms = (omega (arith, units-length, holds .plan), omega (arith, units-length, holds .earliest), omega (arith, units-length, holds .latest))
 
       pub plan-left : (plan earliest latest : List ℕ) → Filled (given l) (before .plan) (before .earliest) (before .latest) plan earliest latest

@@ -4,10 +4,10 @@ use Rattle.integers.specs.Parts.{minℤ}
 use mir.Facts.{toZ-ofZ}
 use mir.Val.{SFits, toZ}
 use mir.Syntax.{w16}
-use lib.IntN.{ℤ, pos, _+ℤ_}
+use lib.IntN.{pos, _+ℤ_}
 use lib.ListN.{length, getD}
 use mathlib.Core.Path.{_≡_, refl, subst}
-use Prim.Native.Nat.{ℕ, _≤_, _-_, _+_}
+use Prim.Native.Nat.{ℕ, _≤_, _-_}
 use native.Mathlib.Omega.{arith}
 use borrow.Author.Needs.{needs}
 use Rattle.cuts.proofs.least_sum.Statement.{statement}

@@ -51,10 +51,13 @@ same-length-2 c = search needs
 
 returns : tie.Need-returns
 returns c =
-    let st = c .before .before .before .before .before .before .before .before .before .before .before .before .before .before .before .before in
-    let r = c .before .before .before .before .before .before .before .before .before .before .before .walk-back in
-    cycle-put (st .args .w) (st .args .d .now) (r .result .0) (r .result .1) (r .last .1 .1 .1 .1 .0) (st .args .out .now) (c .before .before .put-turned .last .1 .1 .0)
-    (c .before .before .before .before .before .before .lowest-place .result) (r .ensures) (c .before .before .before .before .before .before .lowest-place .ensures) (c .before .before .put-turned .ensures)
+    let put = c .before .before .put-turned in
+    let low = c .before .before .before .before .before .before .lowest-place in
+    let walked = c .before .before .before .before .before .before .before .before .before .before .before in
+    let st = walked .before .before .before .before .before in
+    let r = walked .walk-back in
+    cycle-put (st .args .w) (st .args .d .now) (r .result .0) (r .result .1) (r .last .1 .1 .1 .1 .0) (st .args .out .now) (put .last .1 .1 .0) (low .result)
+    (r .ensures) (low .ensures) (put .ensures)
 
 pub find-cycle-spec : {M : Type 1} → statement M
 find-cycle-spec =

@@ -4,7 +4,6 @@ use native.Mathlib.Omega.{arith}
 use mathlib.Core.Path.{_≡_, sym, ap, _∙_}
 use lib.ListN.{getD, take, drop}
 use lib.IntN.{pos}
-use borrow.Author.Needs.{needs}
 use Rattle.lists.specs.Parts.{part-at, part-length}
 use Rattle.network.specs.TableLaws.{row-inside}
 use Rattle.cycles.proofs.LevelSteps.{fallen-found}
@@ -63,10 +62,12 @@ returns c =
     let m = w * w - w in
     let e₀ : w ≡ w - 1 + 1 = omega arith in
     let e : (w - 1) * w ≡ m = omega (arith, ap (λ (n : ℕ). n * w) e₀) in
-    fallen-found w (st .args .d .now) levels (take (w * w + w - w * w) (drop (w * w) levels)) (take (w * w - m) (drop m levels)) (c .first-below .result) q (st .pre .1)
+    fallen-found w (st .args .d .now) levels (take (w * w + w - w * w) (drop (w * w) levels)) (take (w * w - m) (drop m levels)) (c .first-below .result)
+    q (st .pre .1)
     (omega (arith, part-length (w * w) (w * w + w - w * w) levels (omega arith)))
     (λ v l. part-at (w * w) (w * w + w - w * w) levels (pos 0) v (omega arith) ∙ q .levels-are w v (omega arith) l)
-    (λ v l. part-at m (w * w - m) levels (pos 0) v (omega arith) ∙ ap (λ (n : ℕ). getD levels (n + v) (pos 0)) (sym e) ∙ q .levels-are (w - 1) v (omega arith) l)
+    (λ v l. part-at m (w * w - m) levels (pos 0) v (omega arith)
+    ∙ ap (λ (n : ℕ). getD levels (n + v) (pos 0)) (sym e) ∙ q .levels-are (w - 1) v (omega arith) l)
     (c .first-below .ensures)
 
 pub last-fallen-spec : {M : Type 1} → statement M

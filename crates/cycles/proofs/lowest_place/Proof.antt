@@ -7,8 +7,6 @@ use lib.ListN.{length, getD}
 use Rattle.cycles.proofs.PlaceLaws.{lowest-next}
 use Rattle.cycles.proofs.lowest_place.Statement.{statement}
 use Rattle.cycles.proofs.lowest_place.Tie as tie
-use Rattle.cycles.proofs.lowest_place.Reads as reads
-use Rattle.cycles.proofs.lowest_place.Lts as lts
 
 abbrev Inv-loop : tie.InvT-loop
 Inv-loop c low₀ j₀ n low j = (low < j) × (j ≤ length c) × (n ≡ length c) × ((i : ℕ) → i < j → getD c low 0 ≤ getD c i 0)

@@ -12,7 +12,8 @@ copy-row-requires c κs = search needs
 next-level-requires : tie.Need-next-level-requires
 next-level-requires c κs =
     let st = c .before .before .before .before in
-    (st .pre .0, st .pre .1, st .pre .2, c .before .before .copy-row .ensures ∙ copied-whole (st .args .prev .now) (st .args .row .now) (omega arith), st .pre .4)
+    let e = c .before .before .copy-row .ensures ∙ copied-whole (st .args .prev .now) (st .args .row .now) (omega arith) in
+    (st .pre .0, st .pre .1, st .pre .2, e, st .pre .4)
 
 same-length : tie.Need-same-length
 same-length c = search needs

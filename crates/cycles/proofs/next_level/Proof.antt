@@ -21,6 +21,11 @@ Inv-loop d w prev row₀ u₀ row u = (u ≤ w) × (length row ≡ w) × (row �
 abbrev μ-loop : tie.MeasureT-loop
 μ-loop d w prev row₀ u₀ row u = w - u
 
+-- the row of the weights from u
+inside : (c : tie.In-loop Inv-loop μ-loop)
+    → c .before .loop .u * c .before .before .args .w + c .before .before .args .w ≤ length (c .before .before .args .d .now)
+inside c = omega (arith, row-inside (c .before .loop .u) (c .before .before .args .w) (c .loop-test .taken), c .before .before .pre)
+
 loop-holds : tie.Need-loop-holds Inv-loop μ-loop
 loop-holds c =
     let st = c in
@@ -28,10 +33,10 @@ loop-holds c =
     (omega arith, ap length (st .pre .3) ∙ st .pre .2, st .pre .3 ∙ reached-start w (st .args .d .now) (st .args .prev .now) (st .pre .2))
 
 mul-from : tie.Need-mul-from Inv-loop μ-loop
-mul-from c = omega (arith, row-inside (c .before .loop .u) (c .before .before .args .w) (c .loop-test .taken), c .before .before .pre)
+mul-from c = omega (arith, inside c)
 
 add-to : tie.Need-add-to Inv-loop μ-loop
-add-to c = omega (arith, row-inside (c .before .loop .u) (c .before .before .args .w) (c .loop-test .taken), c .before .before .pre)
+add-to c = omega (arith, inside c)
 
 mul-reached : tie.Need-mul-reached Inv-loop μ-loop
 mul-reached c = omega arith
@@ -40,7 +45,7 @@ shared-slice-copy-out-reached : tie.Need-shared-slice-copy-out-reached Inv-loop 
 shared-slice-copy-out-reached c = omega arith
 
 mul-relax-row : tie.Need-mul-relax-row Inv-loop μ-loop
-mul-relax-row c = omega (arith, row-inside (c .before .before .before .loop .u) (c .before .before .before .before .args .w) (c .before .before .loop-test .taken), c .before .before .before .before .pre)
+mul-relax-row c = omega (arith, inside (c .before .before))
 
 sub-relax-row : tie.Need-sub-relax-row Inv-loop μ-loop
 sub-relax-row c = omega arith
@@ -49,7 +54,7 @@ part-relax-row-start : tie.Need-part-relax-row-start Inv-loop μ-loop
 part-relax-row-start c = omega arith
 
 part-relax-row-end : tie.Need-part-relax-row-end Inv-loop μ-loop
-part-relax-row-end c = omega (arith, row-inside (c .before .before .before .loop .u) (c .before .before .before .before .args .w) (c .before .before .loop-test .taken), c .before .before .before .before .pre)
+part-relax-row-end c = omega (arith, inside (c .before .before))
 
 relax-row-requires : tie.Need-relax-row-requires Inv-loop μ-loop
 relax-row-requires c κs =
@@ -61,7 +66,7 @@ relax-row-requires c κs =
     let k = l .u * w + w - l .u * w in
     let ek : k ≡ w = omega arith in
     let h : l .u < w = c .before .before .before .loop-test .taken in
-    let n = part-length (l .u * w) k d (omega (arith, row-inside (l .u) w h, st .pre)) in
+    let n = part-length (l .u * w) k d (omega (arith, inside (c .before .before .before))) in
     let f : SFits w16 (getD prev (l .u) (pos 0)) = search needs in
     (omega (arith, n, l .inv), row-sums w (l .u) k d prev (toZ w16 (ofZ w16 (getD prev (l .u) (pos 0)))) h ek (toZ-ofZ f) (st .pre .4))
 
@@ -83,7 +88,7 @@ loop-again c =
     let h : l .u < w = c .before .before .before .before .before .loop-test .taken in
     let f : SFits w16 (getD prev (l .u) (pos 0)) = search needs in
     let e = c .before .relax-row .ensures ∙ reached-next w (l .u) k d prev (l .row) (toZ w16 (ofZ w16 (getD prev (l .u) (pos 0)))) h ek
-    (omega (arith, row-inside (l .u) w h, st .pre)) (toZ-ofZ f) (l .inv .2) in
+    (omega (arith, inside (c .before .before .before .before .before))) (toZ-ofZ f) (l .inv .2) in
     (omega (arith, h), ap length e ∙ length-listOf (reachedBy w d prev (l .u + 1)) w, e)
 
 same-length : tie.Need-same-length Inv-loop μ-loop

@@ -1,28 +1,28 @@
 -- What is left of the list gives the whole answer.
 use Prim.Native.Nat.{ℕ, _-_, _≤_}
 use native.Mathlib.Omega.{arith}
-use mathlib.Core.Path.{_≡_, refl, sym, ap, _∙_}
+use mathlib.Core.Path.{_≡_, refl, sym, _∙_}
 use mathlib.Core.Bool.{Bool}
+use mathlib.Core.List.{List}
 use lib.Dec.{eqb}
 use lib.ListN.{length, getD}
-use native.Mathlib.Nat.{sub-zero}
 use borrow.Author.Tests.{eq-eqb, ne-eqb}
-use Rattle.lists.specs.First.{firstFrom, firstPlace, first-passed, first-failed, first-none}
+use Rattle.lists.specs.First.{firstFrom, first-passed, first-failed, first-none}
 use Rattle.cycles.proofs.place_of.Statement.{statement}
 use Rattle.cycles.proofs.place_of.Tie as tie
 
+-- x stands at a place
+abbrev isAt : List ℕ → ℕ → ℕ → Bool
+isAt c x i = eqb (getD c i 0) x
+
 abbrev Inv-loop : tie.InvT-loop
-Inv-loop c x n j₀ j =
-    (j ≤ length c) × (n ≡ length c)
-    × (firstFrom (length c - j) j (λ (i : ℕ). eqb (getD c i 0) x) ≡ firstPlace (length c) (λ (i : ℕ). eqb (getD c i 0) x))
+Inv-loop c from x n j₀ j = (j ≤ length c) × (n ≡ length c) × (firstFrom (length c - j) j (isAt c x) ≡ firstFrom (length c - from) from (isAt c x))
 
 abbrev μ-loop : tie.MeasureT-loop
-μ-loop c x n j₀ j = length c - j
+μ-loop c from x n j₀ j = length c - j
 
 loop-holds : tie.Need-loop-holds Inv-loop μ-loop
-loop-holds c =
-    let c₀ = c .args .c .now in
-    (omega arith, refl, ap (λ (k : ℕ). firstFrom k 0 (λ (i : ℕ). eqb (getD c₀ i 0) (c .args .x))) (sub-zero (length c₀)))
+loop-holds c = (omega arith, refl, refl)
 
 mul-if1 : tie.Need-mul-if1 Inv-loop μ-loop
 mul-if1 c = omega arith
@@ -35,8 +35,7 @@ returns c =
     let xs = c .before .before .before .before .args .c .now in
     let x = c .before .before .before .before .args .x in
     let l = c .before .before .before .loop in
-    let t : ℕ → Bool = (λ i. eqb (getD xs i 0) x) in
-    sym (first-passed t (length xs) (l .j) (omega arith) (eq-eqb (getD xs (l .j) 0) x (c .if1 .taken))) ∙ l .inv .2
+    sym (first-passed (isAt xs x) (length xs) (l .j) (omega arith) (eq-eqb (getD xs (l .j) 0) x (c .if1 .taken))) ∙ l .inv .2
 
 add-j : tie.Need-add-j Inv-loop μ-loop
 add-j c = omega arith
@@ -49,16 +48,13 @@ loop-again c =
     let xs = c .before .before .before .before .args .c .now in
     let x = c .before .before .before .before .args .x in
     let l = c .before .before .before .loop in
-    let t : ℕ → Bool = (λ i. eqb (getD xs i 0) x) in
-    (omega arith, refl, first-failed t (length xs) (l .j) (omega arith) (ne-eqb (getD xs (l .j) 0) x (c .if1 .left)) ∙ l .inv .2)
+    (omega arith, refl, first-failed (isAt xs x) (length xs) (l .j) (omega arith) (ne-eqb (getD xs (l .j) 0) x (c .if1 .left)) ∙ l .inv .2)
 
 returns-2 : tie.Need-returns-2 Inv-loop μ-loop
 returns-2 c =
     let xs = c .before .before .args .c .now in
-    let x = c .before .before .args .x in
     let l = c .before .loop in
-    let t : ℕ → Bool = (λ i. eqb (getD xs i 0) x) in
-    sym (first-none t (length xs) (l .j) (omega arith)) ∙ l .inv .2
+    sym (first-none (isAt xs (c .before .before .args .x)) (length xs) (l .j) (omega arith)) ∙ l .inv .2
 
 pub place-of-spec : {M : Type 1} → statement M
 place-of-spec =

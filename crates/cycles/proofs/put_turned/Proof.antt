@@ -55,11 +55,13 @@ same-length c = search needs
 
 returns : tie.Need-returns
 returns c =
-    let xs = c .before .before .before .before .before .before .before .before .before .before .before .before .args .c .now in
-    let low = c .before .before .before .before .before .before .before .before .before .before .before .before .args .low in
+    let first = c .before .before .before .before .before .before .before in
+    let st = first .before .before .before .before .before in
+    let xs = st .args .c .now in
+    let low = st .args .low in
     let n = length xs in
-    turned-list xs (c .before .before .before .before .before .before .before .before .before .before .before .before .args .out .now) (c .before .before .before .before .before .before .before .copy-list .last .1 .0) (c .before .before .copy-list2 .last .1 .0) low (n - (n - low)) n (n - low)
-    refl (c .before .before .before .before .before .before .before .before .before .before .before .before .pre .0) refl refl (c .before .before .before .before .before .before .before .before .before .before .before .before .pre .1) (c .before .before .before .before .before .before .before .copy-list .ensures) (rw (sub-zero low) at (c .before .before .copy-list2 .ensures))
+    turned-list xs (st .args .out .now) (first .copy-list .last .1 .0) (c .before .before .copy-list2 .last .1 .0) low (n - (n - low)) n (n - low)
+    refl (st .pre .0) refl refl (st .pre .1) (first .copy-list .ensures) (rw (sub-zero low) at (c .before .before .copy-list2 .ensures))
 
 pub put-turned-spec : {M : Type 1} → statement M
 put-turned-spec =

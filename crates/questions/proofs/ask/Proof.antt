@@ -7,7 +7,8 @@ use Rattle.questions.specs.Reading.{refused}
 use Rattle.questions.specs.Steps.{passAnswer, keptBy, unitPart, rulePart}
 use Rattle.questions.specs.declared.Step.{Step}
 use Rattle.questions.specs.declared.Step.the-variants.{No, On}
-use Rattle.questions.proofs.ReadLaws.{Asking, asking-start, asking-no, asking-on, asking-none, asking-sheet, units-kept, rules-kept, units-size, rules-size}
+use Rattle.questions.proofs.ReadLaws.{Asking, asking-start, asking-no, asking-on, asking-none, asking-sheet}
+use Rattle.questions.proofs.ReadLaws.{units-kept, rules-kept, units-size, rules-size}
 use Rattle.questions.proofs.ask.Statement.{statement}
 use Rattle.questions.proofs.ask.Tie as tie
 

@@ -1,47 +1,56 @@
+-- The table holds the limits, so the pass over it is the pass of the sheet.
 use borrow.Author.Needs.{needs}
-use mathlib.Core.Path.{ap}
-use Prim.Native.Nat.{ℕ, _+_, _*_, _≤_}
+use mathlib.Core.Path.{_≡_}
+use Prim.Native.Nat.{_+_, _≤_}
 use native.Mathlib.Omega.{arith}
-use lib.ListN.{length}
+use Rattle.network.specs.Table.{mostBoundaries}
+use Rattle.sheet.specs.Sheet.{Sheet, boundaries}
 use Rattle.sheet.specs.Questions.{sheetOf}
-use Rattle.limits.specs.LimitTableLaws.{accepted-span, boundaries-are, length-limitTable}
-use Rattle.solving.specs.DecidingLaws.{decided}
+use Rattle.limits.specs.LimitTableLaws.{boundaries-are}
+use Rattle.solving.specs.DecidingLaws.{fillable-few, filled-room, decided}
 use Rattle.solving.proofs.decide.Statement.{statement}
 use Rattle.solving.proofs.decide.Tie as tie
+
+abbrev start : tie.After-fill-limits → tie.Start
+start c = c .before .before .before .before .before .before .before .before
+
+abbrev sheet : tie.Start → Sheet
+sheet c =
+    let a = c .args in
+    sheetOf (a .span) (a .first .now) (a .last .now) (a .from .now) (a .to .now) (a .low .now) (a .high .now)
+
+size : (c : tie.Start) → boundaries (sheet c) ≡ c .args .span + 1
+size c =
+    let a = c .args in
+    boundaries-are (a .span) (a .first .now) (a .last .now) (a .from .now) (a .to .now) (a .low .now) (a .high .now)
+
+few : (c : tie.Start) → c .args .span + 1 ≤ mostBoundaries
+few c =
+    let a = c .args in
+    fillable-few (a .span) (a .first .now) (a .last .now) (a .from .now) (a .to .now) (a .low .now) (a .high .now) _ (c .pre)
 
 fill-limits-requires : tie.Need-fill-limits-requires
 fill-limits-requires c κs = search needs
 
 add-pass : tie.Need-add-pass
-add-pass c =
-    let a = c .before .before .before .before .before .before .before .before .before .before .args in
-    let s = sheetOf (a .span) (a .first .now) (a .last .now) (a .from .now) (a .to .now) (a .low .now) (a .high .now) in
-    let w = boundaries-are (a .span) (a .first .now) (a .last .now) (a .from .now) (a .to .now) (a .low .now) (a .high .now) in
-    let p = c .before .before .before .before .before .before .before .before .before .before .pre in
-    omega (arith, accepted-span (a .span) (a .first .now) (a .last .now) (a .from .now) (a .to .now) (a .low .now) (a .high .now) (p .ok) (p .agree))
+add-pass c = omega (arith, few (start (c .before .before)))
 
 pass-requires : tie.Need-pass-requires
 pass-requires c κs =
-    let a = c .before .before .before .before .before .before .before .before .before .before .args in
-    let s = sheetOf (a .span) (a .first .now) (a .last .now) (a .from .now) (a .to .now) (a .low .now) (a .high .now) in
-    let w = boundaries-are (a .span) (a .first .now) (a .last .now) (a .from .now) (a .to .now) (a .low .now) (a .high .now) in
-    let p = c .before .before .before .before .before .before .before .before .before .before .pre in
-    let h = accepted-span (a .span) (a .first .now) (a .last .now) (a .from .now) (a .to .now) (a .low .now) (a .high .now) (p .ok) (p .agree) in
-    let f = p .fits in
-    let l = length-limitTable s (a .table .now) f in
-    let e = ap length (c .before .before .fill-limits .ensures) in
-    (omega arith, omega arith, omega (arith, ap (λ (n : ℕ). n * n) w, e, l))
+    let filled = c .before .before in
+    let st = start filled in
+    let room = filled-room (sheet st) (st .args .table .now) _ (st .args .span + 1) (size st) (st .pre .fits) (filled .fill-limits .ensures) in
+    (omega arith, few st, room)
 
 same-length : tie.Need-same-length
 same-length c = search needs
 
 returns : tie.Need-returns
 returns c =
-    let a = c .before .before .before .before .before .before .before .before .before .before .before .before .args in
-    let s = sheetOf (a .span) (a .first .now) (a .last .now) (a .from .now) (a .to .now) (a .low .now) (a .high .now) in
-    let w = boundaries-are (a .span) (a .first .now) (a .last .now) (a .from .now) (a .to .now) (a .low .now) (a .high .now) in
-    decided s (a .table .now) _ (c .before .pass .result) (c .before .pass .last .0) (a .span + 1) w
-    (c .before .before .before .before .fill-limits .ensures) (c .before .pass .ensures)
+    let filled = c .before .before .before .before in
+    let st = start filled in
+    decided (sheet st) (st .args .table .now) _ (c .before .pass .result) (c .before .pass .last .0) (st .args .span + 1) (size st)
+    (filled .fill-limits .ensures) (c .before .pass .ensures)
 
 pub decide-spec : {M : Type 1} → statement M
 decide-spec = tie.close (tie.spec fill-limits-requires add-pass pass-requires same-length returns)

@@ -1,3 +1,4 @@
+-- The seats first, which narrowing then starts from.
 use borrow.Author.Needs.{needs}
 use Rattle.solving.specs.FillingLaws.{narrowable, seats-are}
 use Rattle.solving.proofs.fill_plan.Statement.{statement}

@@ -1,52 +1,66 @@
+-- The table of the limits, filled in once more, has no feasible potential, so the finder shows a negative cycle of it: a ring of the sheet.
 use borrow.Author.Needs.{needs}
-use mathlib.Core.Path.{ap}
-use Prim.Native.Nat.{ℕ, _+_, _*_, _≤_}
+use mathlib.Core.Path.{_≡_}
+use Prim.Native.Nat.{_+_, _*_, _≤_}
 use native.Mathlib.Omega.{arith}
 use native.Mathlib.Nat.{mul-le-mul}
-use lib.ListN.{length}
+use Rattle.network.specs.Table.{mostBoundaries}
+use Rattle.sheet.specs.Sheet.{Sheet, boundaries}
 use Rattle.sheet.specs.Questions.{sheetOf}
-use Rattle.limits.specs.LimitTableLaws.{accepted-span, boundaries-are, length-limitTable}
+use Rattle.limits.specs.LimitTableLaws.{boundaries-are}
+use Rattle.solving.specs.DecidingLaws.{fillable-few, filled-room}
 use Rattle.solving.specs.RingLaws.{weighed, no-potential, ring-found}
 use Rattle.solving.proofs.find_ring.Statement.{statement}
 use Rattle.solving.proofs.find_ring.Tie as tie
 
+abbrev start : tie.After-fill-limits → tie.Start
+start c = c .before .before .before .before .before .before .before .before .before
+
+abbrev sheet : tie.Start → Sheet
+sheet c =
+    let a = c .args in
+    sheetOf (a .span) (a .first .now) (a .last .now) (a .from .now) (a .to .now) (a .low .now) (a .high .now)
+
+size : (c : tie.Start) → boundaries (sheet c) ≡ c .args .span + 1
+size c =
+    let a = c .args in
+    boundaries-are (a .span) (a .first .now) (a .last .now) (a .from .now) (a .to .now) (a .low .now) (a .high .now)
+
+few : (c : tie.Start) → c .args .span + 1 ≤ mostBoundaries
+few c =
+    let a = c .args in
+    fillable-few (a .span) (a .first .now) (a .last .now) (a .from .now) (a .to .now) (a .low .now) (a .high .now) _ (c .pre .0)
+
 add-w : tie.Need-add-w
-add-w c =
-    let a = c .before .before .before .before .before .before .before .args in
-    let p = c .before .before .before .before .before .before .before .pre in
-    let s = sheetOf (a .span) (a .first .now) (a .last .now) (a .from .now) (a .to .now) (a .low .now) (a .high .now) in
-    let w = boundaries-are (a .span) (a .first .now) (a .last .now) (a .from .now) (a .to .now) (a .low .now) (a .high .now) in
-    omega (arith, accepted-span (a .span) (a .first .now) (a .last .now) (a .from .now) (a .to .now) (a .low .now) (a .high .now) (p .0 .ok) (p .0 .agree))
+add-w c = omega (arith, few (c .before .before .before .before .before .before .before))
 
 fill-limits-requires : tie.Need-fill-limits-requires
 fill-limits-requires c κs = search needs
 
 negative-cycle-requires : tie.Need-negative-cycle-requires
 negative-cycle-requires c κs =
-    let a = c .before .before .before .before .before .before .before .before .before .before .before .before .args in
-    let p = c .before .before .before .before .before .before .before .before .before .before .before .before .pre in
-    let s = sheetOf (a .span) (a .first .now) (a .last .now) (a .from .now) (a .to .now) (a .low .now) (a .high .now) in
-    let w = boundaries-are (a .span) (a .first .now) (a .last .now) (a .from .now) (a .to .now) (a .low .now) (a .high .now) in
-    let f = c .before .before .before .fill-limits .ensures in
-    (weighed s (p .0 .ok) (a .table .now) _ (p .0 .fits) f (a .span + 1) w, no-potential s (p .0 .ok) (a .table .now) _ (p .0 .fits) f (a .span + 1) w (p .2), omega (arith, p .1, w))
+    let filled = c .before .before .before in
+    let st = start filled in
+    let p = st .pre .0 in
+    let w = st .args .span + 1 in
+    let e = filled .fill-limits .ensures in (
+      weighed (sheet st) (p .ok) (st .args .table .now) _ (p .fits) e w (size st),
+      no-potential (sheet st) (p .ok) (st .args .table .now) _ (p .fits) e w (size st) (st .pre .2),
+      omega (arith, st .pre .1, size st),
+    )
 
 mul-clear : tie.Need-mul-clear
 mul-clear c =
-    let a = c .before .before .before .before .before .before .before .before .before .before .before .before .before .before .before .args in
-    let p = c .before .before .before .before .before .before .before .before .before .before .before .before .before .before .before .pre in
-    let s = sheetOf (a .span) (a .first .now) (a .last .now) (a .from .now) (a .to .now) (a .low .now) (a .high .now) in
-    let w = boundaries-are (a .span) (a .first .now) (a .last .now) (a .from .now) (a .to .now) (a .low .now) (a .high .now) in
-    let h : a .span + 1 ≤ 49 = omega (arith, accepted-span (a .span) (a .first .now) (a .last .now) (a .from .now) (a .to .now) (a .low .now) (a .high .now) (p .0 .ok) (p .0 .agree)) in
-    let m : (a .span + 1) * (a .span + 1) ≤ 49 * 49 = mul-le-mul h h in
-    omega (arith, m)
+    let st = start (c .before .before .before .before .before .before) in
+    let m : (st .args .span + 1) * (st .args .span + 1) ≤ mostBoundaries * mostBoundaries = mul-le-mul (few st) (few st) in
+    omega arith
 
 clear-requires : tie.Need-clear-requires
 clear-requires c κs =
-    let a = c .before .before .before .before .before .before .before .before .before .before .before .before .before .before .before .before .args in
-    let p = c .before .before .before .before .before .before .before .before .before .before .before .before .before .before .before .before .pre in
-    let s = sheetOf (a .span) (a .first .now) (a .last .now) (a .from .now) (a .to .now) (a .low .now) (a .high .now) in
-    let w = boundaries-are (a .span) (a .first .now) (a .last .now) (a .from .now) (a .to .now) (a .low .now) (a .high .now) in
-    omega (arith, ap (λ (n : ℕ). n * n) w, ap length (c .before .before .before .before .before .before .before .fill-limits .ensures), length-limitTable s (a .table .now) (p .0 .fits), p .0 .fits)
+    let filled = c .before .before .before .before .before .before .before in
+    let st = start filled in
+    let room = filled-room (sheet st) (st .args .table .now) _ (st .args .span + 1) (size st) (st .pre .0 .fits) (filled .fill-limits .ensures) in
+    omega arith
 
 same-length : tie.Need-same-length
 same-length c = search needs
@@ -56,13 +70,12 @@ same-length-2 c = search needs
 
 returns : tie.Need-returns
 returns c =
-    let a = c .before .before .before .before .before .before .before .before .before .before .before .before .before .before .before .before .before .before .args in
-    let p = c .before .before .before .before .before .before .before .before .before .before .before .before .before .before .before .before .before .before .pre in
-    let s = sheetOf (a .span) (a .first .now) (a .last .now) (a .from .now) (a .to .now) (a .low .now) (a .high .now) in
-    let w = boundaries-are (a .span) (a .first .now) (a .last .now) (a .from .now) (a .to .now) (a .low .now) (a .high .now) in
+    let filled = c .before .before .before .before .before .before .before .before .before in
+    let st = start filled in
+    let p = st .pre .0 in
     let n = c .before .before .before .before .before .negative-cycle in
-    ring-found s (p .0 .ok) (a .table .now) _ (p .0 .fits) (c .before .before .before .before .before .before .before .before .before .fill-limits .ensures) (a .span + 1) w (a .ring .now) (n .result) (n .last .1 .1 .0) (c .before .clear .last .1 .0)
-    (omega (arith, n .kept, p .1, w)) (n .ensures) (c .before .clear .ensures)
+    ring-found (sheet st) (p .ok) (st .args .table .now) _ (p .fits) (filled .fill-limits .ensures) (st .args .span + 1) (size st) (st .args .ring .now)
+    (n .result) (n .last .1 .1 .0) (c .before .clear .last .1 .0) (omega (arith, n .kept, st .pre .1, size st)) (n .ensures) (c .before .clear .ensures)
 
 pub find-ring-spec : {M : Type 1} → statement M
 find-ring-spec =

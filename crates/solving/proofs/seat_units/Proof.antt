@@ -1,3 +1,4 @@
+-- Row 0 of the finished table is the greatest of all potentials, by which the units are seated.
 use borrow.Author.Needs.{needs}
 use Prim.Native.Nat.{_-_}
 use native.Mathlib.Omega.{arith}
@@ -30,7 +31,8 @@ same-length c = search needs
 returns : tie.Need-returns
 returns c s R =
     let a = c .before .before .before .before .before .before .before .before .args in
-    c .before .before .seat .ensures .1 s (entry (a .w) (a .table .now)) (row-of s (a .w) (a .first .now) (a .last .now) (a .table .now) R (a .w - 0) (omega arith))
+    c .before .before .seat .ensures .1 s (entry (a .w) (a .table .now))
+    (row-of s (a .w) (a .first .now) (a .last .now) (a .table .now) R (a .w - 0) (omega arith))
 
 pub seat-units-spec : {M : Type 1} → statement M
 seat-units-spec = tie.close (tie.spec sub-seat part-seat-start part-seat-end seat-requires same-length returns)

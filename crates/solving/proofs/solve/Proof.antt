@@ -1,18 +1,34 @@
+-- The pass's outcome decides: each arm leaves what the verdict says of it.
 use borrow.Author.Needs.{needs}
-use Prim.Native.Nat.{_+_}
+use mathlib.Core.List.{List}
 use native.Mathlib.Omega.{arith}
-use Rattle.asking.specs.Questions.{listed, lent, given}
+use lib.IntN.{ℤ}
+use Rattle.asking.specs.Questions.{Lists, Rooms, listed, lent, given}
 use Rattle.solving.specs.SolvingLaws.{limits-asked, span-few, range-left, ring-asked, ring-left, plan-asked, plan-rooms, plan-left}
 use Rattle.solving.proofs.solve.Statement.{statement}
 use Rattle.solving.proofs.solve.Tie as tie
 
+-- the call's lists and rooms, and the table that the pass leaves
+abbrev start : tie.After-decide → tie.Start
+start c = c .before .before .before .before .before .before .before .before .before .before .before .before
+
+abbrev lists : tie.Start → Lists
+lists c =
+    let a = c .args in
+    listed (a .span) (a .first .now) (a .last .now) (a .from .now) (a .to .now) (a .low .now) (a .high .now)
+
+abbrev rooms : tie.Start → Rooms
+rooms c =
+    let a = c .args in
+    lent (a .table .now) (a .plan .now) (a .earliest .now) (a .latest .now) (a .ring .now)
+
+abbrev table : tie.After-decide → List ℤ
+table c = c .decide .last .1 .1 .1 .1 .1 .1 .1 .0
+
 decide-requires : tie.Need-decide-requires
 decide-requires c κs =
-    let a = c .before .before .before .before .before .before .before .before .before .before .before .args in
-    let p = c .before .before .before .before .before .before .before .before .before .before .before .pre in
-    let l = listed (a .span) (a .first .now) (a .last .now) (a .from .now) (a .to .now) (a .low .now) (a .high .now) in
-    let before = lent (a .table .now) (a .plan .now) (a .earliest .now) (a .latest .now) (a .ring .now) in
-    limits-asked l before p
+    let st = c .before .before .before .before .before .before .before .before .before .before .before in
+    limits-asked (lists st) (rooms st) (st .pre)
 
 enum-told : tie.Need-enum-told
 enum-told c = search needs
@@ -22,45 +38,34 @@ enum-told-2 c = search needs
 
 find-ring-requires : tie.Need-find-ring-requires
 find-ring-requires c κs =
-    let a = c .before .before .before .before .before .before .before .before .before .before .before .before .before .before .before .before .before .args in
-    let p = c .before .before .before .before .before .before .before .before .before .before .before .before .before .before .before .before .before .pre in
-    let l = listed (a .span) (a .first .now) (a .last .now) (a .from .now) (a .to .now) (a .low .now) (a .high .now) in
-    let before = lent (a .table .now) (a .plan .now) (a .earliest .now) (a .latest .now) (a .ring .now) in
-    let d = c .before .before .before .before .before .decide in
-    ring-asked l before p (d .result) (d .last .1 .1 .1 .1 .1 .1 .1 .0) (d .ensures) (c .before .before .enum-told2 .given .1)
+    let d = c .before .before .before .before .before in
+    let st = start d in
+    ring-asked (lists st) (rooms st) (st .pre) (d .decide .result) (table d) (d .decide .ensures) (c .before .before .enum-told2 .given .1)
 
 enum-told-3 : tie.Need-enum-told-3
 enum-told-3 c = search needs
 
 add-fill-plan : tie.Need-add-fill-plan
 add-fill-plan c =
-    let a = c .before .before .before .before .before .before .before .before .before .before .before .before .before .before .before .args in
-    let p = c .before .before .before .before .before .before .before .before .before .before .before .before .before .before .before .pre in
-    let l = listed (a .span) (a .first .now) (a .last .now) (a .from .now) (a .to .now) (a .low .now) (a .high .now) in
-    let before = lent (a .table .now) (a .plan .now) (a .earliest .now) (a .latest .now) (a .ring .now) in
-    omega (arith, span-few l before p)
+    let st = start (c .before .before .before) in
+    omega (arith, span-few (lists st) (rooms st) (st .pre))
 
 fill-plan-requires : tie.Need-fill-plan-requires
 fill-plan-requires c κs =
-    let a = c .before .before .before .before .before .before .before .before .before .before .before .before .before .before .before .before .before .before .before .args in
-    let p = c .before .before .before .before .before .before .before .before .before .before .before .before .before .before .before .before .before .before .before .pre in
-    let l = listed (a .span) (a .first .now) (a .last .now) (a .from .now) (a .to .now) (a .low .now) (a .high .now) in
-    let before = lent (a .table .now) (a .plan .now) (a .earliest .now) (a .latest .now) (a .ring .now) in
-    let d = c .before .before .before .before .before .before .before .decide in
+    let d = c .before .before .before .before .before .before .before in
+    let st = start d in
     let e = c .before .before .before .before .enum-told3 .given .1 in
-    ((given l, plan-asked l before p (d .result) (d .last .1 .1 .1 .1 .1 .1 .1 .0) (d .ensures) e), plan-rooms l before p (d .result) (d .last .1 .1 .1 .1 .1 .1 .1 .0) (d .ensures) e)
+    let asked = plan-asked (lists st) (rooms st) (st .pre) (d .decide .result) (table d) (d .decide .ensures) e in
+    ((given (lists st), asked), plan-rooms (lists st) (rooms st) (st .pre) (d .decide .result) (table d) (d .decide .ensures) e)
 
 same-length : tie.Need-same-length
 same-length c = search needs
 
 returns : tie.Need-returns
 returns c =
-    let a = c .before .before .before .before .before .before .before .before .before .before .before .before .before .before .before .args in
-    let p = c .before .before .before .before .before .before .before .before .before .before .before .before .before .before .before .pre in
-    let l = listed (a .span) (a .first .now) (a .last .now) (a .from .now) (a .to .now) (a .low .now) (a .high .now) in
-    let before = lent (a .table .now) (a .plan .now) (a .earliest .now) (a .latest .now) (a .ring .now) in
-    let d = c .before .before .before .decide in
-    range-left l before p (d .result) (d .last .1 .1 .1 .1 .1 .1 .1 .0) (d .ensures) (c .enum-told .given .1)
+    let d = c .before .before .before in
+    let st = start d in
+    range-left (lists st) (rooms st) (st .pre) (d .decide .result) (table d) (d .decide .ensures) (c .enum-told .given .1)
 
 same-length-2 : tie.Need-same-length-2
 same-length-2 c = search needs
@@ -70,13 +75,12 @@ same-length-3 c = search needs
 
 returns-2 : tie.Need-returns-2
 returns-2 c =
-    let a = c .before .before .before .before .before .before .before .before .before .before .before .before .before .before .before .before .before .before .before .before .before .args in
-    let p = c .before .before .before .before .before .before .before .before .before .before .before .before .before .before .before .before .before .before .before .before .before .pre in
-    let l = listed (a .span) (a .first .now) (a .last .now) (a .from .now) (a .to .now) (a .low .now) (a .high .now) in
-    let before = lent (a .table .now) (a .plan .now) (a .earliest .now) (a .latest .now) (a .ring .now) in
-    let d = c .before .before .before .before .before .before .before .before .before .decide in
+    let d = c .before .before .before .before .before .before .before .before .before in
+    let st = start d in
+    let e = c .before .before .before .before .before .before .enum-told2 .given .1 in
     let f = c .before .before .before .find-ring in
-    ring-left l before p (d .result) (d .last .1 .1 .1 .1 .1 .1 .1 .0) (d .ensures) (c .before .before .before .before .before .before .enum-told2 .given .1) (f .result) (f .last .1 .1 .1 .1 .1 .1 .1 .0) (f .last .1 .1 .1 .1 .1 .1 .1 .1 .0) (f .ensures)
+    ring-left (lists st) (rooms st) (st .pre) (d .decide .result) (table d) (d .decide .ensures) e
+    (f .result) (f .last .1 .1 .1 .1 .1 .1 .1 .0) (f .last .1 .1 .1 .1 .1 .1 .1 .1 .0) (f .ensures)
 
 same-length-4 : tie.Need-same-length-4
 same-length-4 c = search needs
@@ -92,15 +96,13 @@ same-length-7 c = search needs
 
 returns-3 : tie.Need-returns-3
 returns-3 c =
-    let a = c .before .before .before .before .before .before .before .before .before .before .before .before .before .before .before .before .before .before .before .before .before .before .before .before .before .before .args in
-    let p = c .before .before .before .before .before .before .before .before .before .before .before .before .before .before .before .before .before .before .before .before .before .before .before .before .before .before .pre in
-    let l = listed (a .span) (a .first .now) (a .last .now) (a .from .now) (a .to .now) (a .low .now) (a .high .now) in
-    let before = lent (a .table .now) (a .plan .now) (a .earliest .now) (a .latest .now) (a .ring .now) in
-    let d = c .before .before .before .before .before .before .before .before .before .before .before .before .before .before .decide in
+    let d = c .before .before .before .before .before .before .before .before .before .before .before .before .before .before in
+    let st = start d in
     let e = c .before .before .before .before .before .before .before .before .before .before .before .enum-told3 .given .1 in
     let f = c .before .before .before .before .before .before .fill-plan in
-    plan-left l before p (d .result) (d .last .1 .1 .1 .1 .1 .1 .1 .0) (d .ensures) e (f .last .1 .1 .1 .1 .0) (f .last .1 .1 .1 .1 .1 .0) (f .last .1 .1 .1 .1 .1 .1 .0)
-    (f .ensures (given l) (plan-asked l before p (d .result) (d .last .1 .1 .1 .1 .1 .1 .1 .0) (d .ensures) e))
+    let asked = plan-asked (lists st) (rooms st) (st .pre) (d .decide .result) (table d) (d .decide .ensures) e in
+    plan-left (lists st) (rooms st) (st .pre) (d .decide .result) (table d) (d .decide .ensures) e
+    (f .last .1 .1 .1 .1 .0) (f .last .1 .1 .1 .1 .1 .0) (f .last .1 .1 .1 .1 .1 .1 .0) (f .ensures (given (lists st)) asked)
 
 pub solve-spec : {M : Type 1} → statement M
 solve-spec =

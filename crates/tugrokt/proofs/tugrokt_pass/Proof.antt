@@ -1,3 +1,4 @@
+-- Each outcome has its number.
 use borrow.Author.Needs.{needs}
 use mathlib.Core.Path.{sym, ap}
 use Rattle.tugrokt.specs.Numbers.{codeOf}
