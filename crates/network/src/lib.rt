@@ -72,12 +72,12 @@ fn sums_fit(ends: Extremes, am: i16) -> bool
     true
 }
 
-// A row's columns are taken in stretches of 16, which fill whole vector registers.
+// A row's columns are taken in stretches of 64. That is a whole row here, so the compiler makes one loop of vectors of it.
 fn stretch_end(b: usize, w: usize) -> usize
     requires { ⌜ b < w ⌝ }
-    ensures { λ r. ⌜ r ≡ min (b + 16) w ⌝ }
+    ensures { λ r. ⌜ r ≡ min (b + 64) w ⌝ }
 {
-    if w - b < 16 { w } else { b + 16 }
+    if w - b < 64 { w } else { b + 64 }
 }
 
 // The row step: each entry becomes the smaller of itself and the sum over the middle boundary. Every entry is stored, so that no branch is left.
