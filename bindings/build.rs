@@ -3,17 +3,14 @@
 //! They are looked for in `../target/staticlib`, and `rt staticlib` is run for each that is missing or older than the sources:
 //! it proves that library's own crate once more, and those below it only where they are not proved yet. Where `TUGROKT_LIB_DIR`
 //! names a folder, the libraries of that folder are taken as they are.
-//!
-//! A library that no crate of the repository exports yet is left out, and so is the part of this crate that calls it.
 
 use std::path::{Path, PathBuf};
 use std::process::Command;
 use std::time::SystemTime;
 use std::{env, fs, thread};
 
-/// Each crate that exports an entry, and the entry's name.
-const ENTRIES: [(&str, &str); 4] =
-    [("reader", "tugrokt_read"), ("planner", "tugrokt_plan"), ("printer", "tugrokt_print"), ("cycles", "tugrokt_pass")];
+/// The crates that export entries.
+const LIBRARIES: [&str; 4] = ["reader", "planner", "printer", "cycles"];
 
 fn main() {
     let root = Path::new(&env::var("CARGO_MANIFEST_DIR").unwrap()).join("..").canonicalize().unwrap();
@@ -27,34 +24,18 @@ fn main() {
         println!("cargo:rerun-if-changed={}", root.join("crates.txt").display());
     }
     let archive = |name: &str| folder.join(format!("lib{name}.a"));
-    let present = |name: &str, entry: &str| match given {
-        Some(_) => archive(name).is_file(),
-        None => exports(&root.join("crates").join(name).join("src"), entry),
-    };
-    for (name, _) in ENTRIES {
-        println!("cargo:rustc-check-cfg=cfg(has_{name})");
-    }
-    let names: Vec<&str> = ENTRIES.iter().filter(|e| present(e.0, e.1)).map(|e| e.0).collect();
     if given.is_none() {
         let sources = newest(&root.join("crates")).max(modified(&root.join("crates.txt")));
         let stale = |name: &&str| !(modified(&archive(name)) > sources);
-        build(&root, &names.iter().copied().filter(stale).collect::<Vec<_>>());
+        build(&root, &LIBRARIES.into_iter().filter(stale).collect::<Vec<_>>());
     }
-    for name in names {
+    for name in LIBRARIES {
         let archive = archive(name);
         println!("cargo:rerun-if-changed={}", archive.display());
         println!("cargo:rustc-link-lib=static={name}");
-        println!("cargo:rustc-cfg=has_{name}");
         // Packages that depend on this one find these in DEP_TUGROKT_READER and so on.
         println!("cargo:{name}={}", archive.display());
     }
-}
-
-/// Does a source file of this folder define the entry?
-fn exports(folder: &Path, entry: &str) -> bool {
-    let Ok(files) = fs::read_dir(folder) else { return false };
-    let defined = format!("extern \"C\" fn {entry}(");
-    files.flatten().any(|f| fs::read_to_string(f.path()).is_ok_and(|text| text.contains(&defined)))
 }
 
 /// Builds these libraries, some at a time. What they share is proved before, so that no two of them prove it.

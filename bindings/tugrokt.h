@@ -21,7 +21,7 @@
 #define TUGROKT_MOST_BYTES 16000
 #define TUGROKT_MOST_BOUNDARIES (TUGROKT_MOST_SLOTS + 1)
 #define TUGROKT_TABLE (TUGROKT_MOST_BOUNDARIES * TUGROKT_MOST_BOUNDARIES)
-#define TUGROKT_LONGEST_PAGE 12657
+#define TUGROKT_LONGEST_PAGE 12942
 
 #ifdef __cplusplus
 extern "C" {
@@ -54,8 +54,8 @@ size_t tugrokt_plan(size_t span,
                     uint16_t *ring, size_t ring_length, size_t *length);
 
 /*
- * Plans from lists, prints the answer on the page from *place on, and moves *place just past it. The rooms are left as by
- * tugrokt_plan.
+ * Plans from lists, prints the answer on the page from *place on, and moves *place just past it. The rooms and *length are left as
+ * by tugrokt_plan. A refusal, also by 15 where the page does not hold the answer, leaves page and *place.
  */
 size_t tugrokt_print(size_t span,
                      const uint16_t *first, size_t first_length, const uint16_t *last, size_t last_length,
@@ -63,7 +63,8 @@ size_t tugrokt_print(size_t span,
                      const uint16_t *low, size_t low_length, const uint16_t *high, size_t high_length,
                      int16_t *table, size_t table_length, uint16_t *seats, size_t seats_length,
                      uint16_t *earliest, size_t earliest_length, uint16_t *latest, size_t latest_length,
-                     uint16_t *ring, size_t ring_length, uint8_t *page, size_t page_length, size_t *place);
+                     uint16_t *ring, size_t ring_length, uint8_t *page, size_t page_length, size_t *place,
+                     size_t *length);
 
 /*
  * The pass over a table of w rows of w numbers, in place: 0 where it finished, 1 where a diagonal entry fell below 0, 2 where a

@@ -9,7 +9,7 @@ use std::path::{Path, PathBuf};
 use std::process::Command;
 
 /// Parts that may be missing: their tests are left out with a warning.
-const MAY_BE_MISSING: &[&str] = &["printer", "wave"];
+const MAY_BE_MISSING: &[&str] = &["wave"];
 
 fn main() {
     println!("cargo:rerun-if-changed=build.rs");

@@ -23,14 +23,12 @@ use cases::Case;
 enum Job {
     Read,
     Plan,
-    #[cfg(has_printer)]
     Whole,
 }
 
 const JOBS: &[(Job, &str)] = &[
     (Job::Read, "read"),
     (Job::Plan, "plan"),
-    #[cfg(has_printer)]
     (Job::Whole, "whole"),
 ];
 
@@ -38,7 +36,6 @@ const JOBS: &[(Job, &str)] = &[
 trait Side {
     fn run(&mut self, case: &Case, job: Job);
     fn answer(&mut self, sheet: &plain::Sheet) -> plain::Answer;
-    #[cfg(has_printer)]
     fn page(&mut self, text: &[u8]) -> Vec<u8>;
 }
 
@@ -50,7 +47,6 @@ impl Side for Plain {
             match job {
                 Job::Read => drop(black_box(plain::read(black_box(text)))),
                 Job::Plan => drop(black_box(plain::plan(black_box(sheet)))),
-                #[cfg(has_printer)]
                 Job::Whole => drop(black_box(self.page(black_box(text)))),
             }
         }
@@ -60,7 +56,6 @@ impl Side for Plain {
         plain::plan(sheet)
     }
 
-    #[cfg(has_printer)]
     fn page(&mut self, text: &[u8]) -> Vec<u8> {
         let sheet = plain::read(text).expect("the cases are sheets");
         plain::print(&sheet, &plain::plan(&sheet))
@@ -78,7 +73,6 @@ mod planner {
         table: Vec<i16>,
         rooms: [Vec<u16>; 3],
         ring: Vec<u16>,
-        #[cfg(has_printer)]
         page: Vec<u8>,
     }
 
@@ -90,7 +84,6 @@ mod planner {
                 table: vec![0; (MOST_SLOTS + 1) * (MOST_SLOTS + 1)],
                 rooms: [u, u, u].map(|length| vec![0; length]),
                 ring: vec![0; MOST_SLOTS + 1],
-                #[cfg(has_printer)]
                 page: vec![0; tugrokt::LONGEST_PAGE],
             }
         }
@@ -116,7 +109,6 @@ mod planner {
             length
         }
 
-        #[cfg(has_printer)]
         fn whole(&mut self, text: &[u8]) -> usize {
             let Counts { span, units, rules, .. } = self.read(text);
             let [first, last, from, to, low, high] = &self.lists;
@@ -135,6 +127,7 @@ mod planner {
                 Rooms { table: &mut self.table, plan, earliest, latest, ring: &mut self.ring },
                 &mut self.page,
                 &mut place,
+                &mut 0,
             );
             assert_eq!(reply, 0, "the page is long enough");
             place
@@ -147,7 +140,6 @@ mod planner {
                 match job {
                     Job::Read => drop(black_box(self.read(black_box(text)))),
                     Job::Plan => drop(black_box(self.plan(black_box(sheet)))),
-                    #[cfg(has_printer)]
                     Job::Whole => drop(black_box(self.whole(black_box(text)))),
                 }
             }
@@ -163,7 +155,6 @@ mod planner {
             plain::Answer::Plan { plan, earliest, latest, table }
         }
 
-        #[cfg(has_printer)]
         fn page(&mut self, text: &[u8]) -> Vec<u8> {
             let place = self.whole(text);
             self.page[..place].to_vec()
@@ -204,7 +195,6 @@ fn compare(case: &Case, sides: &mut [(&'static str, Box<dyn Side>)]) {
         let same = answers[0] == answers[1];
         let both_none = answers.iter().all(|a| matches!(a, plain::Answer::None { .. }));
         assert!(same || both_none, "{}: the two sides' answers to sheet {i} differ", case.name);
-        #[cfg(has_printer)]
         {
             let pages: Vec<Vec<u8>> = sides.iter_mut().map(|side| side.1.page(&case.texts[i])).collect();
             assert!(!same || pages[0] == pages[1], "{}: the two sides' pages of sheet {i} differ", case.name);

@@ -2,7 +2,6 @@
 //!
 //!     cargo run --release --example plan
 
-#[cfg(has_planner)]
 fn main() {
     let mut sheet = tugrokt::Sheet::new(4);
     sheet.add_unit(1, 2);
@@ -22,9 +21,4 @@ fn main() {
             }
         }
     }
-}
-
-#[cfg(not(has_planner))]
-fn main() {
-    println!("the library has no planner");
 }

@@ -3,7 +3,6 @@
 //!
 //! A slice passes as a pointer and its length, a number that is written passes as a pointer.
 
-#[cfg(has_reader)]
 extern "C" {
     pub fn tugrokt_read(
         text: *const u8,
@@ -27,7 +26,6 @@ extern "C" {
     ) -> usize;
 }
 
-#[cfg(has_planner)]
 extern "C" {
     pub fn tugrokt_plan(
         span: usize,
@@ -57,7 +55,6 @@ extern "C" {
     ) -> usize;
 }
 
-#[cfg(has_printer)]
 extern "C" {
     pub fn tugrokt_print(
         span: usize,
@@ -86,10 +83,10 @@ extern "C" {
         page: *mut u8,
         page_length: usize,
         place: *mut usize,
+        length: *mut usize,
     ) -> usize;
 }
 
-#[cfg(has_cycles)]
 extern "C" {
     pub fn tugrokt_pass(t: *mut i16, t_length: usize, w: usize) -> usize;
     pub fn tugrokt_cycle(d: *const i16, d_length: usize, w: usize, out: *mut u16, out_length: usize) -> usize;

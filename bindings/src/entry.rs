@@ -3,7 +3,6 @@
 //! The entries ask nothing of their caller: any lists, any rooms and any numbers get an answer. So the only duty here is the
 //! one that Rust's references already meet, that slices are valid and those lent for writing do not overlap.
 
-#[cfg(any(has_reader, has_planner, has_printer, has_cycles))]
 use crate::border;
 
 /// The lists that planning takes. Lists that belong together have equal length, or the call is refused (13).
@@ -59,7 +58,6 @@ pub struct Counts {
 }
 
 /// Reads a sheet. The reply is 0, or the number of the question that refused it. All four counts are written.
-#[cfg(has_reader)]
 pub fn read(text: &[u8], lists: ListRooms, counts: &mut Counts) -> usize {
     let ListRooms { first, last, from, to, low, high } = lists;
     // SAFETY: each pointer comes from a reference with the length beside it, and the entry has no further demand.
@@ -89,7 +87,6 @@ pub fn read(text: &[u8], lists: ListRooms, counts: &mut Counts) -> usize {
 
 /// Plans from lists. The reply is 0, or the number of the question that refused the call. `ring_length` becomes the length of the
 /// ring where there is no plan, and 0 for a plan and for a refusal.
-#[cfg(has_planner)]
 pub fn plan(lists: Lists, rooms: Rooms, ring_length: &mut usize) -> usize {
     let Lists { span, first, last, from, to, low, high } = lists;
     let Rooms { table, plan, earliest, latest, ring } = rooms;
@@ -125,9 +122,8 @@ pub fn plan(lists: Lists, rooms: Rooms, ring_length: &mut usize) -> usize {
 }
 
 /// Plans from lists and prints the answer on the page from `place` on; then `place` is just past it. The reply is 0, or the
-/// number of the question that refused the call.
-#[cfg(has_printer)]
-pub fn print(lists: Lists, rooms: Rooms, page: &mut [u8], place: &mut usize) -> usize {
+/// number of the question that refused the call; `ring_length` is as in [`plan`].
+pub fn print(lists: Lists, rooms: Rooms, page: &mut [u8], place: &mut usize, ring_length: &mut usize) -> usize {
     let Lists { span, first, last, from, to, low, high } = lists;
     let Rooms { table, plan, earliest, latest, ring } = rooms;
     // SAFETY: each pointer comes from a reference with the length beside it, and the entry has no further demand.
@@ -159,6 +155,7 @@ pub fn print(lists: Lists, rooms: Rooms, page: &mut [u8], place: &mut usize) -> 
             page.as_mut_ptr(),
             page.len(),
             place,
+            ring_length,
         )
     }
 }
@@ -176,7 +173,6 @@ pub const MOST_BOUNDARIES: usize = 49;
 
 /// Closes the table of `w` boundaries in place. This function asks something, and tests it here: there is nothing to do where the
 /// table has no boundary, too many, or is too short.
-#[cfg(has_cycles)]
 pub fn pass(table: &mut [i16], w: usize) -> Option<Outcome> {
     if w == 0 || w > MOST_BOUNDARIES || table.len() < w * w {
         return None;
@@ -191,7 +187,6 @@ pub fn pass(table: &mut [i16], w: usize) -> Option<Outcome> {
 
 /// A negative cycle of the weights, at the front of `out`: its length. `None` where the weights are not such as the function asks:
 /// from -600 to 600, zeros on the diagonal, and no potential feasible, which a pass over a copy tells.
-#[cfg(has_cycles)]
 pub fn negative_cycle(weights: &[i16], w: usize, out: &mut [u16]) -> Option<usize> {
     let mut copy = weights.to_vec();
     if w < 2 || out.len() < w || pass(&mut copy, w) != Some(Outcome::Stopped) {

@@ -1,7 +1,5 @@
 //! Calls of the planner's open entries with marked rooms, and what must stand in every place afterwards.
 
-#![cfg_attr(not(all(has_reader, has_planner, has_printer)), allow(unused))]
-
 use crate::questions::{planning_refusal, Lengths, Lists};
 use crate::reading::{read_into, Refusal};
 use crate::sheet::{Sheet, Solved};
@@ -84,13 +82,6 @@ impl Rooms {
         rooms.ring[..ring.len()].copy_from_slice(ring);
         rooms
     }
-
-    /// The ring at the front of a room that was marked, by where the marks begin.
-    pub fn ring_at_front(&self) -> &[u16] {
-        let marks = marked_u16(self.ring.len());
-        let length = (0..self.ring.len()).find(|&i| self.ring[i] == marks[i]).unwrap_or(self.ring.len());
-        &self.ring[..length]
-    }
 }
 
 fn differ<T: PartialEq + std::fmt::Debug>(name: &str, got: &T, expected: &T) -> Option<String> {
@@ -108,7 +99,6 @@ pub fn rooms_fault(got: &Rooms, expected: &Rooms) -> Option<String> {
 
 /// Plans in marked rooms of these lengths, and says what is wrong. `solved` is the model's answer to the lists' sheet, which
 /// is not looked at if the call is to be refused.
-#[cfg(has_planner)]
 pub fn planning_fault(lists: &Lists, lengths: &Lengths, solved: Option<&Solved>) -> Option<String> {
     let mut rooms = Rooms::marked(lengths);
     let mut ring_length = MARK;
@@ -137,28 +127,27 @@ pub fn planning_fault(lists: &Lists, lengths: &Lengths, solved: Option<&Solved>)
 }
 
 /// What one call of print left.
-#[cfg(has_printer)]
 #[derive(Clone, Debug, PartialEq, Eq)]
 pub struct Printed {
     pub reply: usize,
     pub rooms: Rooms,
     pub page: Vec<u8>,
     pub place: usize,
+    pub ring_length: usize,
 }
 
 /// Prints in marked rooms of these lengths onto a marked page of this length, from this place on.
-#[cfg(has_printer)]
 pub fn print(lists: &Lists, lengths: &Lengths, page_length: usize, place: usize) -> Printed {
     let mut printed =
-        Printed { reply: 0, rooms: Rooms::marked(lengths), page: marked_u8(page_length), place };
-    printed.reply = entry::print(lent(lists), printed.rooms.lend(), &mut printed.page, &mut printed.place);
+        Printed { reply: 0, rooms: Rooms::marked(lengths), page: marked_u8(page_length), place, ring_length: MARK };
+    let Printed { rooms, page, place, ring_length, .. } = &mut printed;
+    printed.reply = entry::print(lent(lists), rooms.lend(), page, place, ring_length);
     printed
 }
 
 /// Is this what a refused call leaves?
-#[cfg(has_printer)]
 pub fn refused_print_fault(printed: &Printed, number: usize, lengths: &Lengths, place: usize) -> Option<String> {
-    differ("reply", &printed.reply, &number)
+    differ("reply", &(printed.reply, printed.ring_length), &(number, 0))
         .or_else(|| differ("place", &printed.place, &place))
         .or_else(|| differ("page", &printed.page, &marked_u8(printed.page.len())))
         .or_else(|| rooms_fault(&printed.rooms, &Rooms::marked(lengths)))
@@ -166,7 +155,6 @@ pub fn refused_print_fault(printed: &Printed, number: usize, lengths: &Lengths, 
 
 /// Prints, and says what is wrong: with all questions answered yes, with a page that is just long enough, and with one that is
 /// a byte too short. `before` is the place to print from, `extra` what the longer page has beyond the answer.
-#[cfg(has_printer)]
 pub fn printing_fault(
     lists: &Lists,
     lengths: &Lengths,
@@ -184,25 +172,25 @@ pub fn printing_fault(
     if long.reply != 0 {
         return Some(format!("refused by {}", long.reply));
     }
-    let expected_rooms = match solved {
-        Some(solved) => Rooms::with_plan(lengths, solved),
+    let ring_length = long.ring_length;
+    if (ring_length > 0) != solved.is_none() || ring_length > long.rooms.ring.len() {
+        return Some(format!("a ring of {ring_length} boundaries"));
+    }
+    let (expected_rooms, expected_page) = match solved {
+        Some(solved) => (Rooms::with_plan(lengths, solved), crate::page::of_plan(&sheet, solved)),
         None => {
-            let ring = long.rooms.ring_at_front();
+            let ring = &long.rooms.ring[..ring_length];
             if let Some(fault) = sheet.ring_fault(ring) {
                 return Some(format!("{ring:?} is no ring: {fault}"));
             }
-            Rooms::with_ring(lengths, &sheet, ring)
+            (Rooms::with_ring(lengths, &sheet, ring), crate::page::of_ring(&sheet, ring))
         }
-    };
-    let expected_page = match solved {
-        Some(solved) => crate::page::of_plan(&sheet, solved),
-        None => crate::page::of_ring(&sheet, long.rooms.ring_at_front()),
     };
     let end = before + expected_page.len();
     let good = |printed: &Printed| {
         let mut page = marked_u8(printed.page.len());
         page[before..end].copy_from_slice(&expected_page);
-        differ("reply", &printed.reply, &0)
+        differ("reply", &(printed.reply, printed.ring_length), &(0, ring_length))
             .or_else(|| differ("place", &printed.place, &end))
             .or_else(|| differ("page", &String::from_utf8_lossy(&printed.page), &String::from_utf8_lossy(&page)))
             .or_else(|| rooms_fault(&printed.rooms, &expected_rooms))
@@ -213,7 +201,6 @@ pub fn printing_fault(
 }
 
 /// Reads into marked lists of these lengths, and says what is wrong.
-#[cfg(has_reader)]
 pub fn reading_fault(text: &[u8], units: [usize; 2], rules: [usize; 4]) -> Option<String> {
     let marked = || [units[0], units[1], rules[0], rules[1], rules[2], rules[3]].map(marked_u16);
     let mut rooms = marked();

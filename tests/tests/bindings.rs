@@ -1,11 +1,11 @@
 //! The border crate's own functions, and the examples.
-#![cfg(all(has_reader, has_planner))]
 
 use std::io::Write;
 use std::path::{Path, PathBuf};
 use std::process::{Command, Stdio};
 
 use reference::cases::{self, Says};
+use reference::{enumerated, page};
 use tugrokt::{Answer, Refusal, Sheet};
 
 #[test]
@@ -24,10 +24,8 @@ fn document_cases() {
     }
 }
 
-#[cfg(has_printer)]
 #[test]
 fn pages() {
-    use reference::{enumerated, page};
     for case in cases::all() {
         let page = Sheet::read(&case.sheet.text()).unwrap().page().unwrap();
         assert_eq!(page::fault(&case.sheet, enumerated::solve(&case.sheet).as_ref(), &page), None, "{}", case.name);
@@ -73,19 +71,25 @@ fn bindings() -> PathBuf {
     Path::new(env!("ROOT")).join("bindings")
 }
 
-/// The C example, compiled with all warnings against the header and the libraries.
-#[test]
-fn c_example() {
-    let program = PathBuf::from(env!("CARGO_TARGET_TMPDIR")).join("plan");
+/// A C example, compiled with all warnings against the header and these libraries.
+fn c_example(name: &str, libraries: [&str; 2]) -> PathBuf {
+    let program = PathBuf::from(env!("CARGO_TARGET_TMPDIR")).join(name);
     let compiled = Command::new("cc")
         .args(["-std=c99", "-pedantic", "-Wall", "-Wextra", "-Werror", "-O1", "-I"])
         .arg(bindings())
-        .arg(bindings().join("examples/plan.c"))
-        .args([env!("LIBRARY_READER"), env!("LIBRARY_PLANNER"), "-o"])
+        .arg(bindings().join(format!("examples/{name}.c")))
+        .args(libraries)
+        .arg("-o")
         .arg(&program)
         .output()
         .expect("cc runs");
     assert!(compiled.status.success(), "{}", String::from_utf8_lossy(&compiled.stderr));
+    program
+}
+
+#[test]
+fn planning_from_c() {
+    let program = c_example("plan", [env!("LIBRARY_READER"), env!("LIBRARY_PLANNER")]);
     let run = |text: &[u8]| written(&mut Command::new(&program), text);
     let all = cases::all();
     assert_eq!(run(&all[1].sheet.text()), "unit 1: slot 1, from 1 to 2\nunit 2: slot 3, from 3 to 4\n");
@@ -93,20 +97,38 @@ fn c_example() {
     assert_eq!(run(b"(sheet 49)\n"), "(refused 6 (line 1))\n");
 }
 
+/// The examples that print a page, against the model.
+fn prints_pages(run: impl Fn(&[u8]) -> String) {
+    for case in cases::all() {
+        let page = run(&case.sheet.text());
+        assert_eq!(page::fault(&case.sheet, enumerated::solve(&case.sheet).as_ref(), page.as_bytes()), None, "{}", case.name);
+    }
+    assert_eq!(run(b"(sheet 49)\n"), "(refused 6 (line 1))\n");
+    assert_eq!(run(&[b'x'; 16_001]), "(refused 1 (line 0))\n");
+}
+
 #[test]
-fn rust_examples() {
-    let run = |example: &str, text: &[u8]| {
-        let mut cargo = Command::new(env!("CARGO"));
-        cargo.args(["run", "--offline", "--release", "--quiet", "--example", example]).current_dir(bindings());
-        cargo.env("CARGO_TARGET_DIR", Path::new(env!("CARGO_TARGET_TMPDIR")).join("examples"));
-        written(&mut cargo, text)
-    };
-    let slots = |text: &str| text.lines().filter(|l| l.starts_with("unit ")).map(str::to_string).collect::<Vec<_>>();
-    assert_eq!(slots(&run("plan", b"")), ["unit 1: slot 1, from 1 to 2", "unit 2: slot 3, from 3 to 4"]);
-    let all = cases::all();
-    let p2 = run("sheet", &all[1].sheet.text());
-    assert_eq!(slots(&p2), ["unit 1: slot 1, in lawful plans 1 to 2", "unit 2: slot 3, in lawful plans 3 to 4"]);
-    assert!(p2.ends_with("slot 3: 1, in lawful plans 0 to 1\nslot 4: 0, in lawful plans 0 to 1\n"), "{p2}");
-    assert_eq!(run("sheet", &all[3].sheet.text()), "no plan; a ring of boundaries: [0, 3]\n");
-    assert_eq!(run("sheet", b"(sheet 49)\n"), "(refused 6 (line 1))\n");
+fn printing_from_c() {
+    let program = c_example("sheet", [env!("LIBRARY_READER"), env!("LIBRARY_PRINTER")]);
+    prints_pages(|text| written(&mut Command::new(&program), text));
+}
+
+/// A Rust example, built as its own header says.
+fn rust_example(name: &str, text: &[u8]) -> String {
+    let mut cargo = Command::new(env!("CARGO"));
+    cargo.args(["run", "--offline", "--release", "--quiet", "--example", name]).current_dir(bindings());
+    cargo.env("CARGO_TARGET_DIR", Path::new(env!("CARGO_TARGET_TMPDIR")).join("examples"));
+    written(&mut cargo, text)
+}
+
+#[test]
+fn planning_from_rust() {
+    let said = rust_example("plan", b"");
+    let units: Vec<&str> = said.lines().filter(|l| l.starts_with("unit ")).collect();
+    assert_eq!(units, ["unit 1: slot 1, from 1 to 2", "unit 2: slot 3, from 3 to 4"]);
+}
+
+#[test]
+fn printing_from_rust() {
+    prints_pages(|text| rust_example("sheet", text));
 }

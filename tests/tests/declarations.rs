@@ -98,7 +98,7 @@ fn compare(declared: &BTreeMap<String, Parameters>, c: bool) {
     for (name, parameters) in &exported {
         assert_eq!(declared.get(name), Some(&crossing(parameters, c)), "{name}");
     }
-    for name in declared.keys().filter(|n| cfg!(has_printer) || *n != "tugrokt_print") {
+    for name in declared.keys() {
         assert!(exported.contains_key(name), "no crate exports {name}");
     }
 }

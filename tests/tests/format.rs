@@ -1,5 +1,4 @@
 //! Every example of docs/FORMAT.md: the sheet goes in, exactly the answer comes out.
-#![cfg(all(has_reader, has_planner))]
 
 use std::fs;
 use std::path::Path;
@@ -105,7 +104,6 @@ fn by_reading_and_planning() {
     check(page_by_calls);
 }
 
-#[cfg(has_printer)]
 #[test]
 fn by_printing() {
     check(|text| match tugrokt::Sheet::read(text).and_then(|sheet| sheet.page()) {

@@ -1,5 +1,4 @@
 //! Planning from lists, through the border: reply and every place of every room against the model.
-#![cfg(has_planner)]
 
 use reference::calls::planning_fault;
 use reference::questions::{planning_refusal, Lengths, Lists};

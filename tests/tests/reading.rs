@@ -1,5 +1,4 @@
 //! Reading, through the border: reply, line, counts and every place of every list against the model.
-#![cfg(has_reader)]
 
 use reference::calls::reading_fault;
 use reference::damage::{any_text, note_of_depth, valid};

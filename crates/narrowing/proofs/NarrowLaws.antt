@@ -22,8 +22,8 @@ use Rattle.network.specs.PassFront.{tableOf-same}
 use Rattle.sheet.specs.Sheet.{Window, Sheet, noWindow, top, insideOf, lawful, limit, atLeast, earliest, latest, earliestSlots, latestSlots}
 use Rattle.sheet.specs.PlanLaws.{lawful-iff}
 use Rattle.sheet.specs.LimitLaws.{limit-fwd, limit-back, limit-same, atMost-n}
-use Rattle.sheet.specs.InsideLaws.{howMany-most}
-use Rattle.sheet.specs.LimitTable.{WindowsFit, insideWeights}
+use Rattle.limits.specs.InsideLaws.{howMany-most}
+use Rattle.limits.specs.LimitTable.{WindowsFit, insideWeights}
 use Rattle.sheet.specs.Questions.{windowsOf}
 use Rattle.sheet.specs.QuestionLaws.{windowsOf-length, windowsOf-at}
 use Rattle.seating.specs.FeasibleLaws.{feasible-lawful}

@@ -1,6 +1,6 @@
 use cuts::admits;
 use cuts::least_cut;
-use sheet::inside::windows_inside;
+use limits::inside::windows_inside;
 ghost use mathlib.Core.Path.{_≡_};
 ghost use Prim.Native.Nat.{ℕ, _-_, _*_, _<_, _≤_, max, min};
 ghost use mathlib.Core.List.{_++_};
@@ -9,7 +9,7 @@ ghost use Rattle.lists.specs.Values.{listOf, Filled};
 ghost use Rattle.network.specs.Table.{tableOf, entry};
 ghost use Rattle.sheet.specs.Sheet.{Sheet};
 ghost use Rattle.sheet.specs.Questions.{windowsOf};
-ghost use Rattle.sheet.specs.LimitTable.{WindowsFit, insideWeights};
+ghost use Rattle.limits.specs.LimitTable.{WindowsFit, insideWeights};
 ghost use Rattle.sheet.specs.Limits.{maxUnits};
 ghost use Rattle.cuts.specs.Carry.{Network};
 ghost use Rattle.narrowing.specs.CutSheet.{mirrored, oneLess, ModestTable};

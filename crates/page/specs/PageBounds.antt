@@ -25,7 +25,7 @@ use Rattle.sheet.specs.Limits.{maxSlots, maxUnits, maxCount}
 use Rattle.sheet.specs.Sheet.{Sheet, top, countIn, lawful, lawfulPlans, leastIn, greatestIn, earliest, latest, earliestSlots, latestSlots, soonest, fair, printedPlans, printedPlan, headOr, limit, isRing}
 use Rattle.sheet.specs.PlanLaws.{Lawful, in-lawfulPlans-iff}
 use Rattle.sheet.specs.LimitLaws.{countIn-length}
-use Rattle.sheet.specs.LimitTableLaws.{limit-small}
+use Rattle.limits.specs.LimitTableLaws.{limit-small}
 use Rattle.sheet.specs.Questions.{accepted}
 use Rattle.sheet.specs.QuestionLaws.{accepted-sized, accepted-valid}
 use Rattle.writing.specs.Writing.{text, digits, oneNumber, fourNumbers, planHead, unitLine, slotLine, boundLine}

@@ -15,15 +15,15 @@ use Rattle.integers.specs.Parts.{ints, neg}
 use Rattle.network.specs.Table.{Passed, finished, stopped, outOfRange, tableOf, entry, passOf}
 use Rattle.network.specs.TableLaws.{length-tableOf, row-inside}
 use Rattle.network.specs.PassLaws.{finished-kept}
-use Rattle.sheet.specs.Sheet.{Sheet, top, limit, lawful, printedPlan, earliestSlots, latestSlots, isRing}
+use Rattle.sheet.specs.Sheet.{Sheet, top, boundaries, limit, lawful, printedPlan, earliestSlots, latestSlots, isRing}
 use Rattle.sheet.specs.PlanLaws.{lawful-iff}
-use Rattle.sheet.specs.LimitTable.{boundaries}
 use Rattle.sheet.specs.Solved.{Solved}
 use Rattle.sheet.specs.QuestionLaws.{accepted-valid}
-use Rattle.planner.specs.Planning.{Lists, Rooms, given, places, passed, inRange, refusal, refused, planned, ringed, Verdict, refuse, plan, none, byPass, verdict, Left, numberOf, hasPlan}
-use Rattle.planner.specs.PlanningLaws.{Yes, no-refusal, passed-solved, stopped-unlawful}
-use Rattle.planner.specs.declared.Answer.{Answer}
-use Rattle.planner.specs.declared.Answer.the-variants.{Refused, Plan, None}
+use Rattle.asking.specs.Questions.{Lists, Rooms, given, places, passed, inRange, refusal}
+use Rattle.solving.specs.Planning.{refused, planned, ringed, Verdict, refuse, plan, none, byPass, verdict, Left, numberOf, hasPlan}
+use Rattle.solving.specs.PlanningLaws.{Yes, no-refusal, passed-solved, stopped-unlawful}
+use Rattle.solving.specs.declared.Answer.{Answer}
+use Rattle.solving.specs.declared.Answer.the-variants.{Refused, Plan, None}
 
 -- the call left a plan
 pub record Planned (s : Sheet) (before : Rooms) (reply : Answer) (after : Rooms) : Type 0 where

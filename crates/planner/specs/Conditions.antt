@@ -15,16 +15,16 @@ use Rattle.integers.specs.Parts.{ints, neg}
 use Rattle.network.specs.NetworkLaws.{cycle-infeasible}
 use Rattle.network.specs.Table.{entry, cleared}
 use Rattle.network.specs.TableLaws.{row-inside, values-at, length-values}
-use Rattle.sheet.specs.Sheet.{Sheet, top, limit, lines, lawful, fair, countIn, leastIn, greatestIn, earliest, latest, earliestSlots, latestSlots, printedPlan, isRing}
+use Rattle.sheet.specs.Sheet.{Sheet, top, boundaries, limit, lines, lawful, fair, countIn, leastIn, greatestIn, earliest, latest, earliestSlots, latestSlots, printedPlan, isRing}
 use Rattle.sheet.specs.PotentialLaws.{lawful-feasible}
 use Rattle.sheet.specs.PlanLaws.{lawful-iff, earliest-bound, earliest-attained, latest-bound, latest-attained, greatestIn-bound}
-use Rattle.sheet.specs.LimitTable.{boundaries}
 use Rattle.seating.specs.PrintedLaws.{Printed, some-printed}
 use Rattle.seating.specs.RangeLaws.{solved-plan, range, greatest-entry, least-entry}
-use Rattle.planner.specs.Planning.{Lists, Rooms, given, places, refusal, planned, ringed, verdict, Left, numberOf, hasPlan}
+use Rattle.asking.specs.Questions.{Lists, Rooms, given, places, refusal}
+use Rattle.solving.specs.Planning.{planned, ringed, verdict, Left, numberOf, hasPlan}
 use Rattle.planner.specs.ConditionLaws.{Planned, Ringed, call-refused, call-answered, call-planned}
-use Rattle.planner.specs.declared.Answer.{Answer}
-use Rattle.planner.specs.declared.Answer.the-variants.{Refused, Plan, None}
+use Rattle.solving.specs.declared.Answer.{Answer}
+use Rattle.solving.specs.declared.Answer.the-variants.{Refused, Plan, None}
 
 -- A ring contradicts: where the sheet's limits have one, no plan is lawful.
 pub ring-contradicts : (s : Sheet) (ring : List ℕ) → T (isRing s ring) → (x : List ℕ) → T (lawful s x) → ⊥

@@ -10,12 +10,13 @@ use lib.ListN.{length}
 use Rattle.network.specs.Table.{Passed, finished, stopped, outOfRange, cleared}
 use Rattle.sheet.specs.Sheet.{Sheet}
 use Rattle.sheet.specs.Questions.{accepted}
-use Rattle.planner.specs.Planning.{Lists, Rooms, Question, given, agree, fitsRooms, passed, inRange, firstNo, asked, questions, refusal, refused, lent, places, Verdict, refuse, byPass, verdict, Left}
-use Rattle.planner.specs.PlanningLaws.{asked-yes, asked-positive, asked-not-14, no-before, no-other, yes-past}
-use Rattle.planner.specs.Asking.{askedNo, Solvable}
-use Rattle.planner.specs.declared.Lengths.{Lengths}
-use Rattle.planner.specs.declared.Answer.{Answer}
-use Rattle.planner.specs.declared.Answer.the-variants.{Refused, Plan, None}
+use Rattle.asking.specs.Questions.{Lists, Rooms, Question, given, agree, fitsRooms, passed, inRange, firstNo, asked, questions, refusal, lent, places}
+use Rattle.solving.specs.Planning.{refused, Verdict, refuse, byPass, verdict, Left}
+use Rattle.solving.specs.PlanningLaws.{asked-yes, asked-positive, asked-not-14, no-before, no-other, yes-past}
+use Rattle.asking.specs.Asking.{askedNo, Solvable}
+use Rattle.asking.specs.declared.Lengths.{Lengths}
+use Rattle.solving.specs.declared.Answer.{Answer}
+use Rattle.solving.specs.declared.Answer.the-variants.{Refused, Plan, None}
 
 -- the lengths of the rooms
 abbrev pub lengthsOf : Rooms → Lengths

@@ -1,13 +1,3 @@
-pub mod Planning
-pub mod PlanningLaws
+pub mod EntryLaws
 pub mod ConditionLaws
 pub mod Conditions
-pub mod Asking
-pub mod AskingLaws
-pub mod Deciding
-pub mod DecidingLaws
-pub mod Filling
-pub mod FillingLaws
-pub mod RingLaws
-pub mod SolvingLaws
-pub mod EntryLaws

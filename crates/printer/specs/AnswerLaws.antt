@@ -16,17 +16,17 @@ use Rattle.network.specs.Table.{Passed, finished, entry, tableOf, mostBoundarie
 use Rattle.network.specs.TableLaws.{length-tableOf, entry-front}
 use Rattle.network.specs.PassLaws.{finished-kept}
 use Rattle.sheet.specs.Limits.{maxSlots, maxUnits, maxCount}
-use Rattle.sheet.specs.Sheet.{Sheet, top, limit, earliest, latest, earliestSlots, latestSlots, printedPlan, leastIn, greatestIn, isRing}
+use Rattle.sheet.specs.Sheet.{Sheet, top, boundaries, limit, earliest, latest, earliestSlots, latestSlots, printedPlan, leastIn, greatestIn, isRing}
 use Rattle.sheet.specs.PlanLaws.{lawful-iff}
 use Rattle.sheet.specs.Questions.{accepted}
 use Rattle.sheet.specs.QuestionLaws.{accepted-sized, accepted-valid}
 use Rattle.sheet.specs.Solved.{Solved}
-use Rattle.sheet.specs.LimitTable.{boundaries, limitTable}
-use Rattle.sheet.specs.LimitTableLaws.{limit-small}
+use Rattle.limits.specs.LimitTable.{limitTable}
+use Rattle.limits.specs.LimitTableLaws.{limit-small}
 use Rattle.seating.specs.PrintedLaws.{some-printed}
 use Rattle.seating.specs.RangeLaws.{greatest-entry, least-entry}
-use Rattle.planner.specs.Planning.{places, passed}
-use Rattle.planner.specs.PlanningLaws.{passed-solved}
+use Rattle.asking.specs.Questions.{places, passed}
+use Rattle.solving.specs.PlanningLaws.{passed-solved}
 use Rattle.page.specs.Page.{Printable, tablePage, leastFrom, greatestFrom, RingFits, nonePage}
 use Rattle.page.specs.PageLaws.{SameSlots, planPage-same, nonePage-same}
 use Rattle.page.specs.PageBounds.{RingRead, ring-read}

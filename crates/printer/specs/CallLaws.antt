@@ -10,14 +10,15 @@ use lib.ListN.{length, take, drop}
 use lib.Seq.{take-at}
 use lib.IntN.{ℤ}
 use Rattle.network.specs.Table.{Passed, finished, stopped, outOfRange, cleared, entry}
-use Rattle.sheet.specs.Sheet.{Sheet, printedPlan, earliestSlots, latestSlots, isRing}
-use Rattle.sheet.specs.LimitTable.{boundaries, limitTable}
+use Rattle.sheet.specs.Sheet.{Sheet, printedPlan, earliestSlots, latestSlots, isRing, boundaries}
+use Rattle.limits.specs.LimitTable.{limitTable}
 use Rattle.sheet.specs.Questions.{accepted}
 use Rattle.planner.specs.EntryLaws.{lengthsOf, entry-refused, entry-solved}
-use Rattle.planner.specs.Asking.{askedNo}
-use Rattle.planner.specs.Planning.{Lists, Rooms, given, lent, places, roomsFit, fitsRooms, passed, planned, ringed, refused, Verdict, byPass, Left}
-use Rattle.planner.specs.declared.Answer.{Answer}
-use Rattle.planner.specs.declared.Answer.the-variants as planning
+use Rattle.asking.specs.Asking.{askedNo}
+use Rattle.asking.specs.Questions.{Lists, Rooms, given, lent, places, roomsFit, fitsRooms, passed}
+use Rattle.solving.specs.Planning.{planned, ringed, refused, Verdict, byPass, Left}
+use Rattle.solving.specs.declared.Answer.{Answer}
+use Rattle.solving.specs.declared.Answer.the-variants as planning
 use Rattle.page.specs.Page.{tablePage, nonePage}
 use Rattle.printer.specs.Printing.{planBytes, ringBytes, onFront, holds, Outcome, Asked, PrintingOf, Printing}
 use Rattle.printer.specs.AnswerLaws.{boundaries-span, table-size, seats-size, firsts-size, lasts-size, plan-bytes, ring-bytes}

@@ -12,16 +12,17 @@ use lib.IntN.{ℤ}
 use Rattle.lists.specs.Members.{both, left, right}
 use Rattle.network.specs.Table.{Passed, finished, stopped, outOfRange, cleared, entry}
 use Rattle.sheet.specs.Limits.{maxUnits}
-use Rattle.sheet.specs.Sheet.{Sheet, top, printedPlan, earliestSlots, latestSlots, isRing}
-use Rattle.sheet.specs.LimitTable.{boundaries, limitTable, Fillable}
+use Rattle.sheet.specs.Sheet.{Sheet, top, boundaries, printedPlan, earliestSlots, latestSlots, isRing}
+use Rattle.limits.specs.LimitTable.{limitTable, Fillable}
 use Rattle.sheet.specs.Questions.{accepted, sheetOf}
 use Rattle.sheet.specs.QuestionLaws.{accepted-sized, listsAgree-read}
-use Rattle.planner.specs.Planning.{Lists, Rooms, given, lent, places, roomsFit, fitsRooms, passed, planned, ringed, byPass, Left}
-use Rattle.planner.specs.Asking.{Solvable}
-use Rattle.planner.specs.AskingLaws.{units-length}
-use Rattle.planner.specs.SolvingLaws.{RoomsHold, limits-asked}
-use Rattle.planner.specs.declared.Answer.{Answer}
-use Rattle.planner.specs.declared.Answer.the-variants as planning
+use Rattle.asking.specs.Questions.{Lists, Rooms, given, lent, places, roomsFit, fitsRooms, passed}
+use Rattle.solving.specs.Planning.{planned, ringed, byPass, Left}
+use Rattle.asking.specs.Asking.{Solvable}
+use Rattle.asking.specs.AskingLaws.{units-length}
+use Rattle.solving.specs.SolvingLaws.{RoomsHold, limits-asked}
+use Rattle.solving.specs.declared.Answer.{Answer}
+use Rattle.solving.specs.declared.Answer.the-variants as planning
 use Rattle.page.specs.PageBounds.{ring-read}
 use Rattle.page.specs.Page.{Printable, tablePage, RingFits, nonePage}
 use Rattle.printer.specs.Printing.{onFront, holds, Asked, PrintingOf}

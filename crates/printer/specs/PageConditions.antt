@@ -13,12 +13,13 @@ use lib.Seq.{take-at}
 use borrow.Author.Tests.{leb-true, le-leb}
 use Rattle.lists.specs.Members.{In}
 use Rattle.sheet.specs.Sheet.{Sheet, limit, leastIn, greatestIn, printedPlan, earliestSlots, latestSlots}
-use Rattle.planner.specs.Planning.{Lists, Rooms, given, refusal, verdict, Left, numberOf as planningNumber}
-use Rattle.planner.specs.PlanningLaws.{no-refusal}
+use Rattle.asking.specs.Questions.{Lists, Rooms, given, refusal}
+use Rattle.solving.specs.Planning.{verdict, Left, numberOf as planningNumber}
+use Rattle.solving.specs.PlanningLaws.{no-refusal}
 use Rattle.planner.specs.ConditionLaws.{call-answered}
 use Rattle.planner.specs.Conditions.{number-is-first-no}
-use Rattle.planner.specs.declared.Answer.{Answer}
-use Rattle.planner.specs.declared.Answer.the-variants as planning
+use Rattle.solving.specs.declared.Answer.{Answer}
+use Rattle.solving.specs.declared.Answer.the-variants as planning
 use Rattle.writing.specs.Writing.{onto, Room, Written}
 use Rattle.page.specs.Page.{maxPage}
 use Rattle.page.specs.PageBounds.{plan-short, none-short}

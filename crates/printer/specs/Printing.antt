@@ -7,9 +7,10 @@ use Prim.Native.Nat.{ℕ, _+_}
 use lib.Dec.{leb}
 use lib.ListN.{length, take, drop}
 use Rattle.sheet.specs.Sheet.{Sheet, limit, leastIn, greatestIn, printedPlan, earliestSlots, latestSlots}
-use Rattle.planner.specs.Planning.{Lists, Rooms, given, Verdict, verdict, Left}
-use Rattle.planner.specs.declared.Answer.{Answer}
-use Rattle.planner.specs.declared.Answer.the-variants as planning
+use Rattle.asking.specs.Questions.{Lists, Rooms, given}
+use Rattle.solving.specs.Planning.{Verdict, verdict, Left}
+use Rattle.solving.specs.declared.Answer.{Answer}
+use Rattle.solving.specs.declared.Answer.the-variants as planning
 use Rattle.writing.specs.Writing.{onto}
 use Rattle.page.specs.Page.{planPage, nonePage}
 use Rattle.printer.specs.declared.Printed.{Printed}
@@ -77,3 +78,11 @@ pub record PrintingOf (v : Verdict) (s : Sheet) (before : Rooms) (page : List �
 -- a call of print, from its lists and rooms, its page and its place
 abbrev pub Printing : Lists → Rooms → List ℕ → ℕ → Printed → Rooms → List ℕ → Type 0
 Printing l before page at reply after left = PrintingOf (verdict l before) (given l) before page at reply after left
+
+-- the same with the reply as document 01's numbers
+pub record Told (l : Lists) (before : Rooms) (page : List ℕ) (at : ℕ) (number place length : ℕ) (after : Rooms) (left : List ℕ) : Type 0 where
+  pub reply : Printed
+  pub call : Printing l before page at reply after left
+  pub number-is : number ≡ numberOf reply
+  pub place-is : place ≡ placeAfter at reply
+  pub length-is : length ≡ ringLength reply

@@ -9,7 +9,7 @@ use lib.Dec.{leb}
 use lib.ListN.{length}
 use lib.IntN.{ℤ}
 use borrow.Author.Tests.{leb-true}
-use Rattle.planner.specs.Planning.{Rooms, lent}
+use Rattle.asking.specs.Questions.{Rooms, lent}
 use Rattle.writing.specs.Writing.{onto, Room, Written}
 use Rattle.printer.specs.Printing.{holds, Outcome, Asked}
 use Rattle.printer.specs.declared.Printed.{Printed}

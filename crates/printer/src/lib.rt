@@ -7,10 +7,11 @@ ghost use lib.ListN.{length, getD, drop};
 ghost use mathlib.Core.List.{[]};
 ghost use Rattle.network.specs.Table.{entry, cleared};
 ghost use Rattle.sheet.specs.Questions.{sheetOf};
-ghost use Rattle.planner.specs.Planning.{listed, lent, passed, byPass};
-ghost use Rattle.planner.specs.Asking.{Solvable};
+ghost use Rattle.asking.specs.Questions.{listed, lent, passed};
+ghost use Rattle.solving.specs.Planning.{byPass};
+ghost use Rattle.asking.specs.Asking.{Solvable};
 ghost use Rattle.page.specs.Page.{Printable, tablePage, RingFits, nonePage};
-ghost use Rattle.printer.specs.Printing.{holds as holdsAnswer, onFront, Asked, PrintingOf, Printing};
+ghost use Rattle.printer.specs.Printing.{holds as holdsAnswer, onFront, Asked, PrintingOf, Printing, Told};
 
 // What a call answers: the number of the refusal; a plan; or none, with the length of the ring. An answer has the place just past it.
 pub enum Printed {
@@ -162,7 +163,7 @@ fn print_solved(
     let mut firsts = [0u16; 300];
     let mut lasts = [0u16; 300];
     let mut found = [0u16; 49];
-    let answer = planner::solve(
+    let answer = solving::solve(
         span,
         first,
         last,
@@ -180,11 +181,11 @@ fn print_solved(
     let cells = w * w;
     let n = first.len();
     match answer {
-        planner::Answer::Refused(no) => {
+        solving::Answer::Refused(no) => {
             network::clear(cells, table);
             Printed::Refused(no)
         }
-        planner::Answer::Plan => print_plan(
+        solving::Answer::Plan => print_plan(
             span,
             &closed[..cells],
             &seats[..n],
@@ -197,8 +198,8 @@ fn print_solved(
             page,
             at,
         ),
-        planner::Answer::None(k) => {
-            sheet::fill::fill_limits(span, first, last, from, to, low, high, &mut closed);
+        solving::Answer::None(k) => {
+            limits::fill::fill_limits(span, first, last, from, to, low, high, &mut closed);
             print_ring(&closed, w, &found[..k], table, ring, page, at)
         }
     }
@@ -227,14 +228,14 @@ pub fn print(
         (lent (now (table .entry)) (now (plan .entry)) (now (earliest .entry)) (now (latest .entry)) (now (ring .entry))) (now (page .entry)) at r
         (lent (now (table .exit)) (now (plan .exit)) (now (earliest .exit)) (now (latest .exit)) (now (ring .exit))) (now (page .exit)) ⌝ }
 {
-    let rooms = planner::Lengths {
+    let rooms = asking::Lengths {
         table: table.len(),
         plan: plan.len(),
         earliest: earliest.len(),
         latest: latest.len(),
         ring: ring.len(),
     };
-    let no = planner::ask(span, first, last, from, to, low, high, rooms);
+    let no = asking::ask(span, first, last, from, to, low, high, rooms);
     if no == 0 {
         print_solved(
             span,
@@ -254,5 +255,66 @@ pub fn print(
         )
     } else {
         Printed::Refused(no)
+    }
+}
+
+// The same for other languages, with numbers and slices only: the refusal's number, 0 where there is none. The running place is moved past what was
+// printed; the ring's length is 0 where there is none.
+#[no_mangle]
+pub extern "C" fn tugrokt_print(
+    span: usize,
+    first: &[u16],
+    last: &[u16],
+    from: &[u16],
+    to: &[u16],
+    low: &[u16],
+    high: &[u16],
+    table: &mut [i16],
+    seats: &mut [u16],
+    earliest: &mut [u16],
+    latest: &mut [u16],
+    ring: &mut [u16],
+    page: &mut [u8],
+    place: &mut usize,
+    length: &mut usize,
+) -> usize
+    ensures { λ r.
+        ⌜ Told (listed span (now (first .entry)) (now (last .entry)) (now (from .entry)) (now (to .entry)) (now (low .entry)) (now (high .entry)))
+        (lent (now (table .entry)) (now (seats .entry)) (now (earliest .entry)) (now (latest .entry)) (now (ring .entry))) (now (page .entry))
+        (now (place .entry)) r (now (place .exit)) (now (length .exit))
+        (lent (now (table .exit)) (now (seats .exit)) (now (earliest .exit)) (now (latest .exit)) (now (ring .exit))) (now (page .exit)) ⌝ }
+{
+    let at = *place;
+    let printed = print(
+        span,
+        first,
+        last,
+        from,
+        to,
+        low,
+        high,
+        table,
+        seats,
+        earliest,
+        latest,
+        ring,
+        page,
+        at,
+    );
+    match printed {
+        Printed::Refused(number) => {
+            *length = 0;
+            number
+        }
+        Printed::Plan(next) => {
+            *place = next;
+            *length = 0;
+            0
+        }
+        Printed::None(n, next) => {
+            *place = next;
+            *length = n;
+            0
+        }
     }
 }

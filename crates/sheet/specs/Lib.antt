@@ -7,8 +7,3 @@ pub mod PotentialLaws
 pub mod Questions
 pub mod QuestionLaws
 pub mod Solved
-pub mod Tightened
-pub mod EntryLaws
-pub mod LimitTable
-pub mod InsideLaws
-pub mod LimitTableLaws

@@ -46,6 +46,10 @@ pub record Sheet : Type 0 where
 unfoldable pub top : Sheet → Boundary
 top s = s .span
 
+-- how many boundaries a sheet has
+abbrev pub boundaries : Sheet → ℕ
+boundaries s = suc (top s)
+
 -- ---- lawful plans
 
 -- a plan's count in the slots f to t

@@ -2,7 +2,7 @@
 use borrow.Author.Needs.{needs}
 use Prim.Native.Nat.{_+_, _*_, _<_}
 use native.Mathlib.Omega.{arith}
-use Rattle.sheet.specs.EntryLaws.{place-inside}
+use Rattle.limits.specs.EntryLaws.{place-inside}
 use Rattle.page.proofs.entry_at.Statement.{statement}
 use Rattle.page.proofs.entry_at.Tie as tie
 

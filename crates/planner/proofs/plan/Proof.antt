@@ -1,6 +1,6 @@
 use borrow.Author.Needs.{needs}
 use mathlib.Core.Path.{sym, _∙_}
-use Rattle.planner.specs.Planning.{listed, lent}
+use Rattle.asking.specs.Questions.{listed, lent}
 use Rattle.planner.specs.EntryLaws.{entry-refused, entry-solvable, entry-solved}
 use Rattle.planner.proofs.plan.Statement.{statement}
 use Rattle.planner.proofs.plan.Tie as tie

@@ -1,6 +1,6 @@
 use borrow.Author.Needs.{needs}
 use mathlib.Core.Path.{sym, ap}
-use Rattle.planner.specs.Planning.{numberOf, ringLength}
+use Rattle.solving.specs.Planning.{numberOf, ringLength}
 use Rattle.planner.proofs.tugrokt_plan.Statement.{statement}
 use Rattle.planner.proofs.tugrokt_plan.Tie as tie
 

@@ -1,7 +1,7 @@
 -- The questions before the pass decide, or what is printed of the solved sheet does.
 use mathlib.Core.Path.{sym, _∙_}
 use denote.Ref.{now}
-use Rattle.planner.specs.Planning.{Lists, Rooms, listed, lent}
+use Rattle.asking.specs.Questions.{Lists, Rooms, listed, lent}
 use Rattle.planner.specs.EntryLaws.{entry-solvable}
 use Rattle.printer.specs.CallLaws.{refused-printed, solved-printed}
 use Rattle.printer.proofs.print.Statement.{statement}

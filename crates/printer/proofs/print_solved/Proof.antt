@@ -10,7 +10,8 @@ use lib.Dec.{T}
 use lib.IntN.{ℤ, pos}
 use Rattle.network.specs.Table.{finished, stopped}
 use Rattle.sheet.specs.Sheet.{isRing}
-use Rattle.planner.specs.Planning.{Lists, Rooms, listed, lent, given, passed, planned, ringed, byPass, Left}
+use Rattle.asking.specs.Questions.{Lists, Rooms, listed, lent, given, passed}
+use Rattle.solving.specs.Planning.{planned, ringed, byPass, Left}
 use Rattle.printer.specs.OwnLaws.{ownCells, own-solvable, span-few, cells-few, cells-lent, refused-own, plan-own, none-own, closed-long, seats-long, firsts-long, lasts-long, plan-asked, plan-shown, ring-long, limits-fillable, ring-asked, ring-shown}
 use borrow.Author.Needs.{needs}
 use Rattle.printer.proofs.print_solved.Statement.{statement}

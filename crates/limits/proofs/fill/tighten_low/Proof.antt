@@ -1,0 +1,53 @@
+use borrow.Author.Needs.{needs}
+use mathlib.Core.Path.{_≡_, ap, _∙_}
+use lib.ListN.{getD, set}
+use lib.IntN.{ℤ, pos, negℤ}
+use mir.Syntax.{w16}
+use mir.Val.{SFits}
+use mir.Facts.{toZ-ofZ}
+use Rattle.integers.specs.Parts.{minℤ}
+use Rattle.limits.specs.declared.limit.Limit.{Limit}
+use Rattle.limits.specs.Tightened.{withLow}
+use Rattle.limits.proofs.fill.tighten_low.Statement.{statement}
+use Rattle.limits.proofs.fill.tighten_low.Tie as tie
+
+mul-t7 : tie.Need-mul-t7
+mul-t7 c = search needs
+
+slice-copy-out-t9 : tie.Need-slice-copy-out-t9
+slice-copy-out-t9 c = search needs
+
+with-low-requires : tie.Need-with-low-requires
+with-low-requires c κs = search needs
+
+mul-value : tie.Need-mul-value
+mul-value c = search needs
+
+slice-set-from-value : tie.Need-slice-set-from-value
+slice-set-from-value c = search needs
+
+same-length : tie.Need-same-length
+same-length c = search needs
+
+returns : tie.Need-returns
+unfolding withLow
+returns c =
+    let a = c .before .before .before .args in
+    let x = getD (a .t .now) (a .at) (pos 0) in
+    let r = c .before .with-low .result in
+    let fx : SFits w16 x = search needs in
+    let fr : SFits w16 (r .value) = search needs in
+    let e : r .value ≡ minℤ x (negℤ (pos (a .low))) = simp (toZ-ofZ fx) at (ap (λ (l : Limit). l .value) (c .before .with-low .ensures)) in
+    ap (set (a .t .now) (a .at)) (toZ-ofZ fr ∙ e)
+
+pub tighten-low-spec : {M : Type 1} → statement M
+tighten-low-spec =
+    tie.close
+    (tie.spec
+    mul-t7
+    slice-copy-out-t9
+    with-low-requires
+    mul-value
+    slice-set-from-value
+    same-length
+    returns)

@@ -1,0 +1,30 @@
+use borrow.Author.Needs.{needs}
+use mathlib.Core.Path.{_≡_, ap, _∙_}
+use lib.IntN.{ℤ, pos, negℤ}
+use mir.Syntax.{w16}
+use mir.Val.{SFits}
+use mir.Facts.{toZ-ofZ}
+use Rattle.integers.specs.Parts.{minℤ}
+use Rattle.limits.specs.declared.limit.Limit.{Limit}
+use Rattle.limits.specs.Tightened.{withHigh}
+use Rattle.limits.proofs.limit.Limit.with_high.Statement.{statement}
+use Rattle.limits.proofs.limit.Limit.with_high.Tie as tie
+
+signed-requires : tie.Need-signed-requires
+signed-requires c κs = search needs
+
+lesser-requires : tie.Need-lesser-requires
+lesser-requires c κs = search needs
+
+returns : tie.Need-returns
+unfolding withHigh
+returns c =
+    let a = c .before .before .before .args in
+    let fv : SFits w16 (a .self .value) = search needs in
+    let fs : SFits w16 (c .before .signed .result) = search needs in
+    let fr : SFits w16 (c .lesser .result) = search needs in
+    let e : c .lesser .result ≡ minℤ (a .self .value) (c .before .signed .result) = simp (toZ-ofZ fv, toZ-ofZ fs) at (c .lesser .ensures) in
+    ap (λ (z : ℤ). record { value = z }) (toZ-ofZ fr ∙ e ∙ ap (minℤ (a .self .value)) (c .before .signed .ensures))
+
+pub with-high-spec : {M : Type 1} → statement M
+with-high-spec = tie.close (tie.spec signed-requires lesser-requires returns)

@@ -1,0 +1,5 @@
+pub mod Tightened
+pub mod LimitTable
+pub mod EntryLaws
+pub mod InsideLaws
+pub mod LimitTableLaws

@@ -1,0 +1,119 @@
+-- What an accepted sheet in parallel lists gives to code, and the size of its limits.
+use mathlib.Core.Path.{_≡_, refl, sym, ap, _∙_, subst}
+use mathlib.Core.Bool.{Bool, true, false, _&&_}
+use mathlib.Core.List.{List, [], _∷_, _++_, List·Memᴰ·head, List·Memᴰ·tail}
+use Prim.Native.Nat.{ℕ, zero, suc, _+_, _*_, _≤_, _<_}
+use native.Mathlib.Omega.{arith}
+use native.Mathlib.Decide.{decLe}
+use lib.Dec.{T}
+use lib.ListN.{length, getD, drop, length-append, length-drop}
+use lib.IntN.{ℤ, pos, negsuc, negℤ}
+use lib.Signed.{_≤ℤ_}
+use Rattle.integers.specs.Parts.{up, dn, ints, neg}
+use Rattle.lists.specs.Members.{In}
+use Rattle.network.specs.Table.{mostBoundaries, tableOf, entry}
+use Rattle.network.specs.TableLaws.{length-tableOf, entry-front}
+use Rattle.sheet.specs.Limits.{maxUnits, maxCount}
+use Rattle.sheet.specs.Sheet.{Window, Rule, Sheet, top, boundaries, noWindow, insideOf, atMost, atLeast, limit}
+use Rattle.sheet.specs.PlanLaws.{noRule}
+use Rattle.sheet.specs.LimitLaws.{limit-fwd, limit-back, limit-same, atMost-n, atLeast-le}
+use Rattle.sheet.specs.Questions.{windowsOf, rulesOf, sheetOf, listsAgree, accepted}
+use Rattle.sheet.specs.QuestionLaws.{Agree, listsAgree-read, windowsOf-length, windowsOf-at, rulesOf-length, rulesOf-at}
+use Rattle.sheet.specs.QuestionLaws.{Sized, accepted-sized, accepted-valid}
+use Rattle.limits.specs.LimitTable.{WindowsFit, limitTable}
+use Rattle.limits.specs.InsideLaws.{howMany-most}
+
+in-at : (d : Rule) (rs : List Rule) (k : ℕ) → k < length rs → In (getD rs k d) rs
+in-at d [] k h = absurd (omega arith)
+in-at d (r ∷ rs) zero h = List·Memᴰ·head refl
+in-at d (r ∷ rs) (suc k) h = List·Memᴰ·tail (in-at d rs k (omega arith))
+
+-- a rule's fields, by line
+pub record RuleFits (span f t l h : ℕ) : Type 0 where
+  pub starts : 1 ≤ f
+  pub ordered : f ≤ t
+  pub ends : t < span + 1
+  pub low : l ≤ maxCount
+  pub high : h ≤ maxCount
+
+module _ (span : ℕ) (first last from to low high : List ℕ) (ok : T (accepted (sheetOf span first last from to low high)))
+    (agree : T (listsAgree first last from to low high)) where
+  lists : Agree first last from to low high
+  lists = listsAgree-read first last from to low high agree
+
+  pub accepted-windows : WindowsFit (span + 1) first last
+  unfolding sheetOf top
+  accepted-windows = record {
+    paired = lists .windows;
+    few = omega (arith, windowsOf-length first last (lists .windows), accepted-sized (sheetOf span first last from to low high) ok .units);
+    each = λ j h.
+        let e = windowsOf-at first last (lists .windows) j h in
+        let w = getD (windowsOf first last) j noWindow in
+        let v : (1 ≤ w .first) × (w .first ≤ w .last) × (w .last ≤ span)
+        = accepted-valid (sheetOf span first last from to low high) ok .windows j (omega (arith, windowsOf-length first last (lists .windows))) in
+        let x = rw e at v in
+        (x .0, x .1, omega (arith, x .2));
+  }
+
+  pub accepted-rule : (k : ℕ) → k < length from → RuleFits span (getD from k 0) (getD to k 0) (getD low k 0) (getD high k 0)
+  unfolding sheetOf top
+  accepted-rule k h =
+      let rs = rulesOf from to low high in
+      let r : Rule = record { from = getD from k 0; to = getD to k 0; low = getD low k 0; high = getD high k 0 } in
+      let e : getD rs k noRule ≡ r = rulesOf-at from to low high (lists .stretches) (lists .lows) (lists .highs) k h in
+      let n : length rs ≡ length from = rulesOf-length from to low high (lists .stretches) (lists .lows) (lists .highs) in
+      let m : In r rs = subst (λ (q : Rule). In q rs) e (in-at noRule rs k (omega arith)) in
+      let v = accepted-valid (sheetOf span first last from to low high) ok .stretches r m in
+      let c = accepted-sized (sheetOf span first last from to low high) ok .counts r m in
+      record { starts = v .0; ordered = v .1; ends = omega (arith, v .2); low = omega (arith, c .0, c .1); high = c .1 }
+
+  pub accepted-span : span ≤ 48
+  unfolding sheetOf
+  accepted-span = accepted-sized (sheetOf span first last from to low high) ok .slots .1
+
+pub boundaries-are : (span : ℕ) (first last from to low high : List ℕ) → boundaries (sheetOf span first last from to low high) ≡ span + 1
+unfolding sheetOf top
+boundaries-are span first last from to low high = omega arith
+
+-- every limit of an accepted sheet is within 300 of 0
+pub limit-small : (s : Sheet) → T (accepted s) → (a b : ℕ) → (up (limit s a b) ≤ maxCount) × (dn (limit s a b) ≤ maxCount)
+limit-small s ok a b =
+    let size = accepted-sized s ok in
+    elim (decLe b a) [
+      | no g ↦ rw (limit-fwd s a b (omega arith)) (omega (arith, atMost-n s (suc a) b), omega arith)
+      | yes l ↦ elim (decLe a b) [
+        | no g ↦
+            let k : atLeast s (suc b) a ≤ maxCount = atLeast-le s (suc b) a maxCount
+            (omega (arith, howMany-most (insideOf (suc b) a) (s .units))) (λ r m e f. omega (arith, size .counts r m)) in
+            rw (limit-back s a b (omega arith)) (omega (arith, neg (pos (atLeast s (suc b) a))), omega (arith, neg (pos (atLeast s (suc b) a))))
+        | yes k ↦ let e : b ≡ a = omega arith in rw (e, limit-same s a) (omega arith, omega arith)
+      ]
+    ]
+
+-- ---- the filled table, as a pass over it and a search of its cycles ask
+
+pub boundaries-fit : (s : Sheet) → T (accepted s) → (2 ≤ boundaries s) × (boundaries s ≤ mostBoundaries)
+unfolding top
+boundaries-fit s ok = let n = accepted-sized s ok .slots in (omega arith, omega arith)
+
+module _ (s : Sheet) (t : List ℤ) where
+  pub length-limitTable : boundaries s * boundaries s ≤ length t → length (limitTable s t) ≡ length t
+  length-limitTable h =
+      let w = boundaries s in
+      length-append (tableOf w (limit s)) (drop (w * w) t) ∙ omega (arith, length-tableOf w (limit s), length-drop (w * w) t)
+
+  module _ (a b : ℕ) (ha : a < boundaries s) (hb : b < boundaries s) where
+    pub limitTable-at : entry (boundaries s) (limitTable s t) a b ≡ limit s a b
+    limitTable-at = entry-front (boundaries s) (limit s) (drop (boundaries s * boundaries s) t) a b ha hb
+
+    pub limitTable-small : T (accepted s)
+        → (negsuc 299 ≤ℤ entry (boundaries s) (limitTable s t) a b) × (entry (boundaries s) (limitTable s t) a b ≤ℤ pos 300)
+    limitTable-small ok =
+        let e = limitTable-at in
+        let k = limit-small s ok a b in
+        let p : negsuc 299 ≤ℤ limit s a b = omega ints in
+        let q : limit s a b ≤ℤ pos 300 = omega ints in
+        rw e (p, q)
+
+  pub limitTable-diagonal : (a : ℕ) → a < boundaries s → entry (boundaries s) (limitTable s t) a a ≡ pos 0
+  limitTable-diagonal a h = limitTable-at a a h h ∙ limit-same s a

@@ -1,0 +1,88 @@
+ghost use mathlib.Core.Path.{_≡_};
+ghost use mathlib.Core.List.{_++_};
+ghost use Prim.Native.Nat.{ℕ, _+_, _-_, _*_, _<_, _≤_};
+ghost use lib.ListN.{length, drop};
+ghost use lib.IntN.{ℤ, pos, negℤ};
+ghost use Rattle.network.specs.Table.{tableOf, entry};
+ghost use Rattle.sheet.specs.Limits.{maxUnits, maxCount};
+ghost use Rattle.sheet.specs.Questions.{sheetOf};
+ghost use Rattle.limits.specs.LimitTable.{withForward, lowered, limitTable, Fillable};
+use crate::back_place;
+use crate::forward_place;
+use crate::inside::windows_inside;
+use crate::limit::Limit;
+use crate::limit::signed;
+
+// n on every forward step.
+pub fn fill_forward(n: usize, w: usize, t: &mut [i16])
+    requires { ⌜ (n ≤ maxUnits) × (w * w ≤ length (now t)) ⌝ }
+    ensures { λ _. ⌜ now (t .exit) ≡ tableOf w (withForward n (entry w (now (t .entry)))) ++ drop (w * w) (now (t .entry)) ⌝ }
+{
+    let most = signed(n as u16);
+    for a in 0..w {
+        let row = a * w;
+        let mut b = w;
+        while a + 1 < b {
+            b -= 1;
+            t[row + b] = most;
+        }
+    }
+}
+
+// The limit at a place takes a rule's high.
+pub fn tighten_high(at: usize, high: u16, t: &mut [i16])
+    requires { ⌜ (at < length (now t)) × (high ≤ maxCount) ⌝ }
+    ensures { λ _. ⌜ now (t .exit) ≡ lowered at (pos high) (now (t .entry)) ⌝ }
+{
+    let step = Limit { value: t[at] };
+    let tighter = step.with_high(high);
+    let value = tighter.value;
+    t[at] = value;
+}
+
+// The limit at a place takes a rule's low.
+pub fn tighten_low(at: usize, low: u16, t: &mut [i16])
+    requires { ⌜ (at < length (now t)) × (low ≤ maxCount) ⌝ }
+    ensures { λ _. ⌜ now (t .exit) ≡ lowered at (negℤ (pos low)) (now (t .entry)) ⌝ }
+{
+    let step = Limit { value: t[at] };
+    let tighter = step.with_low(low);
+    let value = tighter.value;
+    t[at] = value;
+}
+
+// A rule on exactly its stretch: its high on the step forward, its low on the step back.
+pub fn apply_rule(from: u16, to: u16, low: u16, high: u16, w: usize, t: &mut [i16])
+    requires { ⌜ (1 ≤ from) × (from ≤ to) × (to < w) × (low ≤ maxCount) × (high ≤ maxCount) × (w * w ≤ length (now t)) ⌝ }
+    ensures { λ _. ⌜ now (t .exit) ≡ lowered (to * w + (from - 1)) (negℤ (pos low)) (lowered ((from - 1) * w + to) (pos high) (now (t .entry))) ⌝ }
+{
+    tighten_high(forward_place(from, to, w), high, t);
+    tighten_low(back_place(from, to, w), low, t);
+}
+
+// The limits of all steps: windows inside, n on every forward step, and every rule.
+pub fn fill_limits(
+    span: usize,
+    first: &[u16],
+    last: &[u16],
+    from: &[u16],
+    to: &[u16],
+    low: &[u16],
+    high: &[u16],
+    t: &mut [i16],
+)
+    requires { ⌜ Fillable span (now first) (now last) (now from) (now to) (now low) (now high) (length (now t)) ⌝ }
+    ensures { λ _.
+        let s = sheetOf span (now (first .entry)) (now (last .entry)) (now (from .entry)) (now (to .entry)) (now (low .entry)) (now (high .entry)) in
+        ⌜ now (t .exit) ≡ limitTable s (now (t .entry)) ⌝ }
+{
+    let w = span + 1;
+    windows_inside(first, last, w, t);
+    fill_forward(first.len(), w, t);
+    // From the last rule to the first, as the list of rules is built.
+    let mut k = from.len();
+    while 0 < k {
+        k -= 1;
+        apply_rule(from[k], to[k], low[k], high[k], w, t);
+    }
+}
