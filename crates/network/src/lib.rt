@@ -72,7 +72,15 @@ fn sums_fit(ends: Extremes, am: i16) -> bool
     true
 }
 
-// A row's columns are taken in stretches of 64. That is a whole row here, so the compiler makes one loop of vectors of it.
+// How many stretches of 64 columns a row has. It is one here, and the compiler sees that: the row step becomes one loop of vectors.
+fn stretches(w: usize) -> usize
+    requires { ⌜ w ≤ mostBoundaries ⌝ }
+    ensures { λ r. ⌜ (w ≤ r * 64) × (r * 64 < w + 64) ⌝ }
+{
+    (w + 63) / 64
+}
+
+// Where the stretch that starts at b ends.
 fn stretch_end(b: usize, w: usize) -> usize
     requires { ⌜ b < w ⌝ }
     ensures { λ r. ⌜ r ≡ min (b + 64) w ⌝ }
@@ -118,15 +126,15 @@ fn run_middles(t: &mut [i16], w: usize, from: usize, to: usize) -> Outcome
                 outcome = Outcome::OutOfRange;
                 break 'pass;
             }
-            let mut b = 0;
-            while b < w {
+            let n = stretches(w);
+            for k in 0..n {
+                let b = k * 64;
                 let e = stretch_end(b, w);
                 relax_row(&mut row[b..e], &mid[b..e], am);
                 if integers::less(row[a], 0) {
                     outcome = Outcome::Stopped;
                     break 'pass;
                 }
-                b = e;
             }
         }
     }
