@@ -112,7 +112,6 @@ fn by_printing() {
     });
 }
 
-#[cfg(has_wave)]
 #[test]
 fn by_the_program() {
     check(|text| reference::program::run(text, &[], None));

@@ -1,5 +1,4 @@
 //! The program, through pipes.
-#![cfg(has_wave)]
 
 use std::time::Duration;
 

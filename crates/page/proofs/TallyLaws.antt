@@ -1,24 +1,21 @@
--- Counting by one store a unit, and the page of a plan with the counts so found.
+-- Counting by one store a unit.
 -- Key idea: one unit more raises the count of its own slot by one and no other, and so does the store.
-use mathlib.Core.Path.{_≡_, refl, sym, ap, _∙_, subst}
-use mathlib.Core.Bool.{Bool, true, false}
+use mathlib.Core.Path.{_≡_, refl, sym, ap, _∙_}
+use mathlib.Core.Bool.{Bool}
 use mathlib.Core.List.{List, [], _∷_, _++_}
-use Prim.Native.Nat.{ℕ, suc, _+_, _≤_, _<_}
+use Prim.Native.Nat.{ℕ, _+_, _≤_, _<_}
 use native.Mathlib.Omega.{arith}
 use native.Mathlib.Decide.{ℕ-discrete}
 use native.Mathlib.Numerals.{add-one}
 use lib.Dec.{eqb}
-use lib.ListN.{length, getD, take, set, replicate, length-set, length-replicate, length-take, getD-replicate}
+use lib.ListN.{length, getD, take, set, replicate, length-set, length-take, getD-replicate}
 use lib.Seq.{take-suc, take-all, getD-set-same, getD-set-other, ext-getD}
 use borrow.Author.Tests.{eq-eqb, ne-eqb}
-use Rattle.lists.specs.Lists.{howMany, oneIf, joined}
+use Rattle.lists.specs.Lists.{howMany, oneIf}
 use Rattle.lists.specs.Counts.{howMany-count, count-most}
-use Rattle.lists.specs.Values.{length-listOf, listOf-at}
 use Rattle.network.specs.Table.{mostBoundaries}
-use Rattle.sheet.specs.Limits.{maxSlots}
-use Rattle.writing.specs.Writing.{planHead}
-use Rattle.page.specs.Page.{unitsIn, tally, unitLines, slotLines, planPage}
-use Rattle.page.specs.PageLaws.{three-length, SameSlots, slotLines-same}
+use Rattle.page.specs.Page.{unitsIn, tally}
+use Rattle.page.specs.PageLaws.{tally-at, tally-length}
 
 howMany-last : (t : ℕ → Bool) (xs : List ℕ) (x : ℕ) → howMany t (xs ++ (x ∷ [])) ≡ howMany t xs + oneIf (t x)
 howMany-last t [] x = omega arith
@@ -62,35 +59,8 @@ module _ {plan : List ℕ} {j : ℕ} {counts : List ℕ} (less : j < length plan
     at = λ t g. omega (arith, c .at t g, one-more t, ap oneIf (ne-eqb t (getD plan j 0) (λ e. omega arith)));
   }
 
-pub tally-at : (plan : List ℕ) (t : ℕ) → t < mostBoundaries → getD (tally plan) t 0 ≡ unitsIn plan t
-unfolding tally
-tally-at plan t h = listOf-at (unitsIn plan) mostBoundaries t 0 h
-
-pub tally-length : (plan : List ℕ) → length (tally plan) ≡ mostBoundaries
-unfolding tally
-tally-length plan = length-listOf (unitsIn plan) mostBoundaries
-
 -- all units are counted
 pub counted-all : {plan : List ℕ} {j : ℕ} {counts : List ℕ} → length plan ≤ j → Counted plan j counts → counts ≡ tally plan
 counted-all {plan} {j} {counts} e c =
     ext-getD 0 counts (tally plan) (c .long ∙ sym (tally-length plan))
     (λ t h. let k : t < mostBoundaries = omega (arith, c .long) in c .at t k ∙ ap (λ p. unitsIn p t) (take-all j plan e) ∙ sym (tally-at plan t k))
-
--- the page of a plan, with each slot's count read from the tally
-pub page-counted : (span : ℕ) (plan earliest latest counts : List ℕ) (least greatest : ℕ → ℕ) → span ≤ maxSlots → counts ≡ tally plan
-    → planPage span plan earliest latest least greatest
-    ≡ joined (planHead (length plan) ∷ unitLines plan earliest latest ∷ slotLines span (λ t. getD counts t 0) least greatest ∷ [])
-unfolding planPage
-page-counted span plan earliest latest counts least greatest h e =
-    ap (λ ls. joined (planHead (length plan) ∷ unitLines plan earliest latest ∷ ls ∷ []))
-    (slotLines-same span counted (record { at = λ t k m. refl }) (record { at = λ t k m. refl }))
-  where
-    counted : SameSlots span (unitsIn plan) (λ t. getD counts t 0)
-    counted = record { at = λ t k m. let small : t < mostBoundaries = omega arith in sym (ap (λ c. getD c t 0) e ∙ tally-at plan t small) }
-
-pub page-counted-length : (span : ℕ) (plan earliest latest counts : List ℕ) (least greatest : ℕ → ℕ) → span ≤ maxSlots → counts ≡ tally plan
-    → length (planPage span plan earliest latest least greatest)
-    ≡ length (planHead (length plan)) + (length (unitLines plan earliest latest) + length (slotLines span (λ t. getD counts t 0) least greatest))
-page-counted-length span plan earliest latest counts least greatest h e =
-    ap length (page-counted span plan earliest latest counts least greatest h e)
-    ∙ three-length (planHead (length plan)) (unitLines plan earliest latest) (slotLines span (λ t. getD counts t 0) least greatest)

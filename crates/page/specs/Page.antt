@@ -2,7 +2,7 @@
 -- the sheet's definitions go in for the plan, the narrowed windows, the least and greatest counts and the limits.
 use mathlib.Core.Path.{_≡_}
 use mathlib.Core.Bool.{cond}
-use mathlib.Core.List.{List, [], _∷_, map}
+use mathlib.Core.List.{List, [], _∷_, _++_, map}
 use Prim.Native.Nat.{ℕ, suc, _+_, _-_, _*_, _≤_, _<_}
 use lib.Dec.{ltb, eqb}
 use lib.ListN.{length, getD}
@@ -23,6 +23,10 @@ unitLineAt slots earliest latest j = unitLine (suc j) (getD slots j 0) (getD ear
 
 unfoldable pub unitLines : List ℕ → List ℕ → List ℕ → List ℕ
 unitLines slots earliest latest = joined (map (unitLineAt slots earliest latest) (run 0 (length slots)))
+
+-- the head of the page, and the lines of the units
+abbrev pub headAndUnits : List ℕ → List ℕ → List ℕ → List ℕ
+headAndUnits slots earliest latest = planHead (length slots) ++ unitLines slots earliest latest
 
 unfoldable pub slotLineAt : (ℕ → ℕ) → (ℕ → ℕ) → (ℕ → ℕ) → ℕ → List ℕ
 slotLineAt count least greatest t = slotLine t (count t) (least t) (greatest t)
@@ -78,6 +82,10 @@ stepLines d a (b ∷ bs) e = stepLine d a b ∷ stepLines d b bs e
 unfoldable pub ringLines : Weights → List ℕ → List (List ℕ)
 ringLines d [] = []
 ringLines d (a ∷ bs) = stepLines d a bs a
+
+-- the head of the page, and the lines of the steps
+abbrev pub headAndSteps : Weights → List ℕ → List ℕ
+headAndSteps d ring = text "(answer none)\n" ++ joined (ringLines d ring)
 
 -- minus the ring's sum
 abbrev pub shortfallOf : Weights → List ℕ → ℕ

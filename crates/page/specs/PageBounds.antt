@@ -46,7 +46,7 @@ three-at-most n h = elim (decLe 100 n) [ yes l ↦ omega (arith, length-three n 
 four-at-most : (n : ℕ) → n < 10000 → length (digits n) ≤ 4
 four-at-most n h = elim (decLe 1000 n) [ yes l ↦ omega (arith, length-four n l h) | no g ↦ omega (arith, three-at-most n (omega arith)) ]
 
-five-at-most : (n : ℕ) → n < 100000 → length (digits n) ≤ 5
+pub five-at-most : (n : ℕ) → n < 100000 → length (digits n) ≤ 5
 five-at-most n h = elim (decLe 10000 n) [ yes l ↦ omega (arith, length-five n l h) | no g ↦ omega (arith, four-at-most n (omega arith)) ]
 
 -- ---- lines

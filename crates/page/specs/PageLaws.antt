@@ -1,10 +1,10 @@
--- Laws of the pages: which of their parts depend on what, and the lines of a ring step by step.
+-- Laws of the pages: which of their parts depend on what, the counts of a plan's slots, and the lines of a ring step by step.
 -- Key idea: an index that walks a ring has behind it what is written, or counted, and before it the steps from its place on and back to the first boundary.
 use mathlib.Core.Path.{_≡_, refl, sym, ap, ap₂, _∙_}
 use mathlib.Core.Logic.{⊎-elim}
 use mathlib.Core.Bool.{cond}
-use mathlib.Core.List.{List, [], _∷_, map, append-nil}
-use Prim.Native.Nat.{ℕ, zero, suc, _+_, _-_, _≤_, _<_}
+use mathlib.Core.List.{List, [], _∷_, append-nil}
+use Prim.Native.Nat.{ℕ, suc, _+_, _-_, _≤_, _<_}
 use native.Mathlib.Omega.{arith}
 use native.Mathlib.Numerals.{add-one}
 use lib.ListN.{length, drop, getD, length-append, drop-of-length-le}
@@ -13,12 +13,14 @@ use lib.IntN.{ℤ, negℤ, _+ℤ_}
 use lib.Seq.{drop-cons}
 use borrow.Author.Tests.{lt-ltb, le-ltb}
 use Rattle.integers.specs.Parts.{up, dn, sum, neg, apart}
-use Rattle.lists.specs.Lists.{run, joined}
-use Rattle.lists.specs.Values.{values-same}
+use Rattle.lists.specs.Lists.{joined}
+use Rattle.lists.specs.Values.{values-same, length-listOf, listOf-at}
 use Rattle.network.specs.Network.{Weights, via, around}
 use Rattle.network.specs.NetworkLaws.{Upto}
+use Rattle.network.specs.Table.{mostBoundaries}
+use Rattle.sheet.specs.Limits.{maxSlots}
 use Rattle.writing.specs.Writing.{text, digits, planHead, boundLine, shortfallLine}
-use Rattle.page.specs.Page.{unitLines, slotLineAt, slotLines, planPage, stepLine, stepLines, ringLines, shortfallOf, nonePage}
+use Rattle.page.specs.Page.{unitsIn, tally, unitLines, slotLineAt, slotLines, planPage, stepLine, stepLines, ringLines, shortfallOf, nonePage}
 
 -- a page is three parts
 pub three-length : (a b c : List ℕ) → length (joined (a ∷ b ∷ c ∷ [])) ≡ length a + (length b + length c)
@@ -43,6 +45,34 @@ unfolding planPage
 planPage-same span slots earliest latest l g =
     ap (λ ls. joined (planHead (length slots) ∷ unitLines slots earliest latest ∷ ls ∷ []))
     (slotLines-same span (record { at = λ t h k. refl }) l g)
+
+-- ---- each slot's count, read from the tally
+pub tally-at : (plan : List ℕ) (t : ℕ) → t < mostBoundaries → getD (tally plan) t 0 ≡ unitsIn plan t
+unfolding tally
+tally-at plan t h = listOf-at (unitsIn plan) mostBoundaries t 0 h
+
+pub tally-length : (plan : List ℕ) → length (tally plan) ≡ mostBoundaries
+unfolding tally
+tally-length plan = length-listOf (unitsIn plan) mostBoundaries
+
+-- the page of a plan, with each slot's count read from the tally
+pub page-counted : (span : ℕ) (plan earliest latest counts : List ℕ) (least greatest : ℕ → ℕ) → span ≤ maxSlots → counts ≡ tally plan
+    → planPage span plan earliest latest least greatest
+    ≡ joined (planHead (length plan) ∷ unitLines plan earliest latest ∷ slotLines span (λ t. getD counts t 0) least greatest ∷ [])
+unfolding planPage
+page-counted span plan earliest latest counts least greatest h e =
+    ap (λ ls. joined (planHead (length plan) ∷ unitLines plan earliest latest ∷ ls ∷ []))
+    (slotLines-same span counted (record { at = λ t k m. refl }) (record { at = λ t k m. refl }))
+  where
+    counted : SameSlots span (unitsIn plan) (λ t. getD counts t 0)
+    counted = record { at = λ t k m. let small : t < mostBoundaries = omega arith in sym (ap (λ c. getD c t 0) e ∙ tally-at plan t small) }
+
+pub page-counted-length : (span : ℕ) (plan earliest latest counts : List ℕ) (least greatest : ℕ → ℕ) → span ≤ maxSlots → counts ≡ tally plan
+    → length (planPage span plan earliest latest least greatest)
+    ≡ length (planHead (length plan)) + (length (unitLines plan earliest latest) + length (slotLines span (λ t. getD counts t 0) least greatest))
+page-counted-length span plan earliest latest counts least greatest h e =
+    ap length (page-counted span plan earliest latest counts least greatest h e)
+    ∙ three-length (planHead (length plan)) (unitLines plan earliest latest) (slotLines span (λ t. getD counts t 0) least greatest)
 
 -- ---- the steps of a ring
 module _ (d : Weights) (a b : ℕ) where

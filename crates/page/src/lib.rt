@@ -5,8 +5,8 @@ ghost use Rattle.integers.specs.Parts.{up, dn};
 ghost use Rattle.lists.specs.Lists.{joined};
 ghost use Rattle.network.specs.Table.{entry, mostBoundaries};
 ghost use Rattle.sheet.specs.Limits.{maxSlots, maxUnits};
-ghost use Rattle.writing.specs.Writing.{Room, Written, maxLine};
-ghost use Rattle.page.specs.Page.{unitLines, slotLines, tally, leastFrom, greatestFrom, Printable, tablePage, stepLine, ringLines, shortfallOf, nonePage, RingFits};
+ghost use Rattle.writing.specs.Writing.{Room, Written, shortfallLine, maxLine};
+ghost use Rattle.page.specs.Page.{unitLines, headAndUnits, slotLines, tally, leastFrom, greatestFrom, Printable, tablePage, stepLine, ringLines, headAndSteps, shortfallOf, nonePage, RingFits};
 use writing::bound_length;
 use writing::digit_count;
 use writing::put_bound;
@@ -19,13 +19,7 @@ use writing::unit_length;
 
 // The answer page: that of a plan and that of a ring, each with its length.
 
-pub fn put_units(
-    page: &mut [u8],
-    at: usize,
-    plan: &[u16],
-    earliest: &[u16],
-    latest: &[u16],
-) -> usize
+fn put_units(page: &mut [u8], at: usize, plan: &[u16], earliest: &[u16], latest: &[u16]) -> usize
     requires { ⌜ (length (now earliest) ≡ length (now plan)) × (length (now latest) ≡ length (now plan)) × (length (now plan) ≤ maxUnits) ⌝ }
     requires { ⌜ Room (now page) at (unitLines (now plan) (now earliest) (now latest)) ⌝ }
     ensures { λ r. ⌜ Written (now (page .entry)) at (unitLines (now (plan .entry)) (now (earliest .entry)) (now (latest .entry)))
@@ -38,6 +32,23 @@ pub fn put_units(
         j += 1;
     }
     next
+}
+
+// The head of the page of a plan, and a line for each unit.
+pub fn put_head_and_units(
+    page: &mut [u8],
+    at: usize,
+    plan: &[u16],
+    earliest: &[u16],
+    latest: &[u16],
+) -> usize
+    requires { ⌜ (length (now earliest) ≡ length (now plan)) × (length (now latest) ≡ length (now plan)) × (length (now plan) ≤ maxUnits) ⌝ }
+    requires { ⌜ Room (now page) at (headAndUnits (now plan) (now earliest) (now latest)) ⌝ }
+    ensures { λ r. ⌜ Written (now (page .entry)) at (headAndUnits (now (plan .entry)) (now (earliest .entry)) (now (latest .entry)))
+        (now (page .exit)) r ⌝ }
+{
+    let next = put_one_number(page, at, b"(answer plan ", plan.len() as u16);
+    put_units(page, next, plan, earliest, latest)
 }
 
 // How many units have each slot.
@@ -90,7 +101,7 @@ fn greatest_of(table: &[i16], span: usize, t: usize) -> u16
     above(entry_at(table, span + 1, t - 1, t))
 }
 
-fn put_slots(page: &mut [u8], at: usize, span: usize, counts: &[u16], table: &[i16]) -> usize
+pub fn put_slots(page: &mut [u8], at: usize, span: usize, counts: &[u16], table: &[i16]) -> usize
     requires { ⌜ (span ≤ maxSlots) × ((span + 1) * (span + 1) ≤ length (now table)) × (length (now counts) ≡ mostBoundaries) ⌝ }
     requires { ⌜ Room (now page) at (slotLines span (λ t. getD (now counts) t 0) (leastFrom (span + 1) (now table)) (greatestFrom (span + 1) (now table))) ⌝ }
     ensures { λ r. ⌜ Written (now (page .entry)) at
@@ -111,27 +122,6 @@ fn put_slots(page: &mut [u8], at: usize, span: usize, counts: &[u16], table: &[i
         t += 1;
     }
     next
-}
-
-pub fn put_plan(
-    page: &mut [u8],
-    at: usize,
-    span: usize,
-    plan: &[u16],
-    earliest: &[u16],
-    latest: &[u16],
-    counts: &[u16],
-    table: &[i16],
-) -> usize
-    requires { ⌜ Printable span (now plan) (now earliest) (now latest) (now table) ⌝ }
-    requires { ⌜ now counts ≡ tally (now plan) ⌝ }
-    requires { ⌜ Room (now page) at (tablePage span (now plan) (now earliest) (now latest) (now table)) ⌝ }
-    ensures { λ r. ⌜ Written (now (page .entry)) at
-        (tablePage span (now (plan .entry)) (now (earliest .entry)) (now (latest .entry)) (now (table .entry))) (now (page .exit)) r ⌝ }
-{
-    let units = put_one_number(page, at, b"(answer plan ", plan.len() as u16);
-    let slots = put_units(page, units, plan, earliest, latest);
-    put_slots(page, slots, span, counts, table)
 }
 
 fn units_length(plan: &[u16], earliest: &[u16], latest: &[u16]) -> usize
@@ -212,6 +202,22 @@ fn put_steps(page: &mut [u8], at: usize, limits: &[i16], w: usize, ring: &[u16])
     put_step(page, next, limits, w, ring[last], ring[0])
 }
 
+// The head of the page of a ring, and a line for each step.
+pub fn put_head_and_steps(
+    page: &mut [u8],
+    at: usize,
+    limits: &[i16],
+    w: usize,
+    ring: &[u16],
+) -> usize
+    requires { ⌜ RingFits w (now limits) (now ring) ⌝ }
+    requires { ⌜ Room (now page) at (headAndSteps (entry w (now limits)) (now ring)) ⌝ }
+    ensures { λ r. ⌜ Written (now (page .entry)) at (headAndSteps (entry w (now (limits .entry))) (now (ring .entry))) (now (page .exit)) r ⌝ }
+{
+    let next = put_word(page, at, b"(answer none)\n");
+    put_steps(page, next, limits, w, ring)
+}
+
 // How far one number is above another; 0 where it is not.
 fn excess(a: u16, b: u16) -> u16
     ensures { λ r. ⌜ r ≡ a - b ⌝ }
@@ -236,6 +242,16 @@ fn shortfall(limits: &[i16], w: usize, ring: &[u16]) -> u16
     }
     let limit = entry_at(limits, w, ring[last] as usize, ring[0] as usize);
     excess(fall + below(limit), rise + above(limit))
+}
+
+// The last line of the page of a ring.
+pub fn put_shortfall(page: &mut [u8], at: usize, limits: &[i16], w: usize, ring: &[u16]) -> usize
+    requires { ⌜ RingFits w (now limits) (now ring) ⌝ }
+    requires { ⌜ Room (now page) at (shortfallLine (shortfallOf (entry w (now limits)) (now ring))) ⌝ }
+    ensures { λ r. ⌜ Written (now (page .entry)) at (shortfallLine (shortfallOf (entry w (now (limits .entry))) (now (ring .entry))))
+        (now (page .exit)) r ⌝ }
+{
+    put_one_number(page, at, b"(shortfall ", shortfall(limits, w, ring))
 }
 
 fn step_length(limits: &[i16], w: usize, a: u16, b: u16) -> usize
@@ -269,14 +285,4 @@ pub fn none_length(limits: &[i16], w: usize, ring: &[u16]) -> usize
     ensures { λ r. ⌜ r ≡ length (nonePage (entry w (now (limits .entry))) (now (ring .entry))) ⌝ }
 {
     14 + (steps_length(limits, w, ring) + (13 + digit_count(shortfall(limits, w, ring))))
-}
-
-pub fn put_none(page: &mut [u8], at: usize, limits: &[i16], w: usize, ring: &[u16]) -> usize
-    requires { ⌜ RingFits w (now limits) (now ring) ⌝ }
-    requires { ⌜ Room (now page) at (nonePage (entry w (now limits)) (now ring)) ⌝ }
-    ensures { λ r. ⌜ Written (now (page .entry)) at (nonePage (entry w (now (limits .entry))) (now (ring .entry))) (now (page .exit)) r ⌝ }
-{
-    let steps = put_word(page, at, b"(answer none)\n");
-    let end = put_steps(page, steps, limits, w, ring);
-    put_one_number(page, end, b"(shortfall ", shortfall(limits, w, ring))
 }

@@ -12,7 +12,7 @@ use Rattle.sheet.specs.Sheet.{Sheet}
 use Rattle.sheet.specs.Questions.{accepted}
 use Rattle.asking.specs.Questions.{Lists, Rooms, Question, given, agree, fitsRooms, passed, inRange, firstNo, asked, questions, refusal, lent, places}
 use Rattle.solving.specs.Planning.{refused, Verdict, refuse, byPass, verdict, Left}
-use Rattle.solving.specs.PlanningLaws.{asked-yes, asked-positive, asked-not-14, no-before, no-other, yes-past}
+use Rattle.solving.specs.PlanningLaws.{asked-yes, yes-asked, asked-positive, asked-not-14, no-before, no-other, yes-past}
 use Rattle.asking.specs.Asking.{askedNo, Solvable}
 use Rattle.asking.specs.declared.Lengths.{Lengths}
 use Rattle.solving.specs.declared.Answer.{Answer}
@@ -69,6 +69,11 @@ module _ (l : Lists) (before : Rooms) where
       let s = given l in
       let e = yes-past (asked (agree l) s (fitsRooms s before)) (record { number = 14; yes = inRange (passed s) } ∷ []) (asked-positive (agree l) (fitsRooms s before) s) (sym h) in
       ap (λ (n : ℕ). cond (eqb n 0) (byPass (passed s)) (refuse n)) e ∙ by-pass (passed s)
+
+  -- so too where the questions before the pass are known to be answered yes
+  pub verdict-solvable : Solvable l before → verdict l before ≡ byPass (passed (given l))
+  unfolding askedNo
+  verdict-solvable y = verdict-solved (sym (yes-asked (agree l) (fitsRooms (given l) before) (given l) (y .lists) (y .sheet) (y .rooms)))
 
   pub entry-solved : 0 ≡ askedNo l (lengthsOf before) → (reply : Answer) (after : Rooms) → Left (byPass (passed (given l))) (given l) before reply after
       → Left (verdict l before) (given l) before reply after

@@ -30,7 +30,7 @@ use Rattle.solving.specs.PlanningLaws.{passed-solved}
 use Rattle.page.specs.Page.{Printable, tablePage, leastFrom, greatestFrom, RingFits, nonePage}
 use Rattle.page.specs.PageLaws.{SameSlots, planPage-same, nonePage-same}
 use Rattle.page.specs.PageBounds.{RingRead, ring-read}
-use Rattle.printer.specs.Printing.{planBytes, ringBytes}
+use Rattle.printing.specs.Printing.{planBytes, ringBytes}
 
 module _ (s : Sheet) (ok : T (accepted s)) where
   pub boundaries-span : boundaries s ≡ s .span + 1

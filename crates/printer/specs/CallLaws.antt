@@ -20,10 +20,10 @@ use Rattle.solving.specs.Planning.{planned, ringed, refused, Verdict, byPass, L
 use Rattle.solving.specs.declared.Answer.{Answer}
 use Rattle.solving.specs.declared.Answer.the-variants as planning
 use Rattle.page.specs.Page.{tablePage, nonePage}
-use Rattle.printer.specs.Printing.{planBytes, ringBytes, onFront, holds, Outcome, Asked, PrintingOf, Printing}
+use Rattle.printing.specs.Printing.{planBytes, ringBytes, onFront, holds, Outcome, Asked, PrintingOf, Printing}
 use Rattle.printer.specs.AnswerLaws.{boundaries-span, table-size, seats-size, firsts-size, lasts-size, plan-bytes, ring-bytes}
-use Rattle.printer.specs.declared.Printed.{Printed}
-use Rattle.printer.specs.declared.Printed.the-variants.{Refused, Plan, None}
+use Rattle.printing.specs.declared.Printed.{Printed}
+use Rattle.printing.specs.declared.Printed.the-variants.{Refused, Plan, None}
 
 -- ---- how the pass ended, from what planning replied
 abbrev tag : Answer → ℕ

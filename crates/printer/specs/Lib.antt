@@ -1,5 +1,3 @@
-pub mod Printing
-pub mod PrintingLaws
 pub mod AnswerLaws
 pub mod CallLaws
 pub mod OwnLaws

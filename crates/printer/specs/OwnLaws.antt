@@ -25,11 +25,11 @@ use Rattle.solving.specs.declared.Answer.{Answer}
 use Rattle.solving.specs.declared.Answer.the-variants as planning
 use Rattle.page.specs.PageBounds.{ring-read}
 use Rattle.page.specs.Page.{Printable, tablePage, RingFits, nonePage}
-use Rattle.printer.specs.Printing.{onFront, holds, Asked, PrintingOf}
+use Rattle.printing.specs.Printing.{onFront, holds, Asked, PrintingOf}
 use Rattle.printer.specs.AnswerLaws.{boundaries-span, places-span, table-size, seats-size, firsts-size, lasts-size, plan-printable, ring-printable}
 use Rattle.printer.specs.CallLaws.{refused-left, plan-left, none-left, range-printed, plan-printed, ring-printed}
-use Rattle.printer.specs.declared.Printed.{Printed}
-use Rattle.printer.specs.declared.Printed.the-variants.{Refused, Plan, None}
+use Rattle.printing.specs.declared.Printed.{Printed}
+use Rattle.printing.specs.declared.Printed.the-variants.{Refused, Plan, None}
 
 -- the lengths of the call's own arrays
 abbrev pub ownCells : ℕ

@@ -26,9 +26,9 @@ use Rattle.page.specs.PageBounds.{plan-short, none-short}
 use Rattle.page.specs.PageLines.{Said, plan, unit, slot, none, shortfall, readLines, answerOn, unitLinesWith, ringSaid}
 use Rattle.page.specs.PageLinesLaws.{plan-read, slot-line-true, unit-line-true, none-read, answer-read}
 use Rattle.page.specs.Page.{shortfallOf}
-use Rattle.printer.specs.Printing.{planBytes, ringBytes, holds, numberOf, Outcome, Asked, Shown, Printing}
-use Rattle.printer.specs.declared.Printed.{Printed}
-use Rattle.printer.specs.declared.Printed.the-variants.{Refused, Plan, None}
+use Rattle.printing.specs.Printing.{planBytes, ringBytes, holds, numberOf, Outcome, Asked, Shown, Printing}
+use Rattle.printing.specs.declared.Printed.{Printed}
+use Rattle.printing.specs.declared.Printed.the-variants.{Refused, Plan, None}
 
 abbrev tag : Answer → ℕ
 tag (planning.Refused n) = 0

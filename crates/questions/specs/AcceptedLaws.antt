@@ -234,6 +234,14 @@ good-accepted text g has =
     (both b (c && (d && (e && f))) (g .units)
     (both c (d && (e && f)) (g .rules) (both d (e && f) (g .windows) (both e f (g .stretches) (g .counts)))))
 
+-- every line's questions are answered yes, so the units and rules are as few as a sheet may have
+pub few-lines : (text : List ℕ) → firstNo (lineQuestions 1 [] (lines text)) ≡ allYes
+    → T (leb (length (sheetIn text .units)) maxUnits) × T (leb (length (sheetIn text .rules)) maxRules)
+unfolding sheetIn
+few-lines text e =
+    let g = good-lines 1 [] (lines text) good-none (all-yes (lineQuestions 1 [] (lines text)) e) in
+    (g .units, g .rules)
+
 pub reading-accepts : (text : List ℕ) (sizes : Rooms ℕ) → firstNo (questions text sizes) ≡ allYes → T (Sheet.accepted (sheetIn text))
 unfolding questions
 reading-accepts text sizes e =

@@ -3,3 +3,4 @@ pub mod Steps
 pub mod PassLaws
 pub mod Samples
 pub mod AcceptedLaws
+pub mod RefusalLaws

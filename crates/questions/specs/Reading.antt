@@ -172,6 +172,10 @@ roomsFit units rules sizes =
     leb units (sizes .first) && (leb units (sizes .last) &&
     (leb rules (sizes .from) && (leb rules (sizes .to) && (leb rules (sizes .low) && leb rules (sizes .high)))))
 
+-- rooms for as many units and rules as a sheet may have
+abbrev pub roomsForAll : Rooms ℕ
+roomsForAll = rooms maxUnits maxUnits maxRules maxRules maxRules maxRules
+
 unfoldable pub questions : List ℕ → Rooms ℕ → List Question
 questions text sizes =
     (ask 1 0 (leb (length text) maxBytes) ∷ []) ++

@@ -55,6 +55,27 @@ asked-yes lists rooms s e =
       q₈ .0,
     )
 
+-- and the other way round
+then-yes : (b : Bool) (n rest : ℕ) → T b → rest ≡ 0 → cond b rest n ≡ 0
+then-yes true n rest t e = e
+then-yes false n rest t e = absurd t
+
+pub yes-asked : (lists rooms : Bool) (s : Sheet) → T lists → T (accepted s) → T rooms → firstNo (asked lists s rooms) ≡ 0
+unfolding accepted
+yes-asked lists rooms s l a r =
+    let a₂ = right (spanFits s) _ a in
+    let a₃ = right (unitsFit s) _ a₂ in
+    let a₄ = right (rulesFit s) _ a₃ in
+    let a₅ = right (windowsFit s) _ a₄ in
+    then-yes lists 13 _ l
+    (then-yes (spanFits s) 6 _ (left (spanFits s) _ a)
+    (then-yes (unitsFit s) 9 _ (left (unitsFit s) _ a₂)
+    (then-yes (rulesFit s) 10 _ (left (rulesFit s) _ a₃)
+    (then-yes (windowsFit s) 7 _ (left (windowsFit s) _ a₄)
+    (then-yes (stretchesFit s) 7 _ (left (stretchesFit s) (countsFit s) a₅)
+    (then-yes (countsFit s) 8 _ (right (stretchesFit s) (countsFit s) a₅)
+    (then-yes rooms 12 0 r refl)))))))
+
 -- ---- questions one after another
 
 -- no question of the list has the number n

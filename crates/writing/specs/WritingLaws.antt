@@ -40,6 +40,10 @@ pub pending-whole : {page : List ℕ} {at : ℕ} {whole : List ℕ} (pieces : Li
 pending-whole {page} {at} {whole} pieces e h =
     record { same = ap (sets page at) (sym e); place = ap (λ r. at + length r) (sym e); kept = refl; fits = h }
 
+pub pending-two : {page : List ℕ} {at : ℕ} (first second : List ℕ) → Room page at (first ++ second)
+    → Pending page at (first ++ second) page at (first ∷ second ∷ [])
+pending-two first second h = pending-whole (first ∷ second ∷ []) (ap (λ r. first ++ r) (sym (append-nil second))) h
+
 module _ {page₀ : List ℕ} {at₀ : ℕ} {whole page : List ℕ} {at : ℕ} where
   -- there is room for the next piece
   pub pending-room : {piece : List ℕ} {rest : List (List ℕ)} → Pending page₀ at₀ whole page at (piece ∷ rest) → Room page at piece

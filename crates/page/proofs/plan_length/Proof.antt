@@ -7,7 +7,7 @@ use lib.ListN.{length}
 use Rattle.writing.specs.Writing.{text, digits, oneNumber, planHead}
 use Rattle.page.specs.Page.{leastFrom, greatestFrom}
 use Rattle.writing.specs.WritingLaws.{oneNumber-length}
-use Rattle.page.proofs.TallyLaws.{tally-length, page-counted-length}
+use Rattle.page.specs.PageLaws.{tally-length, page-counted-length}
 use Rattle.page.proofs.plan_length.Statement.{statement}
 use Rattle.page.proofs.plan_length.Tie as tie
 

@@ -1,6 +1,6 @@
 use borrow.Author.Needs.{needs}
 use mathlib.Core.Path.{sym, ap}
-use Rattle.printer.specs.Printing.{numberOf, ringLength, placeAfter}
+use Rattle.printing.specs.Printing.{numberOf, ringLength, placeAfter}
 use Rattle.printer.proofs.tugrokt_print.Statement.{statement}
 use Rattle.printer.proofs.tugrokt_print.Tie as tie
 

@@ -1,0 +1,125 @@
+-- Reading's answer decides: its refusal is printed, or the sheet that it left at the front of the lists is answered.
+use mathlib.Core.Path.{_≡_, refl, sym, ap, _∙_}
+use mathlib.Core.List.{List}
+use Prim.Native.Nat.{ℕ}
+use native.Mathlib.Omega.{arith}
+use denote.Ref.{now}
+use lib.ListN.{replicate}
+use Rattle.questions.specs.Reading.{Rooms, rooms, roomsForAll, refused, read, reading, answerOf}
+use Rattle.reader.specs.Rooms.{sizesOf}
+use Rattle.answer.specs.AnswerLaws.{refused-small, refused-answer, read-held, read-answered, refusal-answered}
+use borrow.Author.Needs.{needs}
+use Rattle.answer.proofs.answer.Statement.{statement}
+use Rattle.answer.proofs.answer.Tie as tie
+
+-- the lists as the call makes them
+abbrev empty : Rooms (List ℕ)
+empty = rooms (replicate 300 0) (replicate 300 0) (replicate 60 0) (replicate 60 0) (replicate 60 0) (replicate 60 0)
+
+sizes : sizesOf empty ≡ roomsForAll
+sizes = refl
+
+-- from what reading answered back to the call, and to the start
+abbrev called : tie.After-reading → tie.After-read
+called c = c .before .before .before .before .before .before .before .before
+
+abbrev called-2 : tie.After-reading2 → tie.After-read
+called-2 c = c .before .before .before .before .before .before .before .before
+
+abbrev input : tie.After-read → List ℕ
+input c = now (c .before .before .before .before .before .before .before .before .args .text)
+
+refused-told : (c : tie.After-reading) → refused (c .reading .given .0 .0 .number) (c .reading .given .0 .0 .line) ≡ reading (input (called c)) (sizesOf empty)
+refused-told c = sym (ap answerOf (c .reading .given .1)) ∙ called c .read .ensures .0
+
+read-told : (c : tie.After-reading2) → let s = c .reading2 .given .0 .0 in read (s .span) (s .units) (s .rules) ≡ reading (input (called-2 c)) (sizesOf empty)
+read-told c = sym (ap answerOf (c .reading2 .given .1)) ∙ called-2 c .read .ensures .0
+
+slice-aggregate-read : tie.Need-slice-aggregate-read
+slice-aggregate-read c = search needs
+
+slice-aggregate-read-2 : tie.Need-slice-aggregate-read-2
+slice-aggregate-read-2 c = search needs
+
+slice-aggregate-read-3 : tie.Need-slice-aggregate-read-3
+slice-aggregate-read-3 c = search needs
+
+slice-aggregate-read-4 : tie.Need-slice-aggregate-read-4
+slice-aggregate-read-4 c = search needs
+
+slice-aggregate-read-5 : tie.Need-slice-aggregate-read-5
+slice-aggregate-read-5 c = search needs
+
+slice-aggregate-read-6 : tie.Need-slice-aggregate-read-6
+slice-aggregate-read-6 c = search needs
+
+read-requires : tie.Need-read-requires
+read-requires c κs = search needs
+
+enum-known-reading : tie.Need-enum-known-reading
+enum-known-reading c = search needs
+
+refuse-requires : tie.Need-refuse-requires
+refuse-requires c κs =
+    let r = refused-small (input (called (c .before .before))) empty sizes _ _ (refused-told (c .before .before)) in
+    (omega (arith, r .0), omega (arith, r .1))
+
+enum-known-reading-2 : tie.Need-enum-known-reading-2
+enum-known-reading-2 c = search needs
+
+slice-aggregate-answer-sheet : tie.Need-slice-aggregate-answer-sheet
+slice-aggregate-answer-sheet c = search needs
+
+slice-aggregate-answer-sheet-2 : tie.Need-slice-aggregate-answer-sheet-2
+slice-aggregate-answer-sheet-2 c = search needs
+
+slice-aggregate-answer-sheet-3 : tie.Need-slice-aggregate-answer-sheet-3
+slice-aggregate-answer-sheet-3 c = search needs
+
+slice-aggregate-answer-sheet-4 : tie.Need-slice-aggregate-answer-sheet-4
+slice-aggregate-answer-sheet-4 c = search needs
+
+slice-aggregate-answer-sheet-5 : tie.Need-slice-aggregate-answer-sheet-5
+slice-aggregate-answer-sheet-5 c = search needs
+
+slice-aggregate-answer-sheet-6 : tie.Need-slice-aggregate-answer-sheet-6
+slice-aggregate-answer-sheet-6 c = search needs
+
+answer-sheet-requires : tie.Need-answer-sheet-requires
+answer-sheet-requires c κs =
+    let d = c .before .before .before .before .before .before .before .before in
+    read-held (input (called-2 d)) empty sizes _ (read-told d) _ (called-2 d .read .ensures .1)
+
+returns : tie.Need-returns
+returns c =
+    let d = c .before .before .before in
+    refusal-answered _ (refused-answer (input (called d)) empty sizes _ _ (refused-told d)) refl (c .refuse .ensures)
+
+returns-2 : tie.Need-returns-2
+returns-2 c =
+    let d = c .before .before .before .before .before .before .before .before .before in
+    read-answered (input (called-2 d)) empty sizes _ (read-told d) _ (called-2 d .read .ensures .1) _ _ _ (c .answer-sheet .ensures)
+
+pub answer-spec : {M : Type 1} → statement M
+answer-spec =
+    tie.close
+    (tie.spec
+    slice-aggregate-read
+    slice-aggregate-read-2
+    slice-aggregate-read-3
+    slice-aggregate-read-4
+    slice-aggregate-read-5
+    slice-aggregate-read-6
+    read-requires
+    enum-known-reading
+    refuse-requires
+    enum-known-reading-2
+    slice-aggregate-answer-sheet
+    slice-aggregate-answer-sheet-2
+    slice-aggregate-answer-sheet-3
+    slice-aggregate-answer-sheet-4
+    slice-aggregate-answer-sheet-5
+    slice-aggregate-answer-sheet-6
+    answer-sheet-requires
+    returns
+    returns-2)

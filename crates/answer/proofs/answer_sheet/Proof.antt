@@ -1,0 +1,139 @@
+-- The lists and rooms answer every question before the pass with yes, so what is printed is the answer; a refusal can only be 14.
+use mathlib.Core.Path.{_≡_, sym}
+use native.Mathlib.Omega.{arith}
+use denote.Ref.{now}
+use lib.Seq.{length-take-le}
+use Rattle.sheet.specs.Sheet.{Sheet}
+use Rattle.questions.specs.Reading.{Rooms, rooms}
+use Prim.Native.Nat.{ℕ}
+use mathlib.Core.List.{List}
+use Rattle.asking.specs.Questions.{given}
+use Rattle.printing.specs.declared.Printed.the-variants.{Refused, Plan, None}
+use Rattle.answer.specs.Answer.{refusedLine, AnswerToSheet, Answered}
+use Rattle.answer.specs.Fronts.{fronts}
+use Rattle.answer.specs.AnswerLaws.{held-solvable, planningRooms, print-refused, print-plan, print-none, refusal-answered}
+use borrow.Author.Needs.{needs}
+use Rattle.answer.proofs.answer_sheet.Statement.{statement}
+use Rattle.answer.proofs.answer_sheet.Tie as tie
+
+-- the lists at the call's start
+abbrev lists : tie.Start → Rooms (List ℕ)
+lists c = let a = c .args in rooms (now (a .first)) (now (a .last)) (now (a .from)) (now (a .to)) (now (a .low)) (now (a .high))
+
+-- from the first argument of print, and from its return, back to the start
+abbrev start : tie.After-print-arg → tie.Start
+start c = c .before .before .before .before .before .before .before
+
+abbrev called : tie.After-print → tie.Start
+called c = start (c .before .before .before .before .before .before .before .before .before .before .before .before)
+
+-- what the call of print comes to, by its reply
+module _ (c : tie.After-print) where
+  abbrev begun : tie.Start
+  begun = called c
+
+  abbrev sheet : Sheet
+  sheet = given (fronts (begun .args .s) (lists begun))
+
+  abbrev left : List ℕ
+  left = c .print .last .1 .1 .1 .1 .1 .1 .1 .1 .1 .1 .1 .1 .0
+
+  refused-is : (n : ℕ) → c .print .result ≡ Refused n → (n ≡ 14) × (left ≡ now (begun .args .page)) × AnswerToSheet sheet (refusedLine n 0)
+  refused-is =
+      print-refused (fronts (begun .args .s) (lists begun)) planningRooms (held-solvable _ _ (begun .pre)) (now (begun .args .page))
+      (omega (arith, c .before .print-arg7 .given .0 .1)) (c .print .result) _ left (c .print .ensures)
+
+  plan-is : (next : ℕ) → c .print .result ≡ Plan next → Answered (AnswerToSheet sheet) (now (begun .args .page)) left next
+  plan-is =
+      print-plan (fronts (begun .args .s) (lists begun)) planningRooms (held-solvable _ _ (begun .pre)) (now (begun .args .page))
+      (omega (arith, c .before .print-arg7 .given .0 .1)) (c .print .result) _ left (c .print .ensures)
+
+  none-is : (k next : ℕ) → c .print .result ≡ None k next → Answered (AnswerToSheet sheet) (now (begun .args .page)) left next
+  none-is =
+      print-none (fronts (begun .args .s) (lists begun)) planningRooms (held-solvable _ _ (begun .pre)) (now (begun .args .page))
+      (omega (arith, c .before .print-arg7 .given .0 .1)) (c .print .result) _ left (c .print .ensures)
+
+slice-aggregate-print : tie.Need-slice-aggregate-print
+slice-aggregate-print c = sym (length-take-le _ _ (start c .pre .in-first))
+
+slice-aggregate-print-2 : tie.Need-slice-aggregate-print-2
+slice-aggregate-print-2 c = sym (length-take-le _ _ (start (c .before) .pre .in-last))
+
+slice-aggregate-print-3 : tie.Need-slice-aggregate-print-3
+slice-aggregate-print-3 c = sym (length-take-le _ _ (start (c .before .before) .pre .in-from))
+
+slice-aggregate-print-4 : tie.Need-slice-aggregate-print-4
+slice-aggregate-print-4 c = sym (length-take-le _ _ (start (c .before .before .before) .pre .in-to))
+
+slice-aggregate-print-5 : tie.Need-slice-aggregate-print-5
+slice-aggregate-print-5 c = sym (length-take-le _ _ (start (c .before .before .before .before) .pre .in-low))
+
+slice-aggregate-print-6 : tie.Need-slice-aggregate-print-6
+slice-aggregate-print-6 c = sym (length-take-le _ _ (start (c .before .before .before .before .before) .pre .in-high))
+
+slice-aggregate-print-7 : tie.Need-slice-aggregate-print-7
+slice-aggregate-print-7 c = search needs
+
+slice-aggregate-print-8 : tie.Need-slice-aggregate-print-8
+slice-aggregate-print-8 c = search needs
+
+slice-aggregate-print-9 : tie.Need-slice-aggregate-print-9
+slice-aggregate-print-9 c = search needs
+
+slice-aggregate-print-10 : tie.Need-slice-aggregate-print-10
+slice-aggregate-print-10 c = search needs
+
+slice-aggregate-print-11 : tie.Need-slice-aggregate-print-11
+slice-aggregate-print-11 c = search needs
+
+print-requires : tie.Need-print-requires
+print-requires c κs = search needs
+
+enum-known-printed : tie.Need-enum-known-printed
+enum-known-printed c = search needs
+
+refuse-requires : tie.Need-refuse-requires
+refuse-requires c κs =
+    let r = refused-is (c .before .before .before .before .before .before .before .before .before) (c .before .before .printed .given .0 .0) (c .before .before .printed .given .1) in
+    (omega (arith, r .0), omega arith)
+
+enum-known-printed-2 : tie.Need-enum-known-printed-2
+enum-known-printed-2 c = search needs
+
+enum-known-printed-3 : tie.Need-enum-known-printed-3
+enum-known-printed-3 c = search needs
+
+returns : tie.Need-returns
+returns c =
+    let r = refused-is (c .before .before .before .before .before .before .before .before .before .before) (c .before .before .before .printed .given .0 .0) (c .before .before .before .printed .given .1) in
+    refusal-answered (refusedLine (c .before .before .before .printed .given .0 .0) 0) (r .2) (r .1) (c .refuse .ensures)
+
+returns-2 : tie.Need-returns-2
+returns-2 c = plan-is (c .before .before .before .before .before .before .before .before) _ (c .before .printed2 .given .1)
+
+returns-3 : tie.Need-returns-3
+returns-3 c = none-is (c .before .before .before .before .before .before .before .before) _ _ (c .before .printed3 .given .1)
+
+pub answer-sheet-spec : {M : Type 1} → statement M
+answer-sheet-spec =
+    tie.close
+    (tie.spec
+    slice-aggregate-print
+    slice-aggregate-print-2
+    slice-aggregate-print-3
+    slice-aggregate-print-4
+    slice-aggregate-print-5
+    slice-aggregate-print-6
+    slice-aggregate-print-7
+    slice-aggregate-print-8
+    slice-aggregate-print-9
+    slice-aggregate-print-10
+    slice-aggregate-print-11
+    print-requires
+    enum-known-printed
+    refuse-requires
+    enum-known-printed-2
+    enum-known-printed-3
+    returns
+    returns-2
+    returns-3)

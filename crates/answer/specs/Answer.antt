@@ -1,0 +1,41 @@
+-- The answer to a text, byte by byte: what reading refuses, or the page of the sheet that was read (document 01, "The sheet and the answer page").
+-- Definitions only.
+use mathlib.Core.Path.{_≡_}
+use mathlib.Core.List.{List, [], _∷_}
+use Prim.Native.Nat.{ℕ}
+use lib.Dec.{T}
+use Rattle.lists.specs.Lists.{joined}
+use Rattle.network.specs.Table.{Passed, finished, stopped, outOfRange}
+use Rattle.sheet.specs.Sheet.{Sheet, isRing}
+use Rattle.questions.specs.Reading.{Verdict, no, allYes, firstNo, questions, roomsForAll, sheetIn}
+use Rattle.asking.specs.Questions.{passed}
+use Rattle.writing.specs.Writing.{text, digits, Written}
+use Rattle.printing.specs.Printing.{planBytes, ringBytes}
+
+-- the line of a refusal, as `(refused 7 (line 3))`
+unfoldable pub refusedLine : ℕ → ℕ → List ℕ
+refusedLine number line = joined (text "(refused " ∷ digits number ∷ text " (line " ∷ digits line ∷ text "))\n" ∷ [])
+
+-- the answer to a sheet, by the pass over its limits: the page of its plan; the page of a ring, which may be any; or 14, at no line
+abbrev pub ByPass : Passed → Sheet → List ℕ → Type 0
+ByPass (finished t) s bytes = bytes ≡ planBytes s
+ByPass stopped s bytes = (ring : List ℕ) × T (isRing s ring) × (bytes ≡ ringBytes s ring)
+ByPass outOfRange s bytes = bytes ≡ refusedLine 14 0
+
+abbrev pub AnswerToSheet : Sheet → List ℕ → Type 0
+AnswerToSheet s bytes = ByPass (passed s) s bytes
+
+-- the answer by reading's first no, or to the sheet that was read
+abbrev pub ByReading : Verdict → Sheet → List ℕ → Type 0
+ByReading (no number line) s bytes = bytes ≡ refusedLine number line
+ByReading allYes s bytes = AnswerToSheet s bytes
+
+-- the answer to a text, with rooms for every sheet
+abbrev pub AnswerTo : List ℕ → List ℕ → Type 0
+AnswerTo input bytes = ByReading (firstNo (questions input roomsForAll)) (sheetIn input) bytes
+
+-- what a call leaves: an answer from the page's first place on, and the place just past it
+pub record Answered (Answer : List ℕ → Type 0) (page left : List ℕ) (next : ℕ) : Type 0 where
+  pub bytes : List ℕ
+  pub answers : Answer bytes
+  pub written : Written page 0 bytes left next

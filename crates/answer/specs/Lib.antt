@@ -1,0 +1,5 @@
+pub mod Answer
+pub mod Fronts
+pub mod FrontsLaws
+pub mod AnswerLaws
+pub mod AnswerConditions

@@ -1,0 +1,79 @@
+-- The places in front hold the list, and the others what they had.
+use Prim.Native.Nat.{ℕ, suc, _+_, _-_, _*_, _≤_, _<_}
+use native.Mathlib.Omega.{arith}
+use mathlib.Core.Path.{_≡_, refl, sym, ap, subst, _∙_}
+use borrow.Author.Needs.{needs}
+use mathlib.Core.List.{List, _++_}
+use lib.ListN.{length, getD, drop, length-set}
+use Rattle.lists.specs.Values.{listOf, Filled, filled-store, listOf-is}
+use Rattle.printing.proofs.copy_slots.Statement.{statement}
+use Rattle.printing.proofs.copy_slots.Tie as tie
+
+abbrev Inv-loop : tie.InvT-loop
+Inv-loop slots out₀ i₀ i-end out i = (i ≤ length slots) × (i-end ≡ length slots) × (length out ≡ length out₀) × Filled (λ (j : ℕ). getD slots j 0) i out₀ out
+
+abbrev μ-loop : tie.MeasureT-loop
+μ-loop slots out₀ i₀ i-end out i = length slots - i
+
+loop-holds : tie.Need-loop-holds Inv-loop μ-loop
+loop-holds c = (omega arith, refl, refl, refl)
+
+mul-out : tie.Need-mul-out Inv-loop μ-loop
+mul-out c = omega arith
+
+shared-slice-read-out : tie.Need-shared-slice-read-out Inv-loop μ-loop
+shared-slice-read-out c = omega arith
+
+mul-out-2 : tie.Need-mul-out-2 Inv-loop μ-loop
+mul-out-2 c = omega arith
+
+slice-write-out : tie.Need-slice-write-out Inv-loop μ-loop
+slice-write-out c = omega arith
+
+add-i : tie.Need-add-i Inv-loop μ-loop
+add-i c = omega arith
+
+loop-less : tie.Need-loop-less Inv-loop μ-loop
+loop-less c = omega arith
+
+loop-again : tie.Need-loop-again Inv-loop μ-loop
+loop-again c =
+    let row = c .before .before .before .args .slots .now in
+    let out₀ = c .before .before .before .args .out .now in
+    let l = c .before .before .loop in
+    let h : l .i < length out₀ = omega arith in (
+      omega arith,
+      refl,
+      length-set (l .out) (l .i) (getD row (l .i) 0) ∙ l .inv .2,
+      filled-store (λ (j : ℕ). getD row j 0) (l .i) out₀ (l .out) (l .inv .3) (getD row (l .i) 0) h refl,
+    )
+
+same-length : tie.Need-same-length Inv-loop μ-loop
+same-length slots = omega arith
+
+returns : tie.Need-returns Inv-loop μ-loop
+returns c =
+    let row = c .before .before .args .slots .now in
+    let out₀ = c .before .before .args .out .now in
+    let l = c .before .loop in
+    let e : l .i ≡ length row = omega arith in
+    let g : ℕ → ℕ = (λ j. getD row j 0) in
+    l .inv .3 ∙ ap (λ (k : ℕ). listOf k g ++ drop k out₀) e
+    ∙ ap (λ (xs : List ℕ). xs ++ drop (length row) out₀) (sym (listOf-is g 0 (length row) row refl (λ j h. refl)))
+
+pub copy-slots-spec : {M : Type 1} → statement M
+copy-slots-spec =
+    tie.close
+    (tie.spec
+    Inv-loop
+    μ-loop
+    loop-holds
+    mul-out
+    shared-slice-read-out
+    mul-out-2
+    slice-write-out
+    add-i
+    loop-less
+    loop-again
+    same-length
+    returns)

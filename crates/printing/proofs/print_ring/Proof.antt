@@ -1,0 +1,76 @@
+-- Where the page holds the answer, the rooms and the page are written; else nothing is.
+use mathlib.Core.Path.{_≡_, refl, sym, ap, ap₂, _∙_}
+use mathlib.Core.List.{List, []}
+use Prim.Native.Nat.{ℕ, _*_}
+use denote.Ref.{now}
+use lib.ListN.{length}
+use Rattle.asking.specs.Questions.{lent}
+use Rattle.network.specs.Table.{entry}
+use Rattle.page.specs.Page.{nonePage}
+use Rattle.printing.specs.PrintingLaws.{room, asked-yes, asked-no}
+use borrow.Author.Needs.{needs}
+use Rattle.printing.proofs.print_ring.Statement.{statement}
+use Rattle.printing.proofs.print_ring.Tie as tie
+
+none-length-requires : tie.Need-none-length-requires
+none-length-requires c κs = c .before .before .before .pre .0
+
+holds-requires : tie.Need-holds-requires
+holds-requires c κs = tt
+
+mul-clear : tie.Need-mul-clear
+mul-clear c = search needs
+
+clear-requires : tie.Need-clear-requires
+clear-requires c κs = c .before .before .before .before .before .before .before .pre .1 .0
+
+copy-slots-requires : tie.Need-copy-slots-requires
+copy-slots-requires c κs = c .before .before .before .before .before .before .before .before .before .before .pre .1 .1
+
+put-none-requires : tie.Need-put-none-requires
+put-none-requires c κs =
+    let s = c .before .before .before .before .before .before .before .before .before .before .before .before .before .before in
+    let a = s .args in (
+      s .pre .0,
+      room (now (a .page)) (a .at) (nonePage (entry (a .w) (now (a .limits))) (now (a .found))) (c .before .before .before .before .before .before .before .before .before .before .none-length .result)
+          (c .before .before .before .before .before .before .before .before .before .before .none-length .ensures) (c .before .before .before .before .before .before .before .before .before .holds .result) (c .before .before .before .before .before .before .before .before .before .holds .ensures) (c .before .before .before .before .before .before .before .before .if1 .taken),
+    )
+
+same-length : tie.Need-same-length
+same-length c = c .before .before .before .before .before .before .before .before .before .clear .kept .1 .0
+
+same-length-2 : tie.Need-same-length-2
+same-length-2 c = c .before .before .before .before .before .before .copy-slots .kept .1 .0
+
+same-length-3 : tie.Need-same-length-3
+same-length-3 c = c .before .before .put-none .kept .0
+
+returns : tie.Need-returns
+returns c =
+    let a = c .before .before .before .before .before .before .before .before .before .before .before .before .before .before .before .before .before .args in
+    asked-yes (now (a .page)) (a .at) (nonePage (entry (a .w) (now (a .limits))) (now (a .found))) (c .before .before .before .before .before .before .before .before .before .before .before .before .before .none-length .result)
+    (c .before .before .before .before .before .before .before .before .before .before .before .before .before .none-length .ensures) (c .before .before .before .before .before .before .before .before .before .before .before .before .holds .result) (c .before .before .before .before .before .before .before .before .before .before .before .before .holds .ensures) _ _ _ _ _ _ (c .before .before .before .before .before .before .before .before .before .before .before .if1 .taken)
+    (c .before .before .put-none .result) (c .before .before .put-none .ensures) refl
+    (rw (c .before .before .before .before .before .before .before .before .before .clear .ensures, c .before .before .before .before .before .before .copy-slots .ensures) refl)
+
+returns-2 : tie.Need-returns-2
+returns-2 c =
+    let a = c .before .before .before .before .before .before .args in
+    asked-no (now (a .page)) (a .at) (nonePage (entry (a .w) (now (a .limits))) (now (a .found))) (c .before .before .none-length .result)
+    (c .before .before .none-length .ensures) (c .before .holds .result) (c .before .holds .ensures) _ _ _ _ _ _ (c .if1 .left) refl refl refl
+
+pub print-ring-spec : {M : Type 1} → statement M
+print-ring-spec =
+    tie.close
+    (tie.spec
+    none-length-requires
+    holds-requires
+    mul-clear
+    clear-requires
+    copy-slots-requires
+    put-none-requires
+    same-length
+    same-length-2
+    same-length-3
+    returns
+    returns-2)

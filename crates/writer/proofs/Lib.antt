@@ -1,0 +1,5 @@
+mod Again
+mod Calls
+mod Held
+mod Thin
+mod ThinContract
