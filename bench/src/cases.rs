@@ -7,6 +7,7 @@ pub struct Case {
     pub name: String,
     pub texts: Vec<Vec<u8>>,
     pub sheets: Vec<plain::Sheet>,
+    pub limits: Vec<Vec<i16>>,
 }
 
 /// Sheets as in 001, section 4, by their number of units, rules and slots; the largest sheets, loose, tight, and with no plan by
@@ -39,8 +40,9 @@ pub fn make(name: &str) -> Case {
         _ => panic!("no case {name}; --list has them"),
     };
     let texts: Vec<Vec<u8>> = sheets.iter().map(Sheet::text).collect();
-    let sheets = texts.iter().map(|text| plain::read(text).expect("a sheet")).collect();
-    Case { name: name.into(), texts, sheets }
+    let sheets: Vec<plain::Sheet> = texts.iter().map(|text| plain::read(text).expect("a sheet")).collect();
+    let limits = sheets.iter().map(|sheet| plain::limits(sheet, &plain::windows_inside(sheet))).collect();
+    Case { name: name.into(), texts, sheets, limits }
 }
 
 /// A tight sheet, one of whose rules wants one unit more: of all rules that leave no plan so, the one with the longest ring.

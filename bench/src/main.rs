@@ -4,6 +4,7 @@
 //!     cargo run --release -- CASE..              some cases, by the start of their names
 //!     cargo run --release -- --list              the names of the cases
 //!     cargo run --release -- --jobs              the names of the jobs
+//!     cargo run --release -- --sheets CASE       how many sheets a case has
 //!     cargo run --release -- --count CASE SIDE JOB N     does one job N times and prints nothing, for an instruction counter
 //!
 //! Both sides get the same texts and lists. The planner's rooms and page are made once and lent again and again without being
@@ -17,20 +18,19 @@ use std::time::{Duration, Instant};
 
 use cases::Case;
 
-/// What is measured: reading alone, planning alone (table, seats, narrowed windows or ring), and the whole way from a text to
-/// a page.
+/// What is measured: from a text to lists; the pass alone, over a copy of the sheet's limits; from lists to the rooms (table,
+/// seats, narrowed windows or ring); from lists to a page, so that `print` less `plan` is printing; from a text to a page.
 #[derive(Clone, Copy, PartialEq)]
 enum Job {
     Read,
+    Pass,
     Plan,
+    Print,
     Whole,
 }
 
-const JOBS: &[(Job, &str)] = &[
-    (Job::Read, "read"),
-    (Job::Plan, "plan"),
-    (Job::Whole, "whole"),
-];
+const JOBS: [(Job, &str); 5] =
+    [(Job::Read, "read"), (Job::Pass, "pass"), (Job::Plan, "plan"), (Job::Print, "print"), (Job::Whole, "whole")];
 
 /// A side does a job on each sheet of a case.
 trait Side {
@@ -43,10 +43,12 @@ struct Plain;
 
 impl Side for Plain {
     fn run(&mut self, case: &Case, job: Job) {
-        for (text, sheet) in case.texts.iter().zip(&case.sheets) {
+        for ((text, sheet), limits) in case.texts.iter().zip(&case.sheets).zip(&case.limits) {
             match job {
                 Job::Read => drop(black_box(plain::read(black_box(text)))),
+                Job::Pass => drop(black_box(plain::close(&mut black_box(limits).clone(), sheet.span + 1))),
                 Job::Plan => drop(black_box(plain::plan(black_box(sheet)))),
+                Job::Print => drop(black_box(plain::print(black_box(sheet), &plain::plan(sheet)))),
                 Job::Whole => drop(black_box(self.page(black_box(text)))),
             }
         }
@@ -64,7 +66,7 @@ impl Side for Plain {
 
 mod planner {
     use super::{black_box, Case, Job, Side};
-    use tugrokt::entry::{self, Counts, ListRooms, Lists, Rooms};
+    use tugrokt::entry::{self, Counts, ListRooms, Lists, Outcome, Rooms};
     use tugrokt::{MOST_RULES, MOST_SLOTS, MOST_UNITS};
 
     /// The planner, with rooms that are lent again and again.
@@ -74,6 +76,11 @@ mod planner {
         rooms: [Vec<u16>; 3],
         ring: Vec<u16>,
         page: Vec<u8>,
+    }
+
+    fn lists(sheet: &plain::Sheet) -> Lists<'_> {
+        let plain::Sheet { span, first, last, from, to, low, high } = sheet;
+        Lists { span: *span, first, last, from, to, low, high }
     }
 
     impl Planner {
@@ -96,39 +103,38 @@ mod planner {
             counts
         }
 
+        fn pass(&mut self, limits: &[i16], w: usize) -> Option<Outcome> {
+            self.table[..limits.len()].copy_from_slice(limits);
+            entry::pass(&mut self.table, w)
+        }
+
         fn plan(&mut self, sheet: &plain::Sheet) -> usize {
-            let plain::Sheet { span, first, last, from, to, low, high } = sheet;
             let [plan, earliest, latest] = &mut self.rooms;
+            let rooms = Rooms { table: &mut self.table, plan, earliest, latest, ring: &mut self.ring };
             let mut length = 0;
-            let reply = entry::plan(
-                Lists { span: *span, first, last, from, to, low, high },
-                Rooms { table: &mut self.table, plan, earliest, latest, ring: &mut self.ring },
-                &mut length,
-            );
+            let reply = entry::plan(lists(sheet), rooms, &mut length);
             assert_eq!(reply, 0, "the cases are sheets");
             length
+        }
+
+        fn print(&mut self, sheet: &plain::Sheet) -> usize {
+            let [plan, earliest, latest] = &mut self.rooms;
+            let rooms = Rooms { table: &mut self.table, plan, earliest, latest, ring: &mut self.ring };
+            let mut place = 0;
+            let reply = entry::print(lists(sheet), rooms, &mut self.page, &mut place, &mut 0);
+            assert_eq!(reply, 0, "the page is long enough");
+            place
         }
 
         fn whole(&mut self, text: &[u8]) -> usize {
             let Counts { span, units, rules, .. } = self.read(text);
             let [first, last, from, to, low, high] = &self.lists;
+            let [first, last] = [first, last].map(|list| &list[..units]);
+            let [from, to, low, high] = [from, to, low, high].map(|list| &list[..rules]);
             let [plan, earliest, latest] = &mut self.rooms;
+            let rooms = Rooms { table: &mut self.table, plan, earliest, latest, ring: &mut self.ring };
             let mut place = 0;
-            let reply = entry::print(
-                Lists {
-                    span,
-                    first: &first[..units],
-                    last: &last[..units],
-                    from: &from[..rules],
-                    to: &to[..rules],
-                    low: &low[..rules],
-                    high: &high[..rules],
-                },
-                Rooms { table: &mut self.table, plan, earliest, latest, ring: &mut self.ring },
-                &mut self.page,
-                &mut place,
-                &mut 0,
-            );
+            let reply = entry::print(Lists { span, first, last, from, to, low, high }, rooms, &mut self.page, &mut place, &mut 0);
             assert_eq!(reply, 0, "the page is long enough");
             place
         }
@@ -136,10 +142,12 @@ mod planner {
 
     impl Side for Planner {
         fn run(&mut self, case: &Case, job: Job) {
-            for (text, sheet) in case.texts.iter().zip(&case.sheets) {
+            for ((text, sheet), limits) in case.texts.iter().zip(&case.sheets).zip(&case.limits) {
                 match job {
                     Job::Read => drop(black_box(self.read(black_box(text)))),
+                    Job::Pass => drop(black_box(self.pass(black_box(limits), sheet.span + 1))),
                     Job::Plan => drop(black_box(self.plan(black_box(sheet)))),
+                    Job::Print => drop(black_box(self.print(black_box(sheet)))),
                     Job::Whole => drop(black_box(self.whole(black_box(text)))),
                 }
             }
@@ -195,10 +203,8 @@ fn compare(case: &Case, sides: &mut [(&'static str, Box<dyn Side>)]) {
         let same = answers[0] == answers[1];
         let both_none = answers.iter().all(|a| matches!(a, plain::Answer::None { .. }));
         assert!(same || both_none, "{}: the two sides' answers to sheet {i} differ", case.name);
-        {
-            let pages: Vec<Vec<u8>> = sides.iter_mut().map(|side| side.1.page(&case.texts[i])).collect();
-            assert!(!same || pages[0] == pages[1], "{}: the two sides' pages of sheet {i} differ", case.name);
-        }
+        let pages: Vec<Vec<u8>> = sides.iter_mut().map(|side| side.1.page(&case.texts[i])).collect();
+        assert!(!same || pages[0] == pages[1], "{}: the two sides' pages of sheet {i} differ", case.name);
     }
 }
 
@@ -208,10 +214,11 @@ fn main() {
     match words.first().map(String::as_str) {
         Some("--list") => cases::NAMES.iter().for_each(|name| println!("{name}")),
         Some("--jobs") => JOBS.iter().for_each(|job| println!("{}", job.1)),
+        Some("--sheets") => println!("{}", cases::make(&words[1]).sheets.len()),
         Some("--count") => {
             let [_, name, side, job, times] = &words[..] else { panic!("--count CASE SIDE JOB N") };
             let case = cases::make(name);
-            let job = JOBS.iter().find(|j| j.1 == job).expect("a job: read, plan or whole").0;
+            let job = JOBS.iter().find(|j| j.1 == job).expect("a job; --jobs has them").0;
             let side = sides.iter_mut().find(|s| s.0 == side).expect("a side: planner or plain");
             for _ in 0..times.parse().expect("a number of times") {
                 side.1.run(&case, job);
@@ -223,7 +230,7 @@ fn main() {
             for name in cases::NAMES.iter().filter(chosen) {
                 let case = cases::make(name);
                 compare(&case, &mut sides);
-                for &(job, job_name) in JOBS {
+                for (job, job_name) in JOBS {
                     let least = measure(&case, job, &mut sides);
                     let (ours, theirs) = (least[0], least[least.len() - 1]);
                     println!("{name:14} {job_name:6} {ours:12.0} {theirs:12.0} {:7.2}", ours / theirs);

@@ -89,7 +89,7 @@ fn sweep(d: &[i16], m: &[i16], w: usize, f: usize, v: usize, l: usize, z: &mut [
 }
 
 // Whether the network admits the cut of the window f..l at v. The potential starts as the highest that is 0 before the window.
-fn admits(d: &[i16], m: &[i16], w: usize, f: usize, v: usize, l: usize) -> bool
+pub fn admits(d: &[i16], m: &[i16], w: usize, f: usize, v: usize, l: usize) -> bool
     requires { ⌜ Network w (now d) (now m) × Cuts w f v l ⌝ }
     ensures { λ r. ⌜ Decides r (AdmitsAt w (now (d .entry)) (now (m .entry)) f v l) ⌝ }
 {

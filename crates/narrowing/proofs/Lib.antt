@@ -3,6 +3,7 @@ mod MirrorLaws
 mod ExtremeLaws
 mod FillLaws
 mod MarkLaws
+mod CommonCutLaws
 mod CutRowLaws
 mod CutWindowsLaws
 mod TurnLaws

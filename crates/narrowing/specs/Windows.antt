@@ -27,6 +27,12 @@ pub record Marked (n w : ℕ) (first last plan marks : List ℕ) : Type 0 where
   pub from : (f l : ℕ) → f < w → l < w → (slot w marks f l ≡ 0)
       ⊎ ((j : ℕ) × (j < n) × (getD first j 0 ≡ f) × (getD last j 0 ≡ l) × (slot w marks f l ≡ getD plan j 0))
 
+-- r is the last place of the row that is marked, or 0
+pub record LastMark (row : List ℕ) (r : ℕ) : Type 0 where
+  pub inside : 0 < r → r < length row
+  pub marked : 0 < r → 0 < getD row r 0
+  pub last : (j : ℕ) → r < j → getD row j 0 ≡ 0
+
 -- ---- cuts
 
 -- x is an admitted cut of the window f..l
@@ -38,6 +44,11 @@ pub record KnownCut (w : ℕ) (d m : List ℤ) (f l x : ℕ) : Type 0 where
 -- every mark in the row of the windows that open in f is an admitted cut
 abbrev pub KnownRow : ℕ → List ℤ → List ℤ → ℕ → List ℕ → Type 0
 KnownRow w d m f row = (l : ℕ) → l < w → 0 < getD row l 0 → KnownCut w d m f l (getD row l 0)
+
+-- v is an admitted cut of every marked window of the row that reaches to it
+pub record CommonCut (w : ℕ) (d m : List ℤ) (f : ℕ) (row : List ℕ) (v : ℕ) : Type 0 where
+  pub above : f ≤ v
+  pub admitted : (l : ℕ) → l < w → 0 < getD row l 0 → v ≤ l → AdmitsAt w d m f v l
 
 -- the windows that open in f and close before k have their least cuts, where they are marked
 abbrev pub CutRow : ℕ → List ℤ → List ℤ → ℕ → ℕ → List ℕ → List ℕ → Type 0

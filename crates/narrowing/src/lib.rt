@@ -1,7 +1,8 @@
+use cuts::admits;
 use cuts::least_cut;
 use limits::inside::windows_inside;
 ghost use mathlib.Core.Path.{_≡_};
-ghost use Prim.Native.Nat.{ℕ, _-_, _*_, _<_, _≤_, max};
+ghost use Prim.Native.Nat.{ℕ, _-_, _*_, _<_, _≤_, max, min};
 ghost use mathlib.Core.List.{_++_};
 ghost use lib.ListN.{length, getD, drop};
 ghost use Rattle.lists.specs.Values.{listOf, Filled};
@@ -12,7 +13,7 @@ ghost use Rattle.limits.specs.LimitTable.{WindowsFit, insideWeights};
 ghost use Rattle.sheet.specs.Limits.{maxUnits};
 ghost use Rattle.cuts.specs.Carry.{Network};
 ghost use Rattle.narrowing.specs.CutSheet.{mirrored, oneLess, ModestTable};
-ghost use Rattle.narrowing.specs.Windows.{slot, Units, Marked, KnownRow, CutRow, Floor, KnownCuts, CutRows};
+ghost use Rattle.narrowing.specs.Windows.{slot, Units, Marked, LastMark, KnownRow, CommonCut, CutRow, Floor, KnownCuts, CutRows};
 ghost use Rattle.narrowing.specs.Windows.{Admitted, LeastCuts, AdmittedTurned, LeastCutsTurned, AdmittedLate, GreatestCuts};
 ghost use Rattle.narrowing.specs.Narrowing.{Narrowable, earliestRoom, latestRoom};
 
@@ -72,6 +73,12 @@ fn larger(a: usize, b: u16) -> usize
     if a < c { c } else { a }
 }
 
+fn smaller(a: usize, b: usize) -> usize
+    ensures { λ r. ⌜ r ≡ min a b ⌝ }
+{
+    if b < a { b } else { a }
+}
+
 // Marks each unit's window with the unit's slot.
 fn mark(first: &[u16], last: &[u16], plan: &[u16], w: usize, marks: &mut [u16])
     requires { ⌜ Units w (now first) (now last) (now plan) × (w * w ≤ length (now marks)) × ((i : ℕ) → getD (now marks) i 0 ≡ 0) ⌝ }
@@ -85,6 +92,39 @@ fn mark(first: &[u16], last: &[u16], plan: &[u16], w: usize, marks: &mut [u16])
     }
 }
 
+// The last place of the row that is marked, or 0.
+fn last_marked(row: &[u16]) -> usize
+    ensures { λ r. ⌜ LastMark (now (row .entry)) r ⌝ }
+{
+    let mut n = row.len();
+    while 0 < n {
+        let last = n - 1;
+        if 0 < row[last] {
+            return last;
+        }
+        n = last;
+    }
+    0
+}
+
+// A cut of every marked window that reaches to it. What the longest window admits, the others that open with it do too, so one try mostly
+// serves the whole row; where it fails, the answer is w, which no window reaches.
+fn common_cut(d: &[i16], m: &[i16], w: usize, f: usize, row: &[u16], floor: &[u16]) -> usize
+    requires { ⌜ Network w (now d) (now m) × (1 ≤ f) × (f < w) × (length (now row) ≡ w) × (w ≤ length (now floor)) × KnownRow w (now d) (now m) f (now row) ⌝ }
+    ensures { λ r. ⌜ CommonCut w (now (d .entry)) (now (m .entry)) f (now (row .entry)) r ⌝ }
+{
+    let l = last_marked(row);
+    let v = larger(f, floor[l]);
+    let known = row[l] as usize;
+    if known <= v {
+        return v;
+    }
+    if admits(d, m, w, f, v, l) {
+        return v;
+    }
+    w
+}
+
 // The least cuts of the windows that open in f, in the order in which they close: what is barred for one is barred for the next, and for
 // the window that opens later and closes in the same slot.
 fn cut_row(d: &[i16], m: &[i16], w: usize, f: usize, row: &mut [u16], floor: &mut [u16])
@@ -93,12 +133,13 @@ fn cut_row(d: &[i16], m: &[i16], w: usize, f: usize, row: &mut [u16], floor: &mu
     ensures { λ _. ⌜ CutRow w (now (d .entry)) (now (m .entry)) f w (now (row .entry)) (now (row .exit)) ⌝ }
     ensures { λ _. ⌜ Floor w (now (d .entry)) (now (m .entry)) f (now (floor .exit)) ⌝ }
 {
+    let common = common_cut(d, m, w, f, row, floor);
     let mut low = f;
     for l in f..w {
         low = larger(low, floor[l]);
         let known = row[l] as usize;
         if 0 < known {
-            low = least_cut(d, m, w, f, l, low, known);
+            low = least_cut(d, m, w, f, l, low, smaller(known, common));
             row[l] = low as u16;
         }
         floor[l] = low as u16;

@@ -72,12 +72,20 @@ fn sums_fit(ends: Extremes, am: i16) -> bool
     true
 }
 
-// A row's columns are taken in stretches of 16, which fill whole vector registers.
+// How many stretches of 64 columns a row has. It is one here, and the compiler sees that: the row step becomes one loop of vectors.
+fn stretches(w: usize) -> usize
+    requires { ⌜ w ≤ mostBoundaries ⌝ }
+    ensures { λ r. ⌜ (w ≤ r * 64) × (r * 64 < w + 64) ⌝ }
+{
+    (w + 63) / 64
+}
+
+// Where the stretch that starts at b ends.
 fn stretch_end(b: usize, w: usize) -> usize
     requires { ⌜ b < w ⌝ }
-    ensures { λ r. ⌜ r ≡ min (b + 16) w ⌝ }
+    ensures { λ r. ⌜ r ≡ min (b + 64) w ⌝ }
 {
-    if w - b < 16 { w } else { b + 16 }
+    if w - b < 64 { w } else { b + 64 }
 }
 
 // The row step: each entry becomes the smaller of itself and the sum over the middle boundary. Every entry is stored, so that no branch is left.
@@ -118,19 +126,27 @@ fn run_middles(t: &mut [i16], w: usize, from: usize, to: usize) -> Outcome
                 outcome = Outcome::OutOfRange;
                 break 'pass;
             }
-            let mut b = 0;
-            while b < w {
+            let n = stretches(w);
+            for k in 0..n {
+                let b = k * 64;
                 let e = stretch_end(b, w);
                 relax_row(&mut row[b..e], &mid[b..e], am);
                 if integers::less(row[a], 0) {
                     outcome = Outcome::Stopped;
                     break 'pass;
                 }
-                b = e;
             }
         }
     }
     outcome
+}
+
+// The compiler reads no contracts. This tells it how many boundaries there are at most, and so that a row is one stretch.
+fn capped(w: usize) -> usize
+    requires { ⌜ w ≤ mostBoundaries ⌝ }
+    ensures { λ r. ⌜ r ≡ w ⌝ }
+{
+    if w < 49 { w } else { 49 }
 }
 
 // The middle boundaries from..to. Where they do not all finish, the table's places become 0; places past the table never change.
@@ -138,7 +154,7 @@ pub fn pass_middles(t: &mut [i16], w: usize, from: usize, to: usize) -> Outcome
     requires { ⌜ (0 < w) × (w ≤ mostBoundaries) × (w * w ≤ length (now t)) × (from ≤ to) × (to ≤ w) ⌝ }
     ensures { λ r. ⌜ After w (now (t .entry)) (passFrom (to - from) from w (now (t .entry))) r (now (t .exit)) ⌝ }
 {
-    let outcome = run_middles(t, w, from, to);
+    let outcome = run_middles(t, capped(w), from, to);
     match outcome {
         Outcome::Finished => {}
         Outcome::Stopped => clear(w * w, t),

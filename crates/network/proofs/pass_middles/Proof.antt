@@ -1,15 +1,43 @@
 -- Where the middles do not all finish, the half-done table is cleared, and past the table the loops changed nothing.
 use Prim.Native.Nat.{ℕ, _-_}
 use native.Mathlib.Omega.{arith}
-use mathlib.Core.Path.{_≡_}
+use mathlib.Core.Path.{_≡_, subst}
 use Rattle.network.specs.Table.{passFrom}
+use Rattle.network.specs.Row.{Ran}
 use Rattle.network.proofs.PassSteps.{after-finished, after-cleared}
 use borrow.Author.Needs.{needs}
 use Rattle.network.proofs.pass_middles.Statement.{statement}
 use Rattle.network.proofs.pass_middles.Tie as tie
+use Rattle.network.proofs.pass_middles.Reads as reads
+use Rattle.network.proofs.pass_middles.Lts as lts
+use Rattle.network.proofs.capped.Reads as capped-reads
+use Rattle.network.proofs.clear.Reads as clear-reads
+use Rattle.network.proofs.run_middles.Reads as run-middles-reads
+
+-- ---- once the loops have run: their width is the caller's
+abbrev Looped : Type 0
+Looped = lts.After-run-middles (
+  capped-reads.Asked,
+  capped-reads.Learnt,
+  run-middles-reads.Asked,
+  run-middles-reads.Learnt,
+  clear-reads.Asked,
+  clear-reads.Learnt,
+) reads.Pre reads.Post
+
+ran-here : (c : Looped) →
+    let a = c .before .before .before .args in
+    Ran (a .w) (a .t .now) (passFrom (a .to - a .from) (a .from) (a .w) (a .t .now)) (c .run-middles .result) (c .run-middles .last .0)
+ran-here c =
+    let a = c .before .before .before .args in
+    subst (λ (w : ℕ). Ran w (a .t .now) (passFrom (a .to - a .from) (a .from) w (a .t .now)) (c .run-middles .result) (c .run-middles .last .0))
+    (c .before .capped .ensures) (c .run-middles .ensures)
+
+capped-requires : tie.Need-capped-requires
+capped-requires c κs = search needs
 
 run-middles-requires : tie.Need-run-middles-requires
-run-middles-requires c κs = search needs
+run-middles-requires c κs = let e = c .capped .ensures in let pre = c .before .before .pre in rw e pre
 
 enum-told : tie.Need-enum-told
 enum-told c = search needs
@@ -37,20 +65,20 @@ same-length c = search needs
 
 returns : tie.Need-returns
 returns c =
-    let st = c .before .before .before .before .before in
+    let st = c .before .before .before .before .before .before in
     let p = passFrom (st .args .to - st .args .from) (st .args .from) (st .args .w) (st .args .t .now) in
     let ran = c .before .before .before in
-    after-finished (st .args .w) (st .args .t .now) p (ran .run-middles .result) (ran .run-middles .last .0) (ran .run-middles .ensures) (c .enum-told .given .1)
+    after-finished (st .args .w) (st .args .t .now) p (ran .run-middles .result) (ran .run-middles .last .0) (ran-here ran) (c .enum-told .given .1)
 
 same-length-2 : tie.Need-same-length-2
 same-length-2 c = search needs
 
 returns-2 : tie.Need-returns-2
 returns-2 c =
-    let st = c .before .before .before .before .before .before .before .before in
+    let st = c .before .before .before .before .before .before .before .before .before in
     let p = passFrom (st .args .to - st .args .from) (st .args .from) (st .args .w) (st .args .t .now) in
     let ran = c .before .before .before .before .before .before in
-    after-cleared (st .args .w) (st .args .t .now) p (ran .run-middles .result) (ran .run-middles .last .0) (c .before .clear .last .1 .0) (ran .run-middles .ensures)
+    after-cleared (st .args .w) (st .args .t .now) p (ran .run-middles .result) (ran .run-middles .last .0) (c .before .clear .last .1 .0) (ran-here ran)
     (λ e. let o = c .before .before .before .enum-told2 .given in let z : _≡_ {A = ℕ} 0 1 = cc in omega arith) (c .before .clear .ensures)
 
 same-length-3 : tie.Need-same-length-3
@@ -58,16 +86,17 @@ same-length-3 c = search needs
 
 returns-3 : tie.Need-returns-3
 returns-3 c =
-    let st = c .before .before .before .before .before .before .before .before in
+    let st = c .before .before .before .before .before .before .before .before .before in
     let p = passFrom (st .args .to - st .args .from) (st .args .from) (st .args .w) (st .args .t .now) in
     let ran = c .before .before .before .before .before .before in
-    after-cleared (st .args .w) (st .args .t .now) p (ran .run-middles .result) (ran .run-middles .last .0) (c .before .clear2 .last .1 .0) (ran .run-middles .ensures)
+    after-cleared (st .args .w) (st .args .t .now) p (ran .run-middles .result) (ran .run-middles .last .0) (c .before .clear2 .last .1 .0) (ran-here ran)
     (λ e. let o = c .before .before .before .enum-told3 .given in let z : _≡_ {A = ℕ} 0 1 = cc in omega arith) (c .before .clear2 .ensures)
 
 pub pass-middles-spec : {M : Type 1} → statement M
 pass-middles-spec =
     tie.close
     (tie.spec
+    capped-requires
     run-middles-requires
     enum-told
     enum-told-2

@@ -1,8 +1,8 @@
 -- The three loops of the pass: each turn is a law of `PassSteps`, and a break hands over what the pass's definition says at that row.
 -- A place of the code has a name and its values too, so that each fact is stated once, where it is first known, and cited from the places after it.
-use Prim.Native.Nat.{ℕ, suc, _+_, _-_, _*_, _≤_, _<_}
+use Prim.Native.Nat.{ℕ, suc, _+_, _-_, _*_, _≤_, _<_, min}
 use native.Mathlib.Omega.{arith}
-use mathlib.Core.Path.{_≡_, refl, sym, _∙_}
+use mathlib.Core.Path.{_≡_, refl, sym, _∙_, subst}
 use mathlib.Core.Bool.{true, false}
 use mathlib.Core.List.{List}
 use lib.ListN.{length, getD, take, drop}
@@ -28,13 +28,14 @@ use Rattle.integers.proofs.less.Reads as less-reads
 use Rattle.network.proofs.load_row.Reads as load-row-reads
 use Rattle.network.proofs.relax_row.Reads as relax-row-reads
 use Rattle.network.proofs.stretch_end.Reads as stretch-end-reads
+use Rattle.network.proofs.stretches.Reads as stretches-reads
 use Rattle.network.proofs.sums_fit.Reads as sums-fit-reads
 
 abbrev Inv-loop2 : tie.InvT-loop2
-Inv-loop2 w from to outcome₀ mid m ends a start end row₀ am b₀ outcome row b = ColsInv (toZ w16 am) mid row₀ w a outcome row b
+Inv-loop2 w from to outcome₀ mid m ends a start end row₀ am n k₀ outcome row k = ColsInv (toZ w16 am) mid row₀ w a outcome row (min (k * 64) w)
 
 abbrev μ-loop2 : tie.MeasureT-loop2
-μ-loop2 w from to outcome₀ mid m ends a start end row₀ am b₀ outcome row b = w - b
+μ-loop2 w from to outcome₀ mid m ends a start end row₀ am n k₀ outcome row k = n - k
 
 abbrev Inv-loop : tie.InvT-loop
 Inv-loop t₀ w from to outcome₀ mid m ends a₀ t outcome a = RowsInv w m t₀ outcome t a
@@ -55,6 +56,8 @@ InMiddle = lts.After-load-row (
   load-row-reads.Learnt,
   sums-fit-reads.Asked,
   sums-fit-reads.Learnt,
+  stretches-reads.Asked,
+  stretches-reads.Learnt,
   stretch-end-reads.Asked,
   stretch-end-reads.Learnt,
   relax-row-reads.Asked,
@@ -102,6 +105,8 @@ InRow = lts.In-loop (
   load-row-reads.Learnt,
   sums-fit-reads.Asked,
   sums-fit-reads.Learnt,
+  stretches-reads.Asked,
+  stretches-reads.Learnt,
   stretch-end-reads.Asked,
   stretch-end-reads.Learnt,
   relax-row-reads.Asked,
@@ -150,6 +155,8 @@ Asked = lts.After-sums-fit (
   load-row-reads.Learnt,
   sums-fit-reads.Asked,
   sums-fit-reads.Learnt,
+  stretches-reads.Asked,
+  stretches-reads.Learnt,
   stretch-end-reads.Asked,
   stretch-end-reads.Learnt,
   relax-row-reads.Asked,
@@ -179,6 +186,8 @@ InStretch = lts.After-stretch-end (
   load-row-reads.Learnt,
   sums-fit-reads.Asked,
   sums-fit-reads.Learnt,
+  stretches-reads.Asked,
+  stretches-reads.Learnt,
   stretch-end-reads.Asked,
   stretch-end-reads.Learnt,
   relax-row-reads.Asked,
@@ -187,8 +196,22 @@ InStretch = lts.After-stretch-end (
   less-reads.Learnt,
 ) reads.Pre reads.Post Inv-loop2 μ-loop2 Inv-loop μ-loop Inv-pass μ-pass
 
-stretch-here : (c : InStretch) → (c .before .before .loop2 .b < c .stretch-end .result) × (c .stretch-end .result ≤ width (c .before .before .before .before .before .before .before .before .before .before))
-stretch-here c = (omega (arith, c .stretch-end .ensures, c .before .loop2-test .taken), omega (arith, c .stretch-end .ensures))
+abbrev first : InStretch → ℕ
+first c = c .before .before .loop2 .k * 64
+
+first-below : (c : InStretch) → first c < width (c .before .before .before .before .before .before .before .before .before .before .before)
+first-below c = omega (arith, c .before .loop2-test .taken, c .before .before .before .stretches .ensures)
+
+stretch-here : (c : InStretch) → (first c < c .stretch-end .result) × (c .stretch-end .result ≤ width (c .before .before .before .before .before .before .before .before .before .before .before))
+stretch-here c = (omega (arith, c .stretch-end .ensures, first-below c), omega (arith, c .stretch-end .ensures))
+
+cols-here : (c : InStretch) → ColsInv (am (c .before .before .before .before .before .before .before .before)) (copy (c .before .before .before .before .before .before .before .before .before .before .before)) (part (c .before .before .before .before .before .before .before .before)) (width (c .before .before .before .before .before .before .before .before .before .before .before)) (rowAt (c .before .before .before .before .before .before .before .before)) (c .before .before .loop2 .outcome) (c .before .before .loop2 .row) (first c)
+cols-here c =
+    let m = c .before .before .before .before .before .before .before .before .before .before .before in
+    let r = c .before .before .before .before .before .before .before .before in
+    let q = c .before .before .loop2 in
+    let e : min (first c) (width m) ≡ first c = omega (arith, first-below c) in
+    subst (λ (b : ℕ). ColsInv (am r) (copy m) (part r) (width m) (rowAt r) (q .outcome) (q .row) b) e (q .inv)
 
 -- ---- after the row step
 abbrev Stepped : Type 0
@@ -197,6 +220,8 @@ Stepped = lts.After-less (
   load-row-reads.Learnt,
   sums-fit-reads.Asked,
   sums-fit-reads.Learnt,
+  stretches-reads.Asked,
+  stretches-reads.Learnt,
   stretch-end-reads.Asked,
   stretch-end-reads.Learnt,
   relax-row-reads.Asked,
@@ -206,7 +231,7 @@ Stepped = lts.After-less (
 ) reads.Pre reads.Post Inv-loop2 μ-loop2 Inv-loop μ-loop Inv-pass μ-pass
 
 abbrev begin : Stepped → ℕ
-begin c = c .before .before .before .before .before .before .before .before .before .loop2 .b
+begin c = first (c .before .before .before .before .before .before .before)
 
 abbrev stop : Stepped → ℕ
 stop c = c .before .before .before .before .before .before .before .stretch-end .result
@@ -214,9 +239,9 @@ stop c = c .before .before .before .before .before .before .before .stretch-end 
 abbrev stepped : Stepped → List ℤ
 stepped c = back (begin c) (stop c - begin c) (c .before .before .before .relax-row .last .0) (c .before .before .before .before .before .before .before .before .before .loop2 .row)
 
-low-here : (c : Stepped) → c .less .result ≡ ltZ (getD (stepped c) (rowAt (c .before .before .before .before .before .before .before .before .before .before .before .before .before .before)) (pos 0)) (pos 0)
+low-here : (c : Stepped) → c .less .result ≡ ltZ (getD (stepped c) (rowAt (c .before .before .before .before .before .before .before .before .before .before .before .before .before .before .before)) (pos 0)) (pos 0)
 low-here c =
-    let f : SFits w16 (getD (stepped c) (rowAt (c .before .before .before .before .before .before .before .before .before .before .before .before .before .before)) (pos 0)) = search needs in
+    let f : SFits w16 (getD (stepped c) (rowAt (c .before .before .before .before .before .before .before .before .before .before .before .before .before .before .before)) (pos 0)) = search needs in
     simp (toZ-ofZ f) at (c .less .ensures)
 
 -- ---- the needs
@@ -266,112 +291,132 @@ slice-copy-out-am c = omega (arith, row-here (c .before) .long, middle-below (c 
 sums-fit-requires : tie.Need-sums-fit-requires Inv-loop2 μ-loop2 Inv-loop μ-loop Inv-pass μ-pass
 sums-fit-requires c κs = tt
 
+stretches-requires : tie.Need-stretches-requires Inv-loop2 μ-loop2 Inv-loop μ-loop Inv-pass μ-pass
+stretches-requires c κs = omega (arith, c .before .before .before .before .before .before .before .before .before .before .before .before .pre)
+
 loop2-holds : tie.Need-loop2-holds Inv-loop2 μ-loop2 Inv-loop μ-loop Inv-pass μ-pass
 loop2-holds c =
-    let m = c .before .before .before .before .before .before .before in
-    let r = c .before .before .before .before in
-    cols-start (am r) (copy m) (part r) (width m) (rowAt r) (c .before .before .before .before .before .loop .outcome) (c .before .before .before .before .before .loop .inv .none) (row-here r .long)
+    let m = c .before .before .before .before .before .before .before .before in
+    let r = c .before .before .before .before .before in
+    let o = c .before .before .before .before .before .before .loop in
+    let e : 0 ≡ min (0 * 64) (width m) = omega arith in
+    subst (λ (b : ℕ). ColsInv (am r) (copy m) (part r) (width m) (rowAt r) (o .outcome) (part r) b) e
+    (cols-start (am r) (copy m) (part r) (width m) (rowAt r) (o .outcome) (o .inv .none) (row-here r .long))
+
+mul-b : tie.Need-mul-b Inv-loop2 μ-loop2 Inv-loop μ-loop Inv-pass μ-pass
+mul-b c = omega (arith, c .loop2-test .taken, c .before .before .stretches .ensures, c .before .before .before .before .before .before .before .before .before .before .before .before .before .before .before .pre)
 
 stretch-end-requires :
     tie.Need-stretch-end-requires Inv-loop2 μ-loop2 Inv-loop μ-loop Inv-pass μ-pass
-stretch-end-requires c κs = omega (arith, c .loop2-test .taken)
+stretch-end-requires c κs = omega (arith, c .loop2-test .taken, c .before .before .stretches .ensures)
 
 mul-relax-row : tie.Need-mul-relax-row Inv-loop2 μ-loop2 Inv-loop μ-loop Inv-pass μ-pass
-mul-relax-row c = omega (arith, stretch-here (c), c .before .before .before .before .before .before .before .before .before .before .before .before .before .before .before .pre)
+mul-relax-row c = omega (arith, stretch-here (c), c .before .before .before .before .before .before .before .before .before .before .before .before .before .before .before .before .pre)
 
 sub-relax-row : tie.Need-sub-relax-row Inv-loop2 μ-loop2 Inv-loop μ-loop Inv-pass μ-pass
-sub-relax-row c = omega (arith, stretch-here (c), c .before .before .before .before .before .before .before .before .before .before .before .before .before .before .before .pre)
+sub-relax-row c = omega (arith, stretch-here (c), c .before .before .before .before .before .before .before .before .before .before .before .before .before .before .before .before .pre)
 
 part-relax-row-start :
     tie.Need-part-relax-row-start Inv-loop2 μ-loop2 Inv-loop μ-loop Inv-pass μ-pass
-part-relax-row-start c = omega (arith, stretch-here (c), c .before .before .before .before .before .before .before .before .before .before .before .before .before .before .before .pre)
+part-relax-row-start c = omega (arith, stretch-here (c), c .before .before .before .before .before .before .before .before .before .before .before .before .before .before .before .before .pre)
 
 part-relax-row-end : tie.Need-part-relax-row-end Inv-loop2 μ-loop2 Inv-loop μ-loop Inv-pass μ-pass
-part-relax-row-end c = omega (arith, stretch-here (c), c .before .before .loop2 .inv .long)
+part-relax-row-end c = omega (arith, stretch-here (c), cols-here c .long)
 
 mul-relax-row-2 : tie.Need-mul-relax-row-2 Inv-loop2 μ-loop2 Inv-loop μ-loop Inv-pass μ-pass
-mul-relax-row-2 c = omega (arith, stretch-here (c .before), c .before .before .before .before .before .before .before .before .before .before .before .before .before .before .before .before .pre)
+mul-relax-row-2 c = omega (arith, stretch-here (c .before), c .before .before .before .before .before .before .before .before .before .before .before .before .before .before .before .before .before .pre)
 
 sub-relax-row-2 : tie.Need-sub-relax-row-2 Inv-loop2 μ-loop2 Inv-loop μ-loop Inv-pass μ-pass
-sub-relax-row-2 c = omega (arith, stretch-here (c .before), c .before .before .before .before .before .before .before .before .before .before .before .before .before .before .before .before .pre)
+sub-relax-row-2 c = omega (arith, stretch-here (c .before), c .before .before .before .before .before .before .before .before .before .before .before .before .before .before .before .before .before .pre)
 
 part-relax-row-start-2 :
     tie.Need-part-relax-row-start-2 Inv-loop2 μ-loop2 Inv-loop μ-loop Inv-pass μ-pass
-part-relax-row-start-2 c = omega (arith, stretch-here (c .before .before), c .before .before .before .before .before .before .before .before .before .before .before .before .before .before .before .before .before .pre)
+part-relax-row-start-2 c = omega (arith, stretch-here (c .before .before), c .before .before .before .before .before .before .before .before .before .before .before .before .before .before .before .before .before .before .pre)
 
 part-relax-row-end-2 :
     tie.Need-part-relax-row-end-2 Inv-loop2 μ-loop2 Inv-loop μ-loop Inv-pass μ-pass
-part-relax-row-end-2 c = omega (arith, stretch-here (c .before .before), copy-room (c .before .before .before .before .before .before .before .before .before .before .before .before), c .before .before .before .before .before .before .before .before .before .before .before .before .before .before .before .before .before .pre)
+part-relax-row-end-2 c = omega (arith, stretch-here (c .before .before), copy-room (c .before .before .before .before .before .before .before .before .before .before .before .before .before), c .before .before .before .before .before .before .before .before .before .before .before .before .before .before .before .before .before .before .pre)
 
 relax-row-requires : tie.Need-relax-row-requires Inv-loop2 μ-loop2 Inv-loop μ-loop Inv-pass μ-pass
 relax-row-requires c κs =
-    let m = c .before .before .before .before .before .before .before .before .before .before .before .before .before in
-    let r = c .before .before .before .before .before .before .before .before .before .before in
+    let m = c .before .before .before .before .before .before .before .before .before .before .before .before .before .before in
+    let r = c .before .before .before .before .before .before .before .before .before .before .before in
     let q = c .before .before .before .before .before .loop2 in
     let e = c .before .before .before .stretch-end .result in
+    let b = first (c .before .before .before) in
+    let i = cols-here (c .before .before .before) in
     let s = stretch-here (c .before .before .before) in
-    let pre = c .before .before .before .before .before .before .before .before .before .before .before .before .before .before .before .before .before .before .pre in
-    let asked = c .before .before .before .before .before .before .before in
-    let n = part-length (q .b) (e - q .b) (q .row) (omega (arith, s, q .inv .long)) in
-    let o = part-length (q .b) (e - q .b) (copy m) (omega (arith, s, copy-room m, pre)) in (
+    let pre = c .before .before .before .before .before .before .before .before .before .before .before .before .before .before .before .before .before .before .before .pre in
+    let asked = c .before .before .before .before .before .before .before .before in
+    let n = part-length b (e - b) (q .row) (omega (arith, s, i .long)) in
+    let o = part-length b (e - b) (copy m) (omega (arith, s, copy-room m, pre)) in (
       omega (arith, n, o),
       stretch-in-range (width m) (middleAt m) (rowAt r) (started m) (copy m) (least m) (greatest m) (am r) (mid-here m) (am-here asked)
-          (asked-here asked ∙ c .before .before .before .before .before .before .if1 .taken) (q .b) (e - q .b) (omega (arith, s)),
+          (asked-here asked ∙ c .before .before .before .before .before .before .before .if1 .taken) b (e - b) (omega (arith, s)),
     )
 
 mul-less : tie.Need-mul-less Inv-loop2 μ-loop2 Inv-loop μ-loop Inv-pass μ-pass
-mul-less c = omega (arith, (c .before .before .before .before .before .before .before .before .before .before .before .before) .loop-test .taken, c .before .before .before .before .before .before .before .before .before .before .before .before .before .before .before .before .before .before .before .before .pre)
+mul-less c = omega (arith, (c .before .before .before .before .before .before .before .before .before .before .before .before .before) .loop-test .taken, c .before .before .before .before .before .before .before .before .before .before .before .before .before .before .before .before .before .before .before .before .before .pre)
 
 slice-copy-out-less :
     tie.Need-slice-copy-out-less Inv-loop2 μ-loop2 Inv-loop μ-loop Inv-pass μ-pass
 slice-copy-out-less c =
-    let m = c .before .before .before .before .before .before .before .before .before .before .before .before .before .before .before in
-    let r = c .before .before .before .before .before .before .before .before .before .before .before .before in
+    let m = c .before .before .before .before .before .before .before .before .before .before .before .before .before .before .before .before in
+    let r = c .before .before .before .before .before .before .before .before .before .before .before .before .before in
     let q = c .before .before .before .before .before .before .before .loop2 in
     let e = c .before .before .before .before .before .stretch-end .result in
+    let b = first (c .before .before .before .before .before) in
+    let i = cols-here (c .before .before .before .before .before) in
     let ys = c .before .relax-row .last .0 in
     let s = stretch-here (c .before .before .before .before .before) in
-    let long = cols-long (am r) (copy m) (part r) (width m) (rowAt r) (q .outcome) (q .row) (q .b) e (e - q .b) ys (q .inv) refl (s .0) (s .1)
+    let long = cols-long (am r) (copy m) (part r) (width m) (rowAt r) (q .outcome) (q .row) b e (e - b) ys i refl (s .0) (s .1)
     (c .before .relax-row .ensures) in
     omega (arith, long, r .loop-test .taken)
 
 less-requires : tie.Need-less-requires Inv-loop2 μ-loop2 Inv-loop μ-loop Inv-pass μ-pass
 less-requires c κs = tt
 
+add-k : tie.Need-add-k Inv-loop2 μ-loop2 Inv-loop μ-loop Inv-pass μ-pass
+add-k c = omega (arith, first-below (c .before .before .before .before .before .before .before .before), c .before .before .before .before .before .before .before .before .before .before .before .before .before .before .before .before .before .before .before .before .before .before .before .before .pre)
+
 loop2-less : tie.Need-loop2-less Inv-loop2 μ-loop2 Inv-loop μ-loop Inv-pass μ-pass
-loop2-less c = omega (arith, stretch-here (c .before .before .before .before .before .before .before .before))
+loop2-less c = omega (arith, c .before .before .before .before .before .before .before .before .before .loop2-test .taken)
 
 loop2-again : tie.Need-loop2-again Inv-loop2 μ-loop2 Inv-loop μ-loop Inv-pass μ-pass
 loop2-again c =
-    let m = c .before .before .before .before .before .before .before .before .before .before .before .before .before .before .before .before .before .before in
-    let r = c .before .before .before .before .before .before .before .before .before .before .before .before .before .before .before in
+    let m = c .before .before .before .before .before .before .before .before .before .before .before .before .before .before .before .before .before .before .before in
+    let r = c .before .before .before .before .before .before .before .before .before .before .before .before .before .before .before .before in
     let q = c .before .before .before .before .before .before .before .before .before .before .loop2 in
     let e = c .before .before .before .before .before .before .before .before .stretch-end .result in
+    let b = first (c .before .before .before .before .before .before .before .before) in
+    let i = cols-here (c .before .before .before .before .before .before .before .before) in
     let ys = c .before .before .before .before .relax-row .last .0 in
     let s = stretch-here (c .before .before .before .before .before .before .before .before) in
-    cols-again (am r) (copy m) (part r) (width m) (rowAt r) (q .outcome) (q .row) (q .b) e (e - q .b) ys (q .inv) refl (s .0) (s .1)
+    let n : e ≡ min ((q .k + 1) * 64) (width m) = omega (arith, c .before .before .before .before .before .before .before .before .stretch-end .ensures) in
+    subst (λ (x : ℕ). ColsInv (am r) (copy m) (part r) (width m) (rowAt r) (q .outcome) (stepped (c .before)) x) n
+    (cols-again (am r) (copy m) (part r) (width m) (rowAt r) (q .outcome) (q .row) b e (e - b) ys i refl (s .0) (s .1)
     (c .before .before .before .before .relax-row .ensures)
-    (sym (low-here (c .before)) ∙ c .if2 .left)
+    (sym (low-here (c .before)) ∙ c .if2 .left))
 
 add-a : tie.Need-add-a Inv-loop2 μ-loop2 Inv-loop μ-loop Inv-pass μ-pass
-add-a c = omega (arith, (c .before .before .before .before .before .before .before) .loop-test .taken, c .before .before .before .before .before .before .before .before .before .before .before .before .before .before .before .pre)
+add-a c = omega (arith, (c .before .before .before .before .before .before .before .before) .loop-test .taken, c .before .before .before .before .before .before .before .before .before .before .before .before .before .before .before .before .pre)
 
 loop-less : tie.Need-loop-less Inv-loop2 μ-loop2 Inv-loop μ-loop Inv-pass μ-pass
-loop-less c = omega (arith, (c .before .before .before .before .before .before .before) .loop-test .taken)
+loop-less c = omega (arith, (c .before .before .before .before .before .before .before .before) .loop-test .taken)
 
 loop-again : tie.Need-loop-again Inv-loop2 μ-loop2 Inv-loop μ-loop Inv-pass μ-pass
 loop-again c =
-    let m = c .before .before .before .before .before .before .before .before .before .before in
-    let r = c .before .before .before .before .before .before .before in
+    let m = c .before .before .before .before .before .before .before .before .before .before .before in
+    let r = c .before .before .before .before .before .before .before .before in
     let q = c .before .before .loop2 in
-    let asked = c .before .before .before .before in
-    let hb : width m ≤ q .b = c .before .loop2-test .left in
+    let asked = c .before .before .before .before .before in
+    let hb : width m ≤ min (q .k * 64) (width m) = omega (arith, c .before .loop2-test .left, c .before .before .before .stretches .ensures) in
     let ha = r .loop-test .taken in
-    rows-again (width m) (middleAt m) (started m) (table r) (c .before .before .before .before .before .before .before .before .loop .outcome) (rowAt r) (c .before .before .before .before .before .before .before .before .loop .inv) ha (q .outcome) (size r) (q .row) (q .inv .none) (size-is r)
+    rows-again (width m) (middleAt m) (started m) (table r) (c .before .before .before .before .before .before .before .before .before .loop .outcome) (rowAt r) (c .before .before .before .before .before .before .before .before .before .loop .inv) ha (q .outcome) (size r) (q .row) (q .inv .none) (size-is r)
     (omega (arith, row-room r, size-is r))
     (row-done (width m) (middleAt m) (rowAt r) (started m) (copy m) (part r) (least m) (greatest m) (am r) (mid-here m) (row-here r) (am-here asked)
-    (q .outcome) (q .row) (q .b) (q .inv) hb)
-    (asked-here asked ∙ c .before .before .before .if1 .taken)
+    (q .outcome) (q .row) (min (q .k * 64) (width m)) (q .inv) hb)
+    (asked-here asked ∙ c .before .before .before .before .if1 .taken)
     (row-low (width m) (middleAt m) (rowAt r) (started m) (copy m) (part r) (least m) (greatest m) (am r) (mid-here m) (row-here r) (am-here asked)
     ha false (q .inv .fine (omega (arith, ha, hb))))
 
@@ -429,46 +474,50 @@ returns-2 c =
 
 same-length-3 : tie.Need-same-length-3 Inv-loop2 μ-loop2 Inv-loop μ-loop Inv-pass μ-pass
 same-length-3 c =
-    let m = c .before .before .before .before .before .before .before .before .before .before .before .before .before .before .before .before .before .before .before in
-    let r = c .before .before .before .before .before .before .before .before .before .before .before .before .before .before .before .before in
+    let m = c .before .before .before .before .before .before .before .before .before .before .before .before .before .before .before .before .before .before .before .before in
+    let r = c .before .before .before .before .before .before .before .before .before .before .before .before .before .before .before .before .before in
     let q = c .before .before .before .before .before .before .before .before .before .before .before .loop2 in
     let e = c .before .before .before .before .before .before .before .before .before .stretch-end .result in
+    let b = first (c .before .before .before .before .before .before .before .before .before) in
+    let i = cols-here (c .before .before .before .before .before .before .before .before .before) in
     let ys = c .before .before .before .before .before .relax-row .last .0 in
     let s = stretch-here (c .before .before .before .before .before .before .before .before .before) in
     let row = stepped (c .before .before) in
     let fits : from r + size r ≤ length (table r) = omega (arith, row-room r, size-is r) in
-    let n : length row ≡ size r = cols-long (am r) (copy m) (part r) (width m) (rowAt r) (q .outcome) (q .row) (q .b) e (e - q .b) ys (q .inv) refl (s .0) (s .1)
+    let n : length row ≡ size r = cols-long (am r) (copy m) (part r) (width m) (rowAt r) (q .outcome) (q .row) b e (e - b) ys i refl (s .0) (s .1)
     (c .before .before .before .before .before .relax-row .ensures) ∙ sym (size-is r) in
-    let long = back-length (from r) (size r) row (table r) fits n ∙ c .before .before .before .before .before .before .before .before .before .before .before .before .before .before .before .before .before .loop .inv .long in
-    long ∙ c .before .before .before .before .before .before .before .before .before .before .before .before .before .before .before .before .before .before .before .before .before .before .before .pass .inv .long
+    let long = back-length (from r) (size r) row (table r) fits n ∙ c .before .before .before .before .before .before .before .before .before .before .before .before .before .before .before .before .before .before .loop .inv .long in
+    long ∙ c .before .before .before .before .before .before .before .before .before .before .before .before .before .before .before .before .before .before .before .before .before .before .before .before .pass .inv .long
 
 returns-3 : tie.Need-returns-3 Inv-loop2 μ-loop2 Inv-loop μ-loop Inv-pass μ-pass
 returns-3 c =
-    let st = c .before .before .before .before .before .before .before .before .before .before .before .before .before .before .before .before .before .before .before .before .before .before .before .before in
-    let p = c .before .before .before .before .before .before .before .before .before .before .before .before .before .before .before .before .before .before .before .before .before .before .before .pass in
-    let m = c .before .before .before .before .before .before .before .before .before .before .before .before .before .before .before .before .before .before .before in
-    let r = c .before .before .before .before .before .before .before .before .before .before .before .before .before .before .before .before in
+    let st = c .before .before .before .before .before .before .before .before .before .before .before .before .before .before .before .before .before .before .before .before .before .before .before .before .before in
+    let p = c .before .before .before .before .before .before .before .before .before .before .before .before .before .before .before .before .before .before .before .before .before .before .before .before .pass in
+    let m = c .before .before .before .before .before .before .before .before .before .before .before .before .before .before .before .before .before .before .before .before in
+    let r = c .before .before .before .before .before .before .before .before .before .before .before .before .before .before .before .before .before in
     let q = c .before .before .before .before .before .before .before .before .before .before .before .loop2 in
     let e = c .before .before .before .before .before .before .before .before .before .stretch-end .result in
+    let b = first (c .before .before .before .before .before .before .before .before .before) in
+    let i = cols-here (c .before .before .before .before .before .before .before .before .before) in
     let ys = c .before .before .before .before .before .relax-row .last .0 in
     let s = stretch-here (c .before .before .before .before .before .before .before .before .before) in
-    let asked = c .before .before .before .before .before .before .before .before .before .before .before .before .before in
+    let asked = c .before .before .before .before .before .before .before .before .before .before .before .before .before .before in
     let row = stepped (c .before .before) in
     let fits : from r + size r ≤ length (table r) = omega (arith, row-room r, size-is r) in
-    let n : length row ≡ size r = cols-long (am r) (copy m) (part r) (width m) (rowAt r) (q .outcome) (q .row) (q .b) e (e - q .b) ys (q .inv) refl (s .0) (s .1)
+    let n : length row ≡ size r = cols-long (am r) (copy m) (part r) (width m) (rowAt r) (q .outcome) (q .row) b e (e - b) ys i refl (s .0) (s .1)
     (c .before .before .before .before .before .relax-row .ensures) ∙ sym (size-is r) in
-    let long = back-length (from r) (size r) row (table r) fits n ∙ c .before .before .before .before .before .before .before .before .before .before .before .before .before .before .before .before .before .loop .inv .long in
+    let long = back-length (from r) (size r) row (table r) fits n ∙ c .before .before .before .before .before .before .before .before .before .before .before .before .before .before .before .before .before .before .loop .inv .long in
     let ha = r .loop-test .taken in
     let inside = row-inside (rowAt r) (width m) ha in
     let past = back-past (from r) (size r) row (table r) fits n (width m * width m) (omega (arith, size-is r))
-    ∙ rows-past (width m) (middleAt m) (started m) (table r) (c .before .before .before .before .before .before .before .before .before .before .before .before .before .before .before .before .before .loop .outcome) (rowAt r) (c .before .before .before .before .before .before .before .before .before .before .before .before .before .before .before .before .before .loop .inv) (omega arith) in
-    let low = cols-low (am r) (copy m) (part r) (width m) (rowAt r) (q .outcome) (q .row) (q .b) e (e - q .b) ys (q .inv) refl (s .0) (s .1)
+    ∙ rows-past (width m) (middleAt m) (started m) (table r) (c .before .before .before .before .before .before .before .before .before .before .before .before .before .before .before .before .before .before .loop .outcome) (rowAt r) (c .before .before .before .before .before .before .before .before .before .before .before .before .before .before .before .before .before .before .loop .inv) (omega arith) in
+    let low = cols-low (am r) (copy m) (part r) (width m) (rowAt r) (q .outcome) (q .row) b e (e - b) ys i refl (s .0) (s .1)
     (c .before .before .before .before .before .relax-row .ensures)
     (sym (low-here (c .before .before)) ∙ c .before .if2 .taken) in
-    pass-left (st .args .t .now) (p .t) (st .args .w) (st .args .from) (st .args .to) (p .outcome) (p .mid) (p .m) (p .inv) (c .before .before .before .before .before .before .before .before .before .before .before .before .before .before .before .before .before .before .before .before .before .before .pass-test .taken)
+    pass-left (st .args .t .now) (p .t) (st .args .w) (st .args .from) (st .args .to) (p .outcome) (p .mid) (p .m) (p .inv) (c .before .before .before .before .before .before .before .before .before .before .before .before .before .before .before .before .before .before .before .before .before .before .before .pass-test .taken)
     stopped Stopped (back (from r) (size r) row (table r)) (λ x e. let z : _≡_ {A = ℕ} 0 1 = cc in omega arith)
-    (rows-low (width m) (middleAt m) (started m) (table r) (c .before .before .before .before .before .before .before .before .before .before .before .before .before .before .before .before .before .loop .outcome) (rowAt r) (c .before .before .before .before .before .before .before .before .before .before .before .before .before .before .before .before .before .loop .inv) ha
-    (passFrom (st .args .to - (p .m + 1)) (suc (p .m)) (width m) (middle (width m) (p .m) (p .t))) (asked-here asked ∙ c .before .before .before .before .before .before .before .before .before .before .before .before .if1 .taken)
+    (rows-low (width m) (middleAt m) (started m) (table r) (c .before .before .before .before .before .before .before .before .before .before .before .before .before .before .before .before .before .before .loop .outcome) (rowAt r) (c .before .before .before .before .before .before .before .before .before .before .before .before .before .before .before .before .before .before .loop .inv) ha
+    (passFrom (st .args .to - (p .m + 1)) (suc (p .m)) (width m) (middle (width m) (p .m) (p .t))) (asked-here asked ∙ c .before .before .before .before .before .before .before .before .before .before .before .before .before .if1 .taken)
     (row-low (width m) (middleAt m) (rowAt r) (started m) (copy m) (part r) (least m) (greatest m) (am r) (mid-here m) (row-here r) (am-here asked)
     ha true low))
     refl long past
@@ -496,7 +545,9 @@ run-middles-spec =
     mul-am
     slice-copy-out-am
     sums-fit-requires
+    stretches-requires
     loop2-holds
+    mul-b
     stretch-end-requires
     mul-relax-row
     sub-relax-row
@@ -510,6 +561,7 @@ run-middles-spec =
     mul-less
     slice-copy-out-less
     less-requires
+    add-k
     loop2-less
     loop2-again
     add-a
