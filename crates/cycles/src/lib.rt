@@ -76,24 +76,15 @@ fn lowest_place(c: &[u16]) -> usize
     low
 }
 
-fn copy_list(c: &[u16], out: &mut [u16])
-    requires { ⌜ length (now c) ≤ length (now out) ⌝ }
-    ensures { λ _. ⌜ now (out .exit) ≡ now (c .entry) ++ drop (length (now (c .entry))) (now (out .entry)) ⌝ }
-{
-    for i in 0..c.len() {
-        out[i] = c[i];
-    }
-}
-
 // The cycle c at the front of out, from its place low on.
 fn put_turned(c: &[u16], low: usize, out: &mut [u16])
     requires { ⌜ (low ≤ length (now c)) × (length (now c) ≤ length (now out)) ⌝ }
     ensures { λ _. ⌜ now (out .exit) ≡ (drop low (now (c .entry)) ++ take low (now (c .entry))) ++ drop (length (now (c .entry))) (now (out .entry)) ⌝ }
 {
     let n = c.len();
-    copy_list(&c[low..n], out);
+    lists::copy_list(&c[low..n], out);
     let rest = n - low;
-    copy_list(&c[0..low], &mut out[rest..n]);
+    lists::copy_list(&c[0..low], &mut out[rest..n]);
 }
 
 // The level below prev, into the row.

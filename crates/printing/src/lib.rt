@@ -25,16 +25,6 @@ fn holds(page: usize, at: usize, answer: usize) -> bool
     answer <= page - at
 }
 
-// The list, at the front of out.
-fn copy_slots(slots: &[u16], out: &mut [u16])
-    requires { ⌜ length (now slots) ≤ length (now out) ⌝ }
-    ensures { λ _. ⌜ now (out .exit) ≡ now (slots .entry) ++ drop (length (now (slots .entry))) (now (out .entry)) ⌝ }
-{
-    for i in 0..slots.len() {
-        out[i] = slots[i];
-    }
-}
-
 // The finished table, the plan and the narrowed windows, at the front of their rooms.
 fn keep_plan(
     closed: &[i16],
@@ -54,9 +44,9 @@ fn keep_plan(
         × (now (latest .exit) ≡ now (lasts .entry) ++ drop (length (now (lasts .entry))) (now (latest .entry))) ⌝ }
 {
     network::copy_row(closed, table);
-    copy_slots(seats, plan);
-    copy_slots(firsts, earliest);
-    copy_slots(lasts, latest);
+    lists::copy_list(seats, plan);
+    lists::copy_list(firsts, earliest);
+    lists::copy_list(lasts, latest);
 }
 
 // The page of a plan, where the page holds it; then the rooms hold the plan too.
@@ -120,7 +110,7 @@ pub fn print_ring(
     let length = page::none_length(limits, w, found);
     if holds(page.len(), at, length) {
         network::clear(w * w, table);
-        copy_slots(found, ring);
+        lists::copy_list(found, ring);
         let next = writer::put_none(page, at, limits, w, found);
         Printed::None(found.len(), next)
     } else {

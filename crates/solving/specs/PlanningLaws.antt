@@ -8,7 +8,7 @@ use native.Mathlib.Omega.{arith}
 use lib.Dec.{T, eqb}
 use lib.IntN.{ℤ, pos, _+ℤ_}
 use lib.Signed.{_≤ℤ_}
-use Rattle.lists.specs.Members.{both}
+use Rattle.lists.specs.Members.{both, left, right}
 use Rattle.network.specs.Network.{Potential, Feasible}
 use Rattle.network.specs.Table.{finished, stopped, tableOf, entry}
 use Rattle.network.specs.TableLaws.{entry-tableOf}

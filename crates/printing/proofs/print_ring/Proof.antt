@@ -24,8 +24,8 @@ mul-clear c = search needs
 clear-requires : tie.Need-clear-requires
 clear-requires c κs = c .before .before .before .before .before .before .before .pre .1 .0
 
-copy-slots-requires : tie.Need-copy-slots-requires
-copy-slots-requires c κs = c .before .before .before .before .before .before .before .before .before .before .pre .1 .1
+copy-list-requires : tie.Need-copy-list-requires
+copy-list-requires c κs = c .before .before .before .before .before .before .before .before .before .before .pre .1 .1
 
 put-none-requires : tie.Need-put-none-requires
 put-none-requires c κs =
@@ -40,7 +40,7 @@ same-length : tie.Need-same-length
 same-length c = c .before .before .before .before .before .before .before .before .before .clear .kept .1 .0
 
 same-length-2 : tie.Need-same-length-2
-same-length-2 c = c .before .before .before .before .before .before .copy-slots .kept .1 .0
+same-length-2 c = c .before .before .before .before .before .before .copy-list .kept .1 .0
 
 same-length-3 : tie.Need-same-length-3
 same-length-3 c = c .before .before .put-none .kept .0
@@ -51,7 +51,7 @@ returns c =
     asked-yes (now (a .page)) (a .at) (nonePage (entry (a .w) (now (a .limits))) (now (a .found))) (c .before .before .before .before .before .before .before .before .before .before .before .before .before .none-length .result)
     (c .before .before .before .before .before .before .before .before .before .before .before .before .before .none-length .ensures) (c .before .before .before .before .before .before .before .before .before .before .before .before .holds .result) (c .before .before .before .before .before .before .before .before .before .before .before .before .holds .ensures) _ _ _ _ _ _ (c .before .before .before .before .before .before .before .before .before .before .before .if1 .taken)
     (c .before .before .put-none .result) (c .before .before .put-none .ensures) refl
-    (rw (c .before .before .before .before .before .before .before .before .before .clear .ensures, c .before .before .before .before .before .before .copy-slots .ensures) refl)
+    (rw (c .before .before .before .before .before .before .before .before .before .clear .ensures, c .before .before .before .before .before .before .copy-list .ensures) refl)
 
 returns-2 : tie.Need-returns-2
 returns-2 c =
@@ -67,7 +67,7 @@ print-ring-spec =
     holds-requires
     mul-clear
     clear-requires
-    copy-slots-requires
+    copy-list-requires
     put-none-requires
     same-length
     same-length-2

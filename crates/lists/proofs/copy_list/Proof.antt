@@ -4,9 +4,9 @@ use native.Mathlib.Omega.{arith}
 use mathlib.Core.Path.{_≡_, refl, sym, ap, _∙_}
 use mathlib.Core.List.{List, _++_}
 use lib.ListN.{length, getD, drop, length-set}
 use Rattle.lists.specs.Values.{listOf, Filled, filled-store, listOf-is}
-use Rattle.cycles.proofs.copy_list.Statement.{statement}
-use Rattle.cycles.proofs.copy_list.Tie as tie
+use Rattle.lists.proofs.copy_list.Statement.{statement}
+use Rattle.lists.proofs.copy_list.Tie as tie
 
 abbrev Inv-loop : tie.InvT-loop
 Inv-loop c out₀ i₀ i-end out i = (i ≤ length c) × (i-end ≡ length c) × (length out ≡ length out₀) × Filled (λ (j : ℕ). getD c j 0) i out₀ out
