@@ -1,5 +1,5 @@
 ghost use mathlib.Core.Path.{_≡_};
-ghost use Prim.Native.Nat.{ℕ, _*_, _<_, _≤_};
+ghost use Prim.Native.Nat.{_*_, _<_, _≤_};
 ghost use lib.ListN.{length};
 ghost use Rattle.network.specs.Table.{mostBoundaries, passOf};
 ghost use Rattle.cycles.specs.Finder.{Weighed, Infeasible, CycleAt};
@@ -160,9 +160,9 @@ pub extern "C" fn tugrokt_print(
             *length = 0;
             0
         }
-        Printed::None(n, next) => {
+        Printed::None(k, next) => {
             *place = next;
-            *length = n;
+            *length = k;
             0
         }
     }

@@ -1,3 +1,4 @@
+-- The call of plan, with its reply as numbers.
 use borrow.Author.Needs.{needs}
 use mathlib.Core.Path.{sym, ap}
 use Rattle.solving.specs.Planning.{numberOf, ringLength}

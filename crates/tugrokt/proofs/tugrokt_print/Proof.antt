@@ -1,3 +1,4 @@
+-- The call of print, with its reply as numbers.
 use borrow.Author.Needs.{needs}
 use mathlib.Core.Path.{sym, ap}
 use Rattle.printing.specs.Printing.{numberOf, ringLength, placeAfter}

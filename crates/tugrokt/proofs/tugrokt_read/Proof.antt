@@ -1,3 +1,4 @@
+-- The call of read, with its reply as numbers.
 use mathlib.Core.Path.{sym, ap, _∙_}
 use Rattle.questions.specs.Reading.{answerOf}
 use Rattle.tugrokt.specs.Numbers.{numbersOf}
