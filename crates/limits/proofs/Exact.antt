@@ -1,12 +1,10 @@
 -- The exact windows, counted from the last unit to the first.
 -- Key idea: one window more in front takes 1 from the entry of its own stretch and leaves the others.
 use mathlib.Core.Path.{_≡_, refl, sym, ap, _∙_, subst}
-use mathlib.Core.Bool.{Bool, true, false, _&&_}
 use mathlib.Core.List.{List, [], _∷_}
-use Prim.Native.Nat.{ℕ, zero, suc, _+_, _-_, _*_, _≤_, _<_}
+use Prim.Native.Nat.{ℕ, suc, _+_, _-_, _*_, _≤_, _<_}
 use native.Mathlib.Omega.{arith}
 use native.Mathlib.Decide.{ℕ-discrete}
-use lib.Dec.{eqb}
 use lib.ListN.{length, getD, drop, set, length-drop}
 use lib.Seq.{drop-cons, drop-length}
 use lib.IntN.{ℤ, pos, negℤ, _-ℤ_}
@@ -14,7 +12,7 @@ use mir.Syntax.{w16}
 use mir.Val.{SFits}
 use borrow.Author.Tests.{eq-eqb, ne-eqb}
 use Rattle.integers.specs.Parts.{ints, neg, difference, fits-within}
-use Rattle.lists.specs.Lists.{oneIf, howMany}
+use Rattle.lists.specs.Lists.{howMany}
 use Rattle.network.specs.Table.{entry}
 use Rattle.sheet.specs.Sheet.{Window}
 use Rattle.sheet.specs.Questions.{windowsOf}

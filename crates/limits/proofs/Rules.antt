@@ -2,28 +2,27 @@
 -- Key idea: one rule more in front is one more number in the smallest of its stretch's forward step and in the largest of its step back; no other
 -- stretch has it.
 use mathlib.Core.Path.{_≡_, refl, sym, ap, _∙_, subst}
-use mathlib.Core.Logic.{_⊎_, inl, inr, ⊎-elim}
-use mathlib.Core.Bool.{Bool, true, false, _&&_, cond}
-use mathlib.Core.List.{List, [], _∷_, map}
-use Prim.Native.Nat.{ℕ, zero, suc, _+_, _-_, _*_, _≤_, _<_, min, max}
+use mathlib.Core.Logic.{⊎-elim}
+use mathlib.Core.Bool.{true, false, cond}
+use mathlib.Core.List.{List, [], _∷_}
+use Prim.Native.Nat.{ℕ, suc, _+_, _-_, _*_, _≤_, _<_, min, max}
 use native.Mathlib.Omega.{arith}
 use native.Mathlib.Decide.{decLe, ℕ-discrete}
 use lib.Dec.{T, ltb}
-use lib.ListN.{length, getD, drop, set, length-set}
+use lib.ListN.{length, getD, drop, set}
 use lib.Seq.{drop-cons, drop-length}
 use lib.IntN.{ℤ, pos, negℤ}
 use borrow.Author.Tests.{eq-eqb, ne-eqb, lt-ltb, le-ltb}
 use Rattle.integers.specs.Parts.{minℤ, min-is, ints, neg}
-use Rattle.lists.specs.Lists.{keep, howMany, smallest, largest}
 use Rattle.network.specs.Table.{entry}
-use Rattle.sheet.specs.Sheet.{Window, Rule, Sheet, onStretch, insideOf, atMost, atLeast, limit}
+use Rattle.sheet.specs.Sheet.{Window, Rule, Sheet, onStretch, atMost, atLeast, limit}
 use Rattle.sheet.specs.Questions.{windowsOf, rulesOf, sheetOf, listsAgree, accepted}
-use Rattle.sheet.specs.QuestionLaws.{Agree, listsAgree-read}
+use Rattle.sheet.specs.QuestionLaws.{listsAgree-read}
 use Rattle.sheet.specs.LimitLaws.{limit-fwd, limit-back, limit-same}
 use Rattle.limits.specs.LimitTable.{insideWeights, withForward, lowered}
 use Rattle.limits.specs.InsideLaws.{InOrder, inside-none}
 use Rattle.limits.specs.EntryLaws.{Filled, filled-set, filled-same, filled-over}
-use Rattle.limits.specs.LimitTableLaws.{RuleFits, accepted-rule}
+use Rattle.limits.specs.LimitTableLaws.{accepted-rule}
 use Rattle.limits.proofs.Forward.{forward-yes, forward-no, forward-same}
 
 min-high : (n h : ℕ) → minℤ (pos n) (pos h) ≡ pos (min h n)

@@ -1,23 +1,19 @@
 -- The sums of `windows_inside`, swept over the exact windows.
 -- Key idea: right of the diagonal both tables are 0, so a row starts at its diagonal; one entry more of a row is the row's sum so far, plus the entry
 -- above it.
-use mathlib.Core.Path.{_≡_, refl, sym, ap, _∙_, subst}
-use mathlib.Core.Logic.{⊎-elim}
+use mathlib.Core.Path.{_≡_, sym, ap, _∙_, subst}
 use mathlib.Core.List.{List}
 use Prim.Native.Nat.{ℕ, zero, suc, _+_, _-_, _*_, _≤_, _<_}
 use native.Mathlib.Omega.{arith}
-use native.Mathlib.Nat.{mul-le-mul-right}
-use native.Mathlib.Decide.{ℕ-discrete}
-use lib.ListN.{length, getD, drop, set, length-set}
+use lib.ListN.{length, getD, set}
 use lib.IntN.{ℤ, pos, negℤ, _+ℤ_}
 use mir.Syntax.{w16}
 use mir.Val.{SFits}
 use Rattle.integers.specs.Parts.{ints, neg, sum, fits-within}
 use Rattle.lists.specs.Lists.{howMany}
-use Rattle.network.specs.Table.{entry}
 use Rattle.sheet.specs.Sheet.{Window, insideOf}
 use Rattle.limits.specs.LimitTable.{exactly, exactWeights, insideWeights}
-use Rattle.limits.specs.InsideLaws.{InOrder, endsIn, row-step, column-step, inside-none, ends-none, exact-none, howMany-most}
+use Rattle.limits.specs.InsideLaws.{InOrder, endsIn, row-step, column-step, inside-none, exact-none, howMany-most}
 use Rattle.limits.specs.EntryLaws.{Filled, place-inside, rows-apart}
 use Rattle.limits.proofs.Sweep.{Swept, swept-first, swept-row, swept-set}
 

@@ -1,21 +1,20 @@
 -- Windows inside a stretch, counted by running sums.
 -- Key idea: a window that starts after boundary b starts in slot b+1 or after boundary b+1; a window that ends by slot a+1 ends by slot a or in slot
 -- a+1. So the windows inside every stretch come of the windows that are exactly a stretch, summed along a row and then down a column.
-use mathlib.Core.Path.{_≡_, refl, sym, ap, _∙_}
+use mathlib.Core.Path.{_≡_, refl}
 use mathlib.Core.Bool.{Bool, true, false, _&&_}
 use mathlib.Core.List.{List, [], _∷_}
-use Prim.Native.Nat.{ℕ, zero, suc, _+_, _≤_, _<_}
+use Prim.Native.Nat.{ℕ, suc, _+_, _≤_, _<_}
 use native.Mathlib.Omega.{arith}
 use native.Mathlib.Decide.{decLe}
 use lib.Dec.{T, leb, eqb, leb→le, eqb→eq}
 use lib.ListN.{length, getD}
-use lib.IntN.{ℤ, pos, negℤ}
 use borrow.Author.Tests.{le-leb, lt-leb, eq-eqb, ne-eqb}
 use Rattle.lists.specs.Lists.{oneIf, howMany}
-use Rattle.lists.specs.Counts.{count, howMany-count, count-empty, count-most}
+use Rattle.lists.specs.Counts.{howMany-count, count-empty, count-most}
 use Rattle.lists.specs.Members.{left, right}
 use Rattle.sheet.specs.Sheet.{Window, insideOf, noWindow}
-use Rattle.limits.specs.LimitTable.{WindowsFit, insideWeights, exactWeights, exactly}
+use Rattle.limits.specs.LimitTable.{WindowsFit, exactly}
 use Rattle.sheet.specs.Questions.{windowsOf}
 use Rattle.sheet.specs.QuestionLaws.{windowsOf-length, windowsOf-at}
 

@@ -1,25 +1,24 @@
 -- What an accepted sheet in parallel lists gives to code, and the size of its limits.
-use mathlib.Core.Path.{_≡_, refl, sym, ap, _∙_, subst}
-use mathlib.Core.Bool.{Bool, true, false, _&&_}
-use mathlib.Core.List.{List, [], _∷_, _++_, List·Memᴰ·head, List·Memᴰ·tail}
+use mathlib.Core.Path.{_≡_, refl, _∙_, subst}
+use mathlib.Core.List.{List, [], _∷_, List·Memᴰ·head, List·Memᴰ·tail}
 use Prim.Native.Nat.{ℕ, zero, suc, _+_, _*_, _≤_, _<_}
 use native.Mathlib.Omega.{arith}
 use native.Mathlib.Decide.{decLe}
 use lib.Dec.{T}
 use lib.ListN.{length, getD, drop, length-append, length-drop}
-use lib.IntN.{ℤ, pos, negsuc, negℤ}
+use lib.IntN.{ℤ, pos, negsuc}
 use lib.Signed.{_≤ℤ_}
 use Rattle.integers.specs.Parts.{up, dn, ints, neg}
 use Rattle.lists.specs.Members.{In}
 use Rattle.network.specs.Table.{mostBoundaries, tableOf, entry}
 use Rattle.network.specs.TableLaws.{length-tableOf, entry-front}
-use Rattle.sheet.specs.Limits.{maxUnits, maxCount}
-use Rattle.sheet.specs.Sheet.{Window, Rule, Sheet, top, boundaries, noWindow, insideOf, atMost, atLeast, limit}
+use Rattle.sheet.specs.Limits.{maxCount}
+use Rattle.sheet.specs.Sheet.{Rule, Sheet, top, boundaries, noWindow, insideOf, atLeast, limit}
 use Rattle.sheet.specs.PlanLaws.{noRule}
 use Rattle.sheet.specs.LimitLaws.{limit-fwd, limit-back, limit-same, atMost-n, atLeast-le}
 use Rattle.sheet.specs.Questions.{windowsOf, rulesOf, sheetOf, listsAgree, accepted}
 use Rattle.sheet.specs.QuestionLaws.{Agree, listsAgree-read, windowsOf-length, windowsOf-at, rulesOf-length, rulesOf-at}
-use Rattle.sheet.specs.QuestionLaws.{Sized, accepted-sized, accepted-valid}
+use Rattle.sheet.specs.QuestionLaws.{accepted-sized, accepted-valid}
 use Rattle.limits.specs.LimitTable.{WindowsFit, limitTable}
 use Rattle.limits.specs.InsideLaws.{howMany-most}
 

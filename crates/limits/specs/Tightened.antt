@@ -1,6 +1,6 @@
 -- A limit by value that takes a rule's high or low and hands itself back tightened. Definitions only.
 use Prim.Native.Nat.{ℕ}
-use lib.IntN.{ℤ, pos, negℤ}
+use lib.IntN.{pos, negℤ}
 use Rattle.integers.specs.Parts.{minℤ}
 use Rattle.limits.specs.declared.limit.Limit.{Limit}
 

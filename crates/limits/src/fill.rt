@@ -1,8 +1,8 @@
 ghost use mathlib.Core.Path.{_≡_};
 ghost use mathlib.Core.List.{_++_};
-ghost use Prim.Native.Nat.{ℕ, _+_, _-_, _*_, _<_, _≤_};
+ghost use Prim.Native.Nat.{_+_, _-_, _*_, _<_, _≤_};
 ghost use lib.ListN.{length, drop};
-ghost use lib.IntN.{ℤ, pos, negℤ};
+ghost use lib.IntN.{pos, negℤ};
 ghost use Rattle.network.specs.Table.{tableOf, entry};
 ghost use Rattle.sheet.specs.Limits.{maxUnits, maxCount};
 ghost use Rattle.sheet.specs.Questions.{sheetOf};

@@ -1,8 +1,7 @@
 ghost use mathlib.Core.Path.{_≡_};
 ghost use mathlib.Core.List.{_++_};
-ghost use Prim.Native.Nat.{ℕ, _+_, _*_, _<_, _≤_};
+ghost use Prim.Native.Nat.{_+_, _*_, _<_, _≤_};
 ghost use lib.ListN.{length, drop};
-ghost use lib.IntN.{ℤ, pos};
 ghost use Rattle.network.specs.Table.{tableOf};
 ghost use Rattle.sheet.specs.Questions.{windowsOf};
 ghost use Rattle.limits.specs.LimitTable.{WindowsFit, insideWeights, exactWeights};

@@ -1,6 +1,6 @@
 ghost use mathlib.Core.Path.{_≡_};
-ghost use Prim.Native.Nat.{ℕ, _≤_};
-ghost use lib.IntN.{ℤ, pos, negℤ};
+ghost use Prim.Native.Nat.{_≤_};
+ghost use lib.IntN.{pos, negℤ};
 ghost use Rattle.sheet.specs.Limits.{maxCount};
 ghost use Rattle.limits.specs.Tightened.{withHigh, withLow};
 

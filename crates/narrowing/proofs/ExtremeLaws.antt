@@ -3,7 +3,7 @@
 -- cut that is admitted is the least slot that j has in a lawful plan. The latest slot is the same, seen from the end.
 use mathlib.Core.Path.{_≡_, sym, subst}
 use mathlib.Core.List.{List}
-use Prim.Native.Nat.{ℕ, suc, _+_, _-_, _≤_, _<_}
+use Prim.Native.Nat.{ℕ, suc, _-_, _≤_, _<_}
 use native.Mathlib.Omega.{arith}
 use native.Mathlib.Decide.{decLe}
 use lib.Dec.{T}
@@ -17,7 +17,7 @@ use Rattle.sheet.specs.PlanLaws.{lawful-iff, earliest-bound, earliest-attained,
 use Rattle.sheet.specs.PotentialLaws.{Valid, lawful-feasible}
 use Rattle.sheet.specs.Solved.{Solved}
 use Rattle.cuts.specs.Cut.{Admits, LeastCut}
-use Rattle.narrowing.specs.CutSheet.{mirrored, addedArc, cutTo}
+use Rattle.narrowing.specs.CutSheet.{addedArc, cutTo}
 use Rattle.narrowing.proofs.CutSheetLaws.{Gains, cut-lawful, cut-valid, plan-gains, gains-feasible}
 use Rattle.narrowing.proofs.MirrorLaws.{IsMirrored, turned, turned-feasible, mirrored-back}
 

@@ -2,9 +2,9 @@
 -- Key idea: a place of the table is one pair of slots, so a store changes the mark of one window only. The slot that stands there in the end is that of
 -- some unit with this window, hence an admitted cut, and its least cut is the least cut of every unit with this window.
 use mathlib.Core.Path.{_≡_, sym, ap, subst}
-use mathlib.Core.Logic.{_⊎_, inl, inr, ⊎-elim, ⊎-map}
+use mathlib.Core.Logic.{inl, inr, ⊎-elim, ⊎-map}
 use mathlib.Core.List.{List}
-use Prim.Native.Nat.{ℕ, _+_, _-_, _*_, _≤_, _<_}
+use Prim.Native.Nat.{ℕ, _+_, _*_, _≤_, _<_}
 use native.Mathlib.Omega.{arith}
 use native.Mathlib.Nat.{mul-le-mul-right}
 use native.Mathlib.Decide.{ℕ-discrete, decLe}

@@ -1,7 +1,7 @@
 -- From a sheet and its finished table to a network with arcs, and from least cuts to earliest and latest slots.
 -- Key idea: entries of a finished table are counts, so they are within the number of units of 0; the arcs are the windows inside, one more counted.
 use mathlib.Core.Path.{_≡_, refl, sym, ap, _∙_, subst}
-use mathlib.Core.Logic.{_⊎_, ⊎-elim}
+use mathlib.Core.Logic.{⊎-elim}
 use mathlib.Core.List.{List, _++_}
 use Prim.Native.Nat.{ℕ, suc, _+_, _-_, _*_, _≤_, _<_}
 use native.Mathlib.Omega.{arith}
@@ -19,7 +19,7 @@ use Rattle.network.specs.ClosureLaws.{there-and-back}
 use Rattle.network.specs.Table.{tableOf, entry}
 use Rattle.network.specs.TableLaws.{entry-front}
 use Rattle.network.specs.PassFront.{tableOf-same}
-use Rattle.sheet.specs.Sheet.{Window, Sheet, noWindow, top, insideOf, lawful, limit, atLeast, earliest, latest, earliestSlots, latestSlots}
+use Rattle.sheet.specs.Sheet.{Window, Sheet, noWindow, top, insideOf, limit, atLeast, earliest, latest, earliestSlots, latestSlots}
 use Rattle.sheet.specs.PlanLaws.{lawful-iff}
 use Rattle.sheet.specs.LimitLaws.{limit-fwd, limit-back, limit-same, atMost-n}
 use Rattle.limits.specs.InsideLaws.{howMany-most}

@@ -16,9 +16,11 @@ use Rattle.integers.specs.Parts.{ints, minℤ, min≤l}
 use Rattle.lists.specs.Lists.{run, joined}
 use Rattle.lists.specs.Members.{every-at}
 use Rattle.lists.specs.Parts.{part-at, part-length, back, back-length}
-use Rattle.lists.specs.Values.{listOf, length-listOf, listOf-at, listOf-is, values-are, Filled, filled-old, filled-new, filled-part, front-rest, front-past, front-part}
+use Rattle.lists.specs.Values.{listOf, length-listOf, listOf-at, listOf-is, values-are}
+use Rattle.lists.specs.Values.{Filled, filled-old, filled-new, filled-part, front-rest, front-past, front-part}
 use Rattle.network.specs.Closure.{step}
-use Rattle.network.specs.Table.{entry, middle, sumInRange, rowInRange, Passed, finished, stopped, outOfRange, afterRows, passFrom, outcomeOf, cleared, After}
+use Rattle.network.specs.Table.{entry, middle, sumInRange, rowInRange}
+use Rattle.network.specs.Table.{Passed, finished, stopped, outOfRange, afterRows, passFrom, outcomeOf, cleared, After}
 use Rattle.network.specs.TableLaws.{length-rows, rows-snoc, drop-middle}
 use Rattle.network.specs.Row.{leastOf, greatestOf, lowered, relaxed, SumsInRange, Loaded, Ran}
 use Rattle.network.specs.declared.Outcome.{Outcome}
@@ -194,7 +196,8 @@ module _ (w m : ℕ) (t₁ t : List ℤ) (outcome : Outcome) (a : ℕ) (v : Rows
     pub rows-low : (next : Passed) → rowInRange w m t₁ a ≡ true → ltZ (step m (entry w t₁) a a) (pos 0) ≡ true → afterRows w 0 w m t₁ next ≡ stopped
     rows-low next r l = next-row next ∙ (rw (r, l) refl)
 
-    pub rows-again : (next-outcome : Outcome) (k : ℕ) (ys : List ℤ) → next-outcome ≡ Finished → k ≡ w → a * w + k ≤ length t → ys ≡ newRow w m t₁ a → rowInRange w m t₁ a ≡ true
+    pub rows-again : (next-outcome : Outcome) (k : ℕ) (ys : List ℤ) → next-outcome ≡ Finished → k ≡ w → a * w + k ≤ length t
+        → ys ≡ newRow w m t₁ a → rowInRange w m t₁ a ≡ true
         → ltZ (step m (entry w t₁) a a) (pos 0) ≡ false → RowsInv w m t₁ next-outcome (back (a * w) k ys t) (a + 1)
     rows-again next-outcome k ys n e fits y r l =
         let long : length ys ≡ k = ap length y ∙ wide w m t₁ a ∙ sym e in
@@ -208,7 +211,8 @@ module _ (w m : ℕ) (t₁ t : List ℤ) (outcome : Outcome) (a : ℕ) (v : Rows
           form = front-part xs (a * w) done-long t₁ t (v .form) k ys
               ∙ ap (λ (n : ℕ). (xs ++ ys) ++ drop n t₁) i
               ∙ ap (λ (x : List ℤ). (xs ++ x) ++ drop ((a + 1) * w) t₁) (y ∙ ap (newRow w m t₁) (sym z))
-              ∙ ap (λ (x : List ℤ). x ++ drop ((a + 1) * w) t₁) (sym (rows-snoc w (newRow w m t₁) (wide w m t₁) 0 a) ∙ ap (λ (n : ℕ). joined (map (newRow w m t₁) (run 0 n))) (sym (add-one a)));
+              ∙ ap (λ (x : List ℤ). x ++ drop ((a + 1) * w) t₁)
+              (sym (rows-snoc w (newRow w m t₁) (wide w m t₁) 0 a) ∙ ap (λ (n : ℕ). joined (map (newRow w m t₁) (run 0 n))) (sym (add-one a)));
           rest = λ next. next-row next ∙ (rw (r, l) (ap (λ (n : ℕ). afterRows (w - (a + 1)) n w m t₁ next) (sym (add-one a))));
         }
 
@@ -279,7 +283,8 @@ after-finished w t (finished x) r u v e = record { outcome = v .outcome; table =
 after-finished w t stopped r u v e = let o = v .outcome in let z : _≡_ {A = ℕ} 0 1 = cc in let f : ⊥ = omega arith in absurd f
 after-finished w t outOfRange r u v e = let o = v .outcome in let z : _≡_ {A = ℕ} 0 1 = cc in let f : ⊥ = omega arith in absurd f
 
-pub after-cleared : (w : ℕ) (t : List ℤ) (p : Passed) (r : Outcome) (u x : List ℤ) → Ran w t p r u → (r ≡ Finished → ⊥) → x ≡ cleared (w * w) u → After w t p r x
+pub after-cleared : (w : ℕ) (t : List ℤ) (p : Passed) (r : Outcome) (u x : List ℤ) → Ran w t p r u → (r ≡ Finished → ⊥)
+    → x ≡ cleared (w * w) u → After w t p r x
 after-cleared w t (finished y) r u x v other e = absurd (other (v .outcome))
 after-cleared w t stopped r u x v other e = record { outcome = v .outcome; table = e ∙ ap (λ (l : List ℤ). replicate (w * w) (pos 0) ++ l) (v .past) }
 after-cleared w t outOfRange r u x v other e = record { outcome = v .outcome; table = e ∙ ap (λ (l : List ℤ). replicate (w * w) (pos 0) ++ l) (v .past) }

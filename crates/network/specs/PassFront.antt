@@ -19,7 +19,9 @@ use Rattle.network.specs.TableLaws.{length-middle, row-inside}
 
 -- ---- tables that agree place by place
 pub tableOf-same : (w : ℕ) (f g : Weights) → ((a b : ℕ) → a < w → b < w → f a b ≡ g a b) → tableOf w f ≡ tableOf w g
-tableOf-same w f g h = ap joined (values-same (λ a. listOf w (f a)) (λ a. listOf w (g a)) 0 w (λ a l k. listOf-same w (f a) (g a) (λ b hb. h a b (omega arith) hb)))
+tableOf-same w f g h =
+    ap joined
+    (values-same (λ a. listOf w (f a)) (λ a. listOf w (g a)) 0 w (λ a l k. listOf-same w (f a) (g a) (λ b hb. h a b (omega arith) hb)))
 
 -- ---- the table t with other places r behind it
 abbrev pub withRest : List ℤ → Passed → Passed
@@ -60,7 +62,8 @@ module _ (w m : ℕ) (hm : m < w) (t r : List ℤ) (size : length t ≡ w * w) w
   rows-front (suc k) a h next =
       ap₂ (λ (ok low : Bool). cond ok (cond low stopped (afterRows k (suc a) w m (t ++ r) (withRest r next))) outOfRange)
       (row-same a (omega arith)) (ap (λ (z : ℤ). ltZ z (pos 0)) (step-same a a (omega arith) (omega arith)))
-      ∙ ap (λ (p : Passed). cond (rowInRange w m t a) (cond (ltZ (step m (entry w t) a a) (pos 0)) stopped p) outOfRange) (rows-front k (suc a) (omega arith) next)
+      ∙ ap (λ (p : Passed). cond (rowInRange w m t a) (cond (ltZ (step m (entry w t) a a) (pos 0)) stopped p) outOfRange)
+      (rows-front k (suc a) (omega arith) next)
       ∙ chosen (rowInRange w m t a) (ltZ (step m (entry w t) a a) (pos 0)) (afterRows k (suc a) w m t next)
 
 from-front : (w k m : ℕ) → m + k ≤ w → (t r : List ℤ) → length t ≡ w * w → passFrom k m w (t ++ r) ≡ withRest r (passFrom k m w t)

@@ -85,7 +85,8 @@ module _ (top w : ℕ) (size : w ≡ suc top) (d : Weights) where
   stopped-infeasible-from (suc k) m t h l e =
       ⊎-elim (λ (y : PassedBy w m t w 0 (passFrom k (suc m) w (middle w m t)) stopped).
       stopped-infeasible-from k (suc m) (middle w m t) (omega arith) (middle-level m t (omega arith) l (λ a ha. y .fine a (omega arith) (omega arith))) (y .on))
-      (⊎-elim (λ (y : StoppedAt w m t w 0 stopped). level-stop top d m (entry w t) (y .row) (omega arith) (omega (arith, y .inside)) l (y .low)) (λ q. never (cc)))
+      (⊎-elim (λ (y : StoppedAt w m t w 0 stopped). level-stop top d m (entry w t) (y .row) (omega arith) (omega (arith, y .inside)) l (y .low))
+      (λ q. never (cc)))
       (rows-cases w m t w 0 (passFrom k (suc m) w (middle w m t)) stopped e)
 
 -- ---- the whole pass

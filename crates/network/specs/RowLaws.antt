@@ -35,7 +35,8 @@ in-range z l h = both (leZ (negsuc 29999) z) (leZ z (pos 30000)) (l .le) (h .le)
 
 -- ---- the fold
 -- one more number
-pub fold-next : (f : ℤ → ℤ → ℤ) (z : ℤ) (xs : List ℤ) (b : ℕ) → b < length xs → foldFrom f (f z (getD xs b (pos 0))) (drop (b + 1) xs) ≡ foldFrom f z (drop b xs)
+pub fold-next : (f : ℤ → ℤ → ℤ) (z : ℤ) (xs : List ℤ) (b : ℕ) → b < length xs
+    → foldFrom f (f z (getD xs b (pos 0))) (drop (b + 1) xs) ≡ foldFrom f z (drop b xs)
 fold-next f z xs b h = rw (add-one b) (sym (ap (foldFrom f z) (drop-cons xs b (pos 0) h)))
 
 -- where f gives one of its two numbers, the fold is z or a number of the list

@@ -1,13 +1,11 @@
 ghost use mathlib.Core.Path.{_≡_};
 ghost use mathlib.Core.Bool.{_&&_};
 ghost use mathlib.Core.List.{_++_};
-ghost use Prim.Native.Nat.{ℕ, _+_, _-_, _*_, _≤_, _<_, min};
-ghost use lib.ListN.{length, getD, take, drop};
+ghost use Prim.Native.Nat.{_+_, _-_, _*_, _≤_, _<_, min};
+ghost use lib.ListN.{length, take, drop};
 ghost use lib.IntN.{ℤ, pos, negsuc, _+ℤ_};
 ghost use lib.Signed.{leZ};
-ghost use lib.Dec.{T};
-ghost use Rattle.integers.specs.Parts.{minℤ};
-ghost use Rattle.network.specs.Table.{mostBoundaries, sumInRange, passFrom, passOf, After, cleared};
+ghost use Rattle.network.specs.Table.{mostBoundaries, passFrom, passOf, After, cleared};
 ghost use Rattle.network.specs.Row.{leastOf, greatestOf, relaxed, SumsInRange, Loaded, Ran};
 
 // How a pass over the middle boundaries ends.

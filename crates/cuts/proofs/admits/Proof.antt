@@ -1,3 +1,4 @@
+-- The potential stays above every one that keeps the arcs and is 0 before the window; each sweep that lowers it lowers its height, so the loop ends.
 use Rattle.cuts.proofs.SettleLaws.{part-length, row-modest, sunk-first, still-admits}
 use Rattle.cuts.specs.Carry.{SunkAt, Settling, heightAt}
 use Rattle.network.specs.TableLaws.{row-inside}

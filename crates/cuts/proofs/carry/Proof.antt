@@ -1,3 +1,4 @@
+-- The places before c are carried, and those from c on are as they were.
 use borrow.Author.Needs.{needs}
 use native.Mathlib.Omega.{arith}
 use Prim.Native.Nat.{ℕ, _≤_, _-_}

@@ -1,3 +1,4 @@
+-- The cut sought lies from `from` to `to`: the last is admitted, and none below the first is.
 use Rattle.cuts.proofs.SearchLaws.{Search, search-first, search-yes, search-no, search-last}
 use Rattle.cuts.specs.Carry.{AdmitsAt, Decides}
 use mathlib.Core.Bool.{Bool}

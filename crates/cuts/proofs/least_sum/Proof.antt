@@ -1,3 +1,4 @@
+-- The least sum of the places before i is in hand; the first place is asked twice, which changes nothing.
 use Rattle.cuts.proofs.CarryLaws.{sum-fits, least-first, least-more}
 use Rattle.cuts.specs.Carry.{at, LeastSum}
 use Rattle.integers.specs.Parts.{minℤ}

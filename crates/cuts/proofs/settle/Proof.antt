@@ -1,3 +1,4 @@
+-- What the arcs at b ask is a sum of entries, so lowering to it stays above every potential sought; a number below 0 before the window ends the search.
 use lib.Signed.{ltZ}
 use Rattle.cuts.proofs.SettleLaws.{least-asks, carry-asks, settled-still, settled-lost, settled-lower}
 use Rattle.cuts.specs.Carry.{at}

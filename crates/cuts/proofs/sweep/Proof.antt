@@ -1,3 +1,4 @@
+-- The boundaries before b are settled; `lower` says whether one of them fell.
 use Rattle.cuts.specs.declared.Settled.the-variants.{Still, Lower, Lost}
 use Rattle.cuts.proofs.SettleLaws.{swept-none, swept-still, swept-lower, swept-end}
 use Rattle.cuts.specs.Carry.{SunkAt, Settling, fell}

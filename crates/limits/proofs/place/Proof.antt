@@ -1,3 +1,4 @@
+-- Row and column are below w, so the place is inside the table.
 use borrow.Author.Needs.{needs}
 use native.Mathlib.Omega.{arith}
 use Rattle.network.specs.TableLaws.{row-inside}

@@ -1,3 +1,4 @@
+-- The rows before b are done, and the rest of the room is as it was.
 use Rattle.narrowing.proofs.FillLaws.{RowsDone, rows-none, rows-more, rows-length, rows-all}
 use lib.Seq.{length-slice}
 use Rattle.narrowing.specs.CutSheet.{oneLess}
@@ -19,35 +20,28 @@ abbrev μ-loop : tie.MeasureT-loop
 loop-holds : tie.Need-loop-holds Inv-loop μ-loop
 loop-holds c = let g = c .args in (omega arith, refl, rows-none (g .w) (oneLess (entry (g .w) (g .inside .now))) (g .out .now))
 
+-- the row in hand is inside the table
+row-fits : (c : tie.In-loop Inv-loop μ-loop)
+    → (let w = c .before .before .args .w in c .before .loop .b * w + w ≤ w * w)
+row-fits c = row-inside (c .before .loop .b) (c .before .before .args .w) (omega arith)
+
 mul-from : tie.Need-mul-from Inv-loop μ-loop
-mul-from c =
-    let st = c .before .before in
-    omega (arith, row-inside (c .before .loop .b) (st .args .w) (omega arith), st .good)
+mul-from c = omega (arith, row-fits c, c .before .before .good)
 
 add-to : tie.Need-add-to Inv-loop μ-loop
-add-to c =
-    let st = c .before .before in
-    omega (arith, row-inside (c .before .loop .b) (st .args .w) (omega arith), st .good)
+add-to c = omega (arith, row-fits c, c .before .before .good)
 
 mul-arcs-row : tie.Need-mul-arcs-row Inv-loop μ-loop
-mul-arcs-row c =
-    let st = c .before .before in
-    omega (arith, row-inside (c .before .loop .b) (st .args .w) (omega arith), st .good)
+mul-arcs-row c = omega (arith, row-fits c, c .before .before .good)
 
 sub-arcs-row : tie.Need-sub-arcs-row Inv-loop μ-loop
-sub-arcs-row c =
-    let st = c .before .before in
-    omega (arith, row-inside (c .before .loop .b) (st .args .w) (omega arith), st .good)
+sub-arcs-row c = omega (arith, row-fits c, c .before .before .good)
 
 part-arcs-row-start : tie.Need-part-arcs-row-start Inv-loop μ-loop
-part-arcs-row-start c =
-    let st = c .before .before in
-    omega (arith, row-inside (c .before .loop .b) (st .args .w) (omega arith), st .good)
+part-arcs-row-start c = omega (arith, row-fits c, c .before .before .good)
 
 part-arcs-row-end : tie.Need-part-arcs-row-end Inv-loop μ-loop
-part-arcs-row-end c =
-    let st = c .before .before in
-    omega (arith, row-inside (c .before .loop .b) (st .args .w) (omega arith), st .good)
+part-arcs-row-end c = omega (arith, row-fits c, c .before .before .good)
 
 arcs-row-requires : tie.Need-arcs-row-requires Inv-loop μ-loop
 arcs-row-requires c κs =

@@ -1,3 +1,4 @@
+-- The places before a are done, and the rest of the row is as it was.
 use Rattle.narrowing.proofs.FillLaws.{one-less-fits}
 use Rattle.narrowing.specs.CutSheet.{oneLess}
 use Rattle.network.specs.TableLaws.{row-inside}
@@ -5,7 +6,7 @@ use Rattle.network.specs.Table.{entry}
 use mir.Facts.{toZ-ofZ}
 use mir.Val.{SFits}
 use mir.Syntax.{w16}
-use lib.IntN.{ℤ, pos, negsuc, _+ℤ_}
+use lib.IntN.{pos, negsuc, _+ℤ_}
 use lib.ListN.{getD}
 use mathlib.Core.Path.{_≡_, refl, ap, _∙_}
 use Prim.Native.Nat.{ℕ, _≤_, _-_, _+_, _*_}

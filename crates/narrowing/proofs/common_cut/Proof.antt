@@ -8,15 +8,10 @@ use native.Mathlib.Omega.{arith}
 use borrow.Author.Needs.{needs}
 use Rattle.narrowing.proofs.common_cut.Statement.{statement}
 use Rattle.narrowing.proofs.common_cut.Tie as tie
-use Rattle.narrowing.proofs.common_cut.Reads as reads
-use Rattle.narrowing.proofs.common_cut.Lts as lts
-use Rattle.cuts.proofs.admits.Reads as admits-reads
-use Rattle.narrowing.proofs.larger.Reads as larger-reads
-use Rattle.narrowing.proofs.last_marked.Reads as last-marked-reads
 
 -- ---- once the last marked place is known
 abbrev Found : Type 0
-Found = lts.After-last-marked (last-marked-reads.Asked, last-marked-reads.Learnt, larger-reads.Asked, larger-reads.Learnt, admits-reads.Asked, admits-reads.Learnt) reads.Pre reads.Post
+Found = tie.After-last-marked
 
 place : (c : Found) → c .last-marked .result < c .before .before .before .args .w
 place c =

@@ -1,3 +1,4 @@
+-- The windows inside all stretches are counted in an array of the call's own; the arcs are one less.
 use Rattle.narrowing.proofs.NarrowLaws.{inside-modest, arcs-table}
 use Rattle.narrowing.proofs.MarkLaws.{square-most}
 use Rattle.sheet.specs.QuestionLaws.{windowsOf-length}
@@ -5,7 +6,7 @@ use Rattle.sheet.specs.Questions.{windowsOf}
 use lib.IntN.{pos}
 use lib.ListN.{length, drop, replicate}
 use mathlib.Core.Path.{_≡_}
-use Prim.Native.Nat.{_-_, _*_}
+use Prim.Native.Nat.{_*_}
 use native.Mathlib.Omega.{arith}
 use borrow.Author.Needs.{needs}
 use Rattle.narrowing.proofs.cut_arcs.Statement.{statement}

@@ -1,3 +1,4 @@
+-- The windows that close before l have their least cuts; `low` and the floors bar what is known to be barred for the next.
 use Rattle.narrowing.proofs.CutRowLaws.{Cutting, cutting-none, next-level, next-barred, cutting-skip, cutting-mark}
 use Rattle.narrowing.proofs.CommonCutLaws.{common-smaller}
 use lib.ListN.{length, getD, set, length-set}
@@ -60,7 +61,8 @@ least-cut-requires c κs =
     let e = c .before .before .before .larger .ensures in
     let r = i .rest (l .l) (omega arith) in
     let marked : 0 < getD (a .row .now) (l .l) 0 = omega (arith, c .before .if1 .taken) in
-    let known = common-smaller (a .w) (a .d .now) (a .m .now) (a .f) (a .row .now) (l .l) (getD (a .row .now) (l .l) 0) (at .before .common-cut .result) h marked
+    let known = common-smaller (a .w) (a .d .now) (a .m .now) (a .f) (a .row .now) (l .l) (getD (a .row .now) (l .l) 0)
+    (at .before .common-cut .result) h marked
     (st .pre .1 .0 (l .l) h marked) (at .before .common-cut .ensures) in
     let s : c .smaller .result ≡ min (getD (a .row .now) (l .l) 0) (at .before .common-cut .result) = rw (sym r) (c .smaller .ensures) in
     let n = next-level (a .w) (a .d .now) (a .m .now) (a .f) (a .row .now) (l .row) (l .floor) (l .low) (l .l) i h in
@@ -73,10 +75,14 @@ cast-row c =
     omega (arith, c .least-cut .ensures .inside, at .loop .inv .0 .place, at .before .before .before .before .before .before .pre .0 .0 .most)
 
 mul-row : tie.Need-mul-row Inv-loop μ-loop
-mul-row c = omega (arith, c .before .before .before .before .before .before .loop-test .taken, c .before .before .before .before .before .before .before .before .before .before .before .before .before .pre .0 .0 .most)
+mul-row c =
+    let turn = c .before .before .before .before .before .before .loop-test .taken in
+    omega (arith, turn, c .before .before .before .before .before .before .before .before .before .before .before .before .before .pre .0 .0 .most)
 
 slice-write-row : tie.Need-slice-write-row Inv-loop μ-loop
-slice-write-row c = omega (arith, c .before .before .before .before .before .before .loop-test .taken, c .before .before .before .before .before .before .before .loop .inv .0 .long)
+slice-write-row c =
+    let turn = c .before .before .before .before .before .before .loop-test .taken in
+    omega (arith, turn, c .before .before .before .before .before .before .before .loop .inv .0 .long)
 
 -- the window that closes in l is done, marked or not
 moved : (c : tie.Joined1 Inv-loop μ-loop) →
@@ -98,10 +104,13 @@ moved c =
 cast-floor : tie.Need-cast-floor Inv-loop μ-loop
 cast-floor c =
     let at = c .before .before .before .before .before .before in
-    omega (arith, moved (c .before) .level, c .before .before .before .before .before .loop-test .taken, at .before .before .before .before .before .before .pre .0 .0 .most)
+    let turn = c .before .before .before .before .before .loop-test .taken in
+    omega (arith, moved (c .before) .level, turn, at .before .before .before .before .before .before .pre .0 .0 .most)
 
 mul-floor : tie.Need-mul-floor Inv-loop μ-loop
-mul-floor c = omega (arith, c .before .before .before .before .before .loop-test .taken, c .before .before .before .before .before .before .before .before .before .before .before .before .pre .0 .0 .most)
+mul-floor c =
+    let turn = c .before .before .before .before .before .loop-test .taken in
+    omega (arith, turn, c .before .before .before .before .before .before .before .before .before .before .before .before .pre .0 .0 .most)
 
 slice-write-floor : tie.Need-slice-write-floor Inv-loop μ-loop
 slice-write-floor c = omega (
@@ -112,7 +121,9 @@ slice-write-floor c = omega (
 )
 
 add-l : tie.Need-add-l Inv-loop μ-loop
-add-l c = omega (arith, c .before .before .before .before .before .loop-test .taken, c .before .before .before .before .before .before .before .before .before .before .before .before .pre .0 .0 .most)
+add-l c =
+    let turn = c .before .before .before .before .before .loop-test .taken in
+    omega (arith, turn, c .before .before .before .before .before .before .before .before .before .before .before .before .pre .0 .0 .most)
 
 loop-less : tie.Need-loop-less Inv-loop μ-loop
 loop-less c = omega (arith, c .before .before .before .before .before .loop-test .taken)

@@ -1,8 +1,10 @@
+-- The windows that open before f have their least cuts, and the floors bar what is known for those that open later.
 use Rattle.narrowing.proofs.CutWindowsLaws.{CutWindows, windows-none, row-length, known-row, windows-more}
 use Rattle.network.specs.TableLaws.{row-inside}
 use mathlib.Core.Path.{_≡_, sym, _∙_}
-use Prim.Native.Nat.{_-_, _+_, _*_}
+use Prim.Native.Nat.{_-_, _+_, _*_, _≤_}
 use native.Mathlib.Omega.{arith}
+use lib.ListN.{length}
 use borrow.Author.Needs.{needs}
 use Rattle.narrowing.proofs.cut_windows.Statement.{statement}
 use Rattle.narrowing.proofs.cut_windows.Tie as tie
@@ -19,35 +21,30 @@ loop-holds c =
     let a = st .args in
     windows-none (a .w) (a .d .now) (a .m .now) (a .marks .now) (st .pre .1) (st .pre .2) (st .pre .0 .some)
 
-mul-from : tie.Need-mul-from Inv-loop μ-loop
-mul-from c =
+-- the row in hand is inside the room for the marks
+row-fits : (c : tie.In-loop Inv-loop μ-loop)
+    → c .before .loop .f * c .before .before .before .args .w + c .before .before .before .args .w ≤ length (c .before .loop .marks)
+row-fits c =
     let st = c .before .before .before in
-    omega (arith, row-inside (c .before .loop .f) (st .args .w) (c .loop-test .taken), c .before .loop .inv .long, st .pre .1, st .good)
+    omega (arith, row-inside (c .before .loop .f) (st .args .w) (c .loop-test .taken), c .before .loop .inv .long, st .pre .1)
+
+mul-from : tie.Need-mul-from Inv-loop μ-loop
+mul-from c = omega (arith, row-fits c, c .before .before .before .good)
 
 add-to : tie.Need-add-to Inv-loop μ-loop
-add-to c =
-    let st = c .before .before .before in
-    omega (arith, row-inside (c .before .loop .f) (st .args .w) (c .loop-test .taken), c .before .loop .inv .long, st .pre .1, st .good)
+add-to c = omega (arith, row-fits c, c .before .before .before .good)
 
 mul-cut-row : tie.Need-mul-cut-row Inv-loop μ-loop
-mul-cut-row c =
-    let st = c .before .before .before in
-    omega (arith, row-inside (c .before .loop .f) (st .args .w) (c .loop-test .taken), c .before .loop .inv .long, st .pre .1, st .good)
+mul-cut-row c = omega (arith, row-fits c, c .before .before .before .good)
 
 sub-cut-row : tie.Need-sub-cut-row Inv-loop μ-loop
-sub-cut-row c =
-    let st = c .before .before .before in
-    omega (arith, row-inside (c .before .loop .f) (st .args .w) (c .loop-test .taken), c .before .loop .inv .long, st .pre .1, st .good)
+sub-cut-row c = omega (arith, row-fits c, c .before .before .before .good)
 
 part-cut-row-start : tie.Need-part-cut-row-start Inv-loop μ-loop
-part-cut-row-start c =
-    let st = c .before .before .before in
-    omega (arith, row-inside (c .before .loop .f) (st .args .w) (c .loop-test .taken), c .before .loop .inv .long, st .pre .1, st .good)
+part-cut-row-start c = omega (arith, row-fits c, c .before .before .before .good)
 
 part-cut-row-end : tie.Need-part-cut-row-end Inv-loop μ-loop
-part-cut-row-end c =
-    let st = c .before .before .before in
-    omega (arith, row-inside (c .before .loop .f) (st .args .w) (c .loop-test .taken), c .before .loop .inv .long, st .pre .1, st .good)
+part-cut-row-end c = omega (arith, row-fits c, c .before .before .before .good)
 
 slice-aggregate-cut-row : tie.Need-slice-aggregate-cut-row Inv-loop μ-loop
 slice-aggregate-cut-row c = search needs

@@ -1,3 +1,4 @@
+-- A greatest cut is a least cut of the network seen from its end.
 use mathlib.Core.Path.{_≡_}
 use mathlib.Core.List.{List}
 use Prim.Native.Nat.{_*_, _≤_}

@@ -1,8 +1,8 @@
+-- Mark each window, cut the marked ones, and read each unit's cut from its window's mark.
 use Rattle.narrowing.proofs.CutWindowsLaws.{zeros}
 use Rattle.narrowing.proofs.MarkLaws.{marks-known, cuts-least, square-most}
 use lib.ListN.{length}
 use mathlib.Core.Path.{_≡_, _∙_}
-use Prim.Native.Nat.{_-_}
 use native.Mathlib.Omega.{arith}
 use borrow.Author.Needs.{needs}
 use Rattle.narrowing.proofs.least_cuts.Statement.{statement}

@@ -1,3 +1,4 @@
+-- The windows and the plan are seen from the end, cut there, and the cuts seen from the front again.
 use mathlib.Core.Path.{_≡_, sym}
 use mathlib.Core.List.{List}
 use Prim.Native.Nat.{ℕ, _≤_, _<_}

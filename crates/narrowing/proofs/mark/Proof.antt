@@ -1,3 +1,4 @@
+-- The windows of the units before j are marked, each with the slot of such a unit.
 use Rattle.narrowing.proofs.MarkLaws.{place-inside, marked-none, marked-more}
 use Rattle.narrowing.specs.Windows.{Marked}
 use lib.ListN.{length, length-set}

@@ -1,3 +1,4 @@
+-- The rows before a are done, and the rest of the room is as it was.
 use Rattle.narrowing.proofs.FillLaws.{RowsDone, rows-none, rows-more, rows-length, rows-all}
 use lib.Seq.{length-slice}
 use Rattle.narrowing.specs.CutSheet.{mirrored}
@@ -19,35 +20,28 @@ abbrev μ-loop : tie.MeasureT-loop
 loop-holds : tie.Need-loop-holds Inv-loop μ-loop
 loop-holds c = let g = c .args in (omega arith, refl, rows-none (g .w) (mirrored (g .w - 1) (entry (g .w) (g .t .now))) (g .out .now))
 
+-- the row in hand is inside the table
+row-fits : (c : tie.In-loop Inv-loop μ-loop)
+    → (let w = c .before .before .args .w in c .before .loop .a * w + w ≤ w * w)
+row-fits c = row-inside (c .before .loop .a) (c .before .before .args .w) (omega arith)
+
 mul-from : tie.Need-mul-from Inv-loop μ-loop
-mul-from c =
-    let st = c .before .before in
-    omega (arith, row-inside (c .before .loop .a) (st .args .w) (omega arith), st .good)
+mul-from c = omega (arith, row-fits c, c .before .before .good)
 
 add-to : tie.Need-add-to Inv-loop μ-loop
-add-to c =
-    let st = c .before .before in
-    omega (arith, row-inside (c .before .loop .a) (st .args .w) (omega arith), st .good)
+add-to c = omega (arith, row-fits c, c .before .before .good)
 
 mul-mirror-row : tie.Need-mul-mirror-row Inv-loop μ-loop
-mul-mirror-row c =
-    let st = c .before .before in
-    omega (arith, row-inside (c .before .loop .a) (st .args .w) (omega arith), st .good)
+mul-mirror-row c = omega (arith, row-fits c, c .before .before .good)
 
 sub-mirror-row : tie.Need-sub-mirror-row Inv-loop μ-loop
-sub-mirror-row c =
-    let st = c .before .before in
-    omega (arith, row-inside (c .before .loop .a) (st .args .w) (omega arith), st .good)
+sub-mirror-row c = omega (arith, row-fits c, c .before .before .good)
 
 part-mirror-row-start : tie.Need-part-mirror-row-start Inv-loop μ-loop
-part-mirror-row-start c =
-    let st = c .before .before in
-    omega (arith, row-inside (c .before .loop .a) (st .args .w) (omega arith), st .good)
+part-mirror-row-start c = omega (arith, row-fits c, c .before .before .good)
 
 part-mirror-row-end : tie.Need-part-mirror-row-end Inv-loop μ-loop
-part-mirror-row-end c =
-    let st = c .before .before in
-    omega (arith, row-inside (c .before .loop .a) (st .args .w) (omega arith), st .good)
+part-mirror-row-end c = omega (arith, row-fits c, c .before .before .good)
 
 mirror-row-requires : tie.Need-mirror-row-requires Inv-loop μ-loop
 mirror-row-requires c κs =

@@ -1,3 +1,4 @@
+-- The places before b are done, and the rest of the row is as it was.
 use Rattle.narrowing.specs.CutSheet.{mirrored}
 use Rattle.network.specs.TableLaws.{row-inside}
 use Rattle.network.specs.Table.{entry}

@@ -1,3 +1,4 @@
+-- A unit's earliest slot is its least cut, and its latest the greatest; both are of the closed network that the pass left.
 use mathlib.Core.Path.{_≡_}
 use mathlib.Core.List.{List}
 use Prim.Native.Nat.{_*_, _≤_}

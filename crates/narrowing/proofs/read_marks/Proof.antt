@@ -1,3 +1,4 @@
+-- The units before j have their cuts, and the rest of the room is as it was.
 use Rattle.lists.specs.Values.{Filled, filled-length, filled-store}
 use Rattle.narrowing.specs.Windows.{slot}
 use Rattle.network.specs.TableLaws.{row-inside}

@@ -1,3 +1,4 @@
+-- The places before j are done, and the rest of the room is as it was.
 use Rattle.lists.specs.Values.{Filled, filled-length, filled-store}
 use lib.ListN.{length, getD}
 use mathlib.Core.Path.{_≡_, refl, subst}

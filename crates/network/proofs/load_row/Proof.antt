@@ -30,7 +30,9 @@ copy-row-requires : tie.Need-copy-row-requires
 copy-row-requires c κs = search needs
 
 mul-ends-of : tie.Need-mul-ends-of
-mul-ends-of c = omega (arith, row-inside (c .before .before .before .before .args .m) (c .before .before .before .before .args .w) (c .before .before .before .before .pre .0))
+mul-ends-of c =
+    let s = c .before .before .before .before in
+    omega (arith, row-inside (s .args .m) (s .args .w) (s .pre .0))
 
 sub-ends-of : tie.Need-sub-ends-of
 sub-ends-of c = search needs
@@ -39,7 +41,9 @@ part-ends-of-start : tie.Need-part-ends-of-start
 part-ends-of-start c = search needs
 
 part-ends-of-end : tie.Need-part-ends-of-end
-part-ends-of-end c = omega (arith, row-inside (c .before .before .before .before .args .m) (c .before .before .before .before .args .w) (c .before .before .before .before .pre .0))
+part-ends-of-end c =
+    let s = c .before .before .before .before in
+    omega (arith, row-inside (s .args .m) (s .args .w) (s .pre .0))
 
 ends-of-requires : tie.Need-ends-of-requires
 ends-of-requires c κs = search needs
@@ -53,7 +57,8 @@ returns c =
     let w = st .args .w in
     let i = st .args .m * w in
     let k : i + w - i ≡ w = omega arith in
-    loaded-at i (i + w - i) w (st .args .t .now) (st .args .out .now) (c .before .before .before .copy-row .last .1 .0) (c .ends-of .result .0) (c .ends-of .result .1)
+    loaded-at i (i + w - i) w (st .args .t .now) (st .args .out .now) (c .before .before .before .copy-row .last .1 .0)
+    (c .ends-of .result .0) (c .ends-of .result .1)
     k (c .before .before .before .copy-row .ensures) (c .ends-of .ensures .0) (c .ends-of .ensures .1)
 
 pub load-row-spec : {M : Type 1} → statement M

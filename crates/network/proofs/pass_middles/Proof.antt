@@ -8,22 +8,10 @@ use Rattle.network.proofs.PassSteps.{after-finished, after-cleared}
 use borrow.Author.Needs.{needs}
 use Rattle.network.proofs.pass_middles.Statement.{statement}
 use Rattle.network.proofs.pass_middles.Tie as tie
-use Rattle.network.proofs.pass_middles.Reads as reads
-use Rattle.network.proofs.pass_middles.Lts as lts
-use Rattle.network.proofs.capped.Reads as capped-reads
-use Rattle.network.proofs.clear.Reads as clear-reads
-use Rattle.network.proofs.run_middles.Reads as run-middles-reads
 
 -- ---- once the loops have run: their width is the caller's
 abbrev Looped : Type 0
-Looped = lts.After-run-middles (
-  capped-reads.Asked,
-  capped-reads.Learnt,
-  run-middles-reads.Asked,
-  run-middles-reads.Learnt,
-  clear-reads.Asked,
-  clear-reads.Learnt,
-) reads.Pre reads.Post
+Looped = tie.After-run-middles
 
 ran-here : (c : Looped) →
     let a = c .before .before .before .args in

@@ -1,9 +1,9 @@
+-- The two places of a stretch, forward and back, are tightened one after the other.
 use borrow.Author.Needs.{needs}
 use native.Mathlib.Omega.{arith}
-use mathlib.Core.Path.{_≡_, sym, ap, _∙_}
-use mathlib.Core.List.{List}
+use mathlib.Core.Path.{ap, _∙_}
 use Prim.Native.Nat.{ℕ, _+_, _-_, _*_}
-use lib.IntN.{ℤ, pos, negℤ}
+use lib.IntN.{pos, negℤ}
 use Rattle.limits.specs.LimitTable.{lowered}
 use Rattle.limits.specs.EntryLaws.{place-inside}
 use Rattle.limits.proofs.fill.apply_rule.Statement.{statement}

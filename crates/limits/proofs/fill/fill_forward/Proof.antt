@@ -1,8 +1,8 @@
 -- The outer loop keeps `Put` at a row's right end. The inner one keeps what it says of any table that it was swept from.
 use native.Mathlib.Omega.{arith}
-use mathlib.Core.Path.{_≡_, refl, sym, ap, _∙_, subst}
+use mathlib.Core.Path.{_≡_, refl, sym, _∙_, subst}
 use mathlib.Core.List.{List}
-use Prim.Native.Nat.{ℕ, suc, _+_, _-_, _*_, _≤_, _<_}
+use Prim.Native.Nat.{_+_, _-_, _*_, _≤_, _<_}
 use lib.ListN.{length, set, length-set}
 use lib.IntN.{ℤ, pos}
 use mir.Syntax.{w16}
@@ -13,7 +13,7 @@ use Rattle.network.specs.Table.{entry}
 use Rattle.network.specs.TableLaws.{row-inside}
 use Rattle.limits.specs.LimitTable.{withForward}
 use Rattle.limits.specs.EntryLaws.{Filled, filled-is, place-inside}
-use Rattle.limits.proofs.Sweep.{Swept, swept-last}
+use Rattle.limits.proofs.Sweep.{swept-last}
 use Rattle.limits.proofs.Forward.{Put, put-first, put-more, put-row}
 use Rattle.limits.proofs.fill.fill_forward.Statement.{statement}
 use Rattle.limits.proofs.fill.fill_forward.Tie as tie

@@ -2,15 +2,14 @@
 use native.Mathlib.Omega.{arith}
 use mathlib.Core.Path.{_≡_, refl, sym, ap, _∙_, subst}
 use mathlib.Core.List.{List, [], _++_}
-use Prim.Native.Nat.{ℕ, suc, _+_, _-_, _*_, _≤_, _<_}
-use lib.ListN.{length, getD, drop}
-use lib.IntN.{ℤ, pos, negℤ}
+use Prim.Native.Nat.{ℕ, _+_, _-_, _*_, _≤_}
+use lib.ListN.{length, drop}
 use Rattle.network.specs.Table.{entry, tableOf}
 use Rattle.sheet.specs.Sheet.{Window, Sheet, limit, boundaries}
 use Rattle.sheet.specs.Questions.{windowsOf, sheetOf}
 use Rattle.sheet.specs.QuestionLaws.{Agree, listsAgree-read, windowsOf-length}
 use Rattle.limits.specs.LimitTable.{WindowsFit, insideWeights, withForward}
-use Rattle.limits.specs.LimitTableLaws.{RuleFits, accepted-windows, accepted-rule, accepted-span, boundaries-are}
+use Rattle.limits.specs.LimitTableLaws.{accepted-windows, accepted-rule, accepted-span, boundaries-are}
 use Rattle.limits.specs.InsideLaws.{fit-in-order}
 use Rattle.limits.specs.EntryLaws.{Filled, filled-is, is-filled, filled-over}
 use Rattle.limits.proofs.Rules.{ruled, unruled, ruledFrom, ruled-none, ruled-all, rule-line}
@@ -133,7 +132,8 @@ mul-apply-rule-4 : tie.Need-mul-apply-rule-4 Inv-loop μ-loop
 mul-apply-rule-4 c = omega arith
 
 shared-slice-read-apply-rule-4 : tie.Need-shared-slice-read-apply-rule-4 Inv-loop μ-loop
-shared-slice-read-apply-rule-4 c = omega (arith, agree (entry-of (c .before .before .before .before .before)) .highs, c .before .before .before .before .before .loop .inv .0)
+shared-slice-read-apply-rule-4 c =
+    omega (arith, agree (entry-of (c .before .before .before .before .before)) .highs, c .before .before .before .before .before .loop .inv .0)
 
 apply-rule-requires : tie.Need-apply-rule-requires Inv-loop μ-loop
 apply-rule-requires c κs =

@@ -1,20 +1,18 @@
 -- The loop's invariant: the table has the exact windows of the units from line j on.
 use native.Mathlib.Omega.{arith}
-use mathlib.Core.Path.{_≡_, refl, sym, ap, _∙_, subst}
+use mathlib.Core.Path.{_≡_, refl, sym, subst}
 use mathlib.Core.List.{List, []}
-use Prim.Native.Nat.{ℕ, suc, _+_, _-_, _*_, _≤_, _<_}
-use lib.ListN.{length, getD, drop, set}
-use lib.Seq.{drop-length}
-use lib.IntN.{ℤ, pos, _-ℤ_}
+use Prim.Native.Nat.{ℕ, _-_, _*_, _≤_}
+use lib.ListN.{length, getD, drop}
+use lib.IntN.{pos}
 use mir.Syntax.{w16}
 use mir.Val.{SFits, toZ, ofZ}
 use mir.Facts.{toZ-ofZ}
 use borrow.Author.Needs.{needs}
-use Rattle.network.specs.Table.{entry, cleared}
 use Rattle.sheet.specs.Sheet.{Window}
 use Rattle.sheet.specs.Questions.{windowsOf}
 use Rattle.limits.specs.LimitTable.{exactWeights}
-use Rattle.limits.specs.EntryLaws.{Filled, filled-is, filled-over, filled-same, cleared-filled, place-inside}
+use Rattle.limits.specs.EntryLaws.{Filled, filled-is, filled-over, cleared-filled}
 use Rattle.limits.proofs.Exact.{Taken, taken, no-windows}
 use Rattle.limits.proofs.inside.exact_windows.Statement.{statement}
 use Rattle.limits.proofs.inside.exact_windows.Tie as tie

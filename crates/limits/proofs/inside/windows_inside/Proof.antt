@@ -1,17 +1,15 @@
 -- Both loops keep `Swept`: the inner one moves along the row, the outer one to the next row.
 use native.Mathlib.Omega.{arith}
-use mathlib.Core.Path.{_≡_, refl, sym, ap, _∙_, subst}
-use mathlib.Core.List.{List}
-use Prim.Native.Nat.{ℕ, suc, _+_, _-_, _*_, _≤_, _<_}
-use lib.ListN.{length, getD, drop, set}
-use lib.IntN.{ℤ, pos, negℤ, _+ℤ_}
+use mathlib.Core.Path.{_≡_, sym, ap, subst}
+use Prim.Native.Nat.{ℕ, _+_, _-_, _*_, _≤_, _<_}
+use lib.ListN.{length, getD}
+use lib.IntN.{pos, negℤ}
 use mir.Syntax.{w16}
-use mir.Val.{SFits, toZ, ofZ}
+use mir.Val.{SFits, toZ}
 use mir.Facts.{toZ-ofZ}
 use borrow.Author.Needs.{needs}
 use Rattle.lists.specs.Lists.{howMany}
 use Rattle.network.specs.TableLaws.{row-inside}
-use Rattle.sheet.specs.Sheet.{Window}
 use Rattle.sheet.specs.Questions.{windowsOf}
 use Rattle.sheet.specs.QuestionLaws.{windowsOf-length}
 use Rattle.limits.specs.LimitTable.{exactWeights, insideWeights}

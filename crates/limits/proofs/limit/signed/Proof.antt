@@ -1,3 +1,4 @@
+-- A count is small enough to fit as it is.
 use borrow.Author.Needs.{needs}
 use native.Mathlib.Omega.{arith}
 use mir.Syntax.{w16}
