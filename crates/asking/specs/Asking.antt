@@ -1,6 +1,6 @@
 -- The questions as the code asks them: two lists place by place, and the rooms' lengths. Definitions only; AskingLaws ties them to the questions.
-use mathlib.Core.Bool.{Bool, true, _&&_}
-use mathlib.Core.List.{List, [], _∷_}
+use mathlib.Core.Bool.{Bool, _&&_}
+use mathlib.Core.List.{List}
 use Prim.Native.Nat.{ℕ, _*_}
 use lib.Dec.{T, leb}
 use Rattle.lists.specs.Lists.{every}

@@ -2,7 +2,7 @@
 use mathlib.Core.Path.{_≡_, refl, sym, ap, ap₂, subst, _∙_}
 use mathlib.Core.Bool.{Bool, true, false, _&&_, cond}
 use mathlib.Core.List.{List, [], _∷_}
-use Prim.Native.Nat.{ℕ, zero, suc, _+_, _≤_, _<_}
+use Prim.Native.Nat.{ℕ, suc, _+_, _≤_, _<_}
 use native.Mathlib.Omega.{arith}
 use lib.Dec.{T, leb, leb·zero}
 use lib.ListN.{length, getD, drop, drop-of-length-le}
@@ -10,11 +10,11 @@ use lib.Seq.{drop-cons}
 use Rattle.lists.specs.Lists.{every, within}
 use Rattle.lists.specs.Members.{within-iff}
 use Rattle.sheet.specs.Limits.{maxSlots, maxUnits, maxRules, maxCount}
-use Rattle.sheet.specs.Sheet.{Window, Rule, Sheet, top, noWindow}
-use Rattle.sheet.specs.Questions.{windowsOf, rulesOf, sheetOf, listsAgree, spanFits, unitsFit, rulesFit, windowsFit, stretchesFit, countsFit}
+use Rattle.sheet.specs.Sheet.{Window, top, noWindow}
+use Rattle.sheet.specs.Questions.{windowsOf, rulesOf, sheetOf, spanFits, unitsFit, rulesFit, windowsFit, stretchesFit, countsFit}
 use Rattle.sheet.specs.QuestionLaws.{Agree, listsAgree-read, windowsOf-length, windowsOf-at, rulesOf-length}
 use Rattle.asking.specs.Asking.{rising, allRising, lengthsFit, askedNo}
-use Rattle.asking.specs.Questions.{Lists, Question, given, agree, roomsFit, asked, firstNo}
+use Rattle.asking.specs.Questions.{Lists, Question, given, agree, roomsFit, firstNo}
 use Rattle.asking.specs.declared.Lengths.{Lengths}
 
 -- ---- the loop over two lists: what is left to ask gives the whole answer
@@ -30,7 +30,8 @@ module _ (least most : ℕ) (fs ls : List ℕ) (e : length ls ≡ length fs) whe
       ap (every (λ w. rising least most (w .first) (w .last))) (drop-cons (windowsOf fs ls) j noWindow (omega (arith, windowsOf-length fs ls e)))
       ∙ ap (λ (w : Window). rising least most (w .first) (w .last) && risingFrom least most fs ls (suc j)) (windowsOf-at fs ls e j h)
 
-  pub rising-next : (j : ℕ) → j < length fs → rising least most (getD fs j 0) (getD ls j 0) ≡ true → risingFrom least most fs ls j ≡ risingFrom least most fs ls (j + 1)
+  pub rising-next : (j : ℕ) → j < length fs → rising least most (getD fs j 0) (getD ls j 0) ≡ true
+      → risingFrom least most fs ls j ≡ risingFrom least most fs ls (j + 1)
   rising-next j h t = rising-here j h ∙ ap₂ (λ b k. b && risingFrom least most fs ls k) t (omega arith)
 
   pub rising-stop : (j : ℕ) → j < length fs → rising least most (getD fs j 0) (getD ls j 0) ≡ false → risingFrom least most fs ls j ≡ false
@@ -38,7 +39,9 @@ module _ (least most : ℕ) (fs ls : List ℕ) (e : length ls ≡ length fs) whe
 
   pub rising-end : (j : ℕ) → length fs ≤ j → risingFrom least most fs ls j ≡ true
   unfolding risingFrom
-  rising-end j h = ap (every (λ w. rising least most (w .first) (w .last))) (drop-of-length-le (windowsOf fs ls) {i = j} (omega (arith, windowsOf-length fs ls e)))
+  rising-end j h =
+      ap (every (λ w. rising least most (w .first) (w .last)))
+      (drop-of-length-le (windowsOf fs ls) {i = j} (omega (arith, windowsOf-length fs ls e)))
 
 -- ---- each question, as the code asks it
 
@@ -114,7 +117,8 @@ module _ (l : Lists) where
         (rulesOf (l .from) (l .to) (l .low) (l .high))
         ∙ counts-as-windows (rising 0 maxCount) (l .from) (l .to) (l .low) (l .high) (a .stretches) (a .lows) (a .highs)
 
-    pub asks-rooms : (r : Lengths) → roomsFit (given l) (r .table) (r .plan) (r .earliest) (r .latest) (r .ring) ≡ lengthsFit (l .span + 1) (length (l .first)) r
+    pub asks-rooms : (r : Lengths)
+        → roomsFit (given l) (r .table) (r .plan) (r .earliest) (r .latest) (r .ring) ≡ lengthsFit (l .span + 1) (length (l .first)) r
     unfolding roomsFit lengthsFit sheetOf top
     asks-rooms r = ap₂ (λ w n. lengthsFit w n r) (omega arith) units-length
 

@@ -1,5 +1,5 @@
 ghost use mathlib.Core.Path.{_≡_};
-ghost use Prim.Native.Nat.{ℕ, _+_, _≤_};
+ghost use Prim.Native.Nat.{_+_, _≤_};
 ghost use lib.ListN.{length};
 ghost use Rattle.lists.specs.Lists.{within};
 ghost use Rattle.sheet.specs.Limits.{maxSlots};
@@ -114,7 +114,9 @@ pub fn ask(
     high: &[u16],
     rooms: Lengths,
 ) -> usize
-    ensures { λ r. ⌜ r ≡ askedNo (listed span (now (first .entry)) (now (last .entry)) (now (from .entry)) (now (to .entry)) (now (low .entry)) (now (high .entry))) rooms ⌝ }
+    ensures { λ r.
+        ⌜ r ≡ askedNo
+        (listed span (now (first .entry)) (now (last .entry)) (now (from .entry)) (now (to .entry)) (now (low .entry)) (now (high .entry))) rooms ⌝ }
 {
     if lists_agree(first, last, from, to, low, high) {} else {
         return 13;

@@ -1,26 +1,23 @@
 -- What a call's verdict says of its reply and its rooms, ready to be read as the user's conditions.
--- Key idea: the pass over the limits either finishes, and the table it leaves is solved, or stops, and no plan is lawful. There is no third way without a refusal.
-use mathlib.Core.Path.{_≡_, refl, sym, ap, ap₂, _∙_, subst}
-use mathlib.Core.Logic.{_⊎_, inl, inr, ⊎-elim, _↔_}
-use mathlib.Core.Bool.{Bool, true, false, cond}
-use mathlib.Core.List.{List, [], _∷_, _++_, map}
-use Prim.Native.Nat.{ℕ, zero, suc, _+_, _*_, _≤_, _<_}
+-- Key idea: the pass over the limits either finishes, and the table it leaves is solved, or stops, and no plan is lawful.
+-- There is no third way without a refusal.
+use mathlib.Core.Path.{_≡_, refl, sym, ap, _∙_, subst}
+use mathlib.Core.Logic.{_⊎_, inl, inr, ⊎-elim}
+use mathlib.Core.Bool.{Bool, cond}
+use mathlib.Core.List.{List}
+use Prim.Native.Nat.{ℕ, zero, suc}
 use native.Mathlib.Omega.{arith}
 use lib.Dec.{T, eqb, eqb·suc-zero}
-use lib.ListN.{length, getD, take, drop, length-map, List·getD-append}
-use lib.Seq.{take-at}
-use lib.IntN.{ℤ, pos, negℤ}
-use lib.Signed.{_≤ℤ_}
-use Rattle.integers.specs.Parts.{ints, neg}
-use Rattle.network.specs.Table.{Passed, finished, stopped, outOfRange, tableOf, entry, passOf}
-use Rattle.network.specs.TableLaws.{length-tableOf, row-inside}
+use lib.ListN.{length}
+use lib.IntN.{ℤ}
+use Rattle.network.specs.Table.{Passed, finished, stopped, outOfRange, tableOf, entry}
+use Rattle.network.specs.TableLaws.{length-tableOf}
 use Rattle.network.specs.PassLaws.{finished-kept}
-use Rattle.sheet.specs.Sheet.{Sheet, top, boundaries, limit, lawful, printedPlan, earliestSlots, latestSlots, isRing}
-use Rattle.sheet.specs.PlanLaws.{lawful-iff}
+use Rattle.sheet.specs.Sheet.{Sheet, boundaries, limit, lawful, isRing}
 use Rattle.sheet.specs.Solved.{Solved}
 use Rattle.sheet.specs.QuestionLaws.{accepted-valid}
 use Rattle.asking.specs.Questions.{Lists, Rooms, given, places, passed, inRange, refusal}
-use Rattle.solving.specs.Planning.{refused, planned, ringed, Verdict, refuse, plan, none, byPass, verdict, Left, numberOf, hasPlan}
+use Rattle.solving.specs.Planning.{refused, planned, ringed, Verdict, refuse, byPass, verdict, Left, hasPlan}
 use Rattle.solving.specs.PlanningLaws.{Yes, no-refusal, passed-solved, stopped-unlawful}
 use Rattle.solving.specs.declared.Answer.{Answer}
 use Rattle.solving.specs.declared.Answer.the-variants.{Refused, Plan, None}

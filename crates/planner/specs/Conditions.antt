@@ -1,13 +1,13 @@
 -- The user's three conditions, of planning from lists, in the words of lawful plans alone.
 -- `call` is what the entry `plan` ensures of every call: `Left`, in Planning.antt. `before` and `after` are the rooms lent, `s` the sheet in the lists.
-use mathlib.Core.Path.{_≡_, refl, sym, ap, ap₂, _∙_, subst}
-use mathlib.Core.Logic.{_⊎_, inl, inr, ⊎-elim, _↔_}
-use mathlib.Core.Bool.{Bool, true, false, cond}
-use mathlib.Core.List.{List, [], _∷_, _++_, map}
+use mathlib.Core.Path.{_≡_, refl, sym, ap, _∙_, subst}
+use mathlib.Core.Logic.{⊎-elim, _↔_}
+use mathlib.Core.Bool.{Bool, false, cond}
+use mathlib.Core.List.{List, _++_, map}
 use Prim.Native.Nat.{ℕ, zero, suc, _+_, _*_, _≤_, _<_}
 use native.Mathlib.Omega.{arith}
 use lib.Dec.{T, eqb}
-use lib.ListN.{length, getD, take, drop, length-map, List·getD-append}
+use lib.ListN.{length, getD, take, drop, List·getD-append}
 use lib.Seq.{take-at}
 use lib.IntN.{ℤ, pos, negℤ}
 use lib.Signed.{_≤ℤ_}
@@ -15,16 +15,17 @@ use Rattle.integers.specs.Parts.{ints, neg}
 use Rattle.network.specs.NetworkLaws.{cycle-infeasible}
 use Rattle.network.specs.Table.{entry, cleared}
 use Rattle.network.specs.TableLaws.{row-inside, values-at, length-values}
-use Rattle.sheet.specs.Sheet.{Sheet, top, boundaries, limit, lines, lawful, fair, countIn, leastIn, greatestIn, earliest, latest, earliestSlots, latestSlots, printedPlan, isRing}
+use Rattle.sheet.specs.Sheet.{Sheet, top, boundaries, limit, isRing, lines, lawful, fair, countIn, leastIn}
+use Rattle.sheet.specs.Sheet.{earliest, latest, earliestSlots, latestSlots, printedPlan}
 use Rattle.sheet.specs.PotentialLaws.{lawful-feasible}
 use Rattle.sheet.specs.PlanLaws.{lawful-iff, earliest-bound, earliest-attained, latest-bound, latest-attained, greatestIn-bound}
 use Rattle.seating.specs.PrintedLaws.{Printed, some-printed}
 use Rattle.seating.specs.RangeLaws.{solved-plan, range, greatest-entry, least-entry}
-use Rattle.asking.specs.Questions.{Lists, Rooms, given, places, refusal}
-use Rattle.solving.specs.Planning.{planned, ringed, verdict, Left, numberOf, hasPlan}
+use Rattle.asking.specs.Questions.{Lists, Rooms, given, lent, places, refusal}
+use Rattle.solving.specs.Planning.{verdict, Left, numberOf}
 use Rattle.planner.specs.ConditionLaws.{Planned, Ringed, call-refused, call-answered, call-planned}
 use Rattle.solving.specs.declared.Answer.{Answer}
-use Rattle.solving.specs.declared.Answer.the-variants.{Refused, Plan, None}
+use Rattle.solving.specs.declared.Answer.the-variants.{Plan, None}
 
 -- A ring contradicts: where the sheet's limits have one, no plan is lawful.
 pub ring-contradicts : (s : Sheet) (ring : List ℕ) → T (isRing s ring) → (x : List ℕ) → T (lawful s x) → ⊥
@@ -51,7 +52,8 @@ module _ (l : Lists) (before : Rooms) (reply : Answer) (after : Rooms) (call : L
   pub refused-changes-nothing : (k : ℕ) → refusal l before ≡ suc k → eqb (suc k) 14 ≡ false → after ≡ before
   refused-changes-nothing k e f =
       call-refused l before reply after call k e .1
-      ∙ ap (λ (b : Bool). record { table = cond b (cleared (places s) (before .table)) (before .table); plan = before .plan; earliest = before .earliest; latest = before .latest; ring = before .ring }) f
+      ∙ ap (λ (t : List ℤ). lent t (before .plan) (before .earliest) (before .latest) (before .ring))
+      (ap (λ (b : Bool). cond b (cleared (places s) (before .table)) (before .table)) f)
 
   -- ---- 2. Plan or ring. A sheet that is not refused gets a plan exactly when some assignment meets all windows and all rules;
   pub plan-exactly-when-lawful : refusal l before ≡ 0 → (reply ≡ Plan) ↔ ((x : List ℕ) × T (lawful s x))
@@ -67,7 +69,8 @@ module _ (l : Lists) (before : Rooms) (reply : Answer) (after : Rooms) (call : L
   ring-otherwise e f =
       ⊎-elim (λ (p : Planned s before reply after). let x = solved-plan s (entry (boundaries s) (p .table)) (p .solved) in absurd (f (x .0) (x .1)))
       (λ (r : Ringed s before reply after).
-      (r .ring, r .closed, r .is, ap (λ (a : Rooms). take (length (r .ring)) (a .ring)) (r .left) ∙ take-at (r .ring) (drop (length (r .ring)) (before .ring)) (length (r .ring)) refl))
+      let k = length (r .ring) in
+      (r .ring, r .closed, r .is, ap (λ (a : Rooms). take k (a .ring)) (r .left) ∙ take-at (r .ring) (drop k (before .ring)) k refl))
       (call-answered l before reply after call e)
 
   module _ (planned? : reply ≡ Plan) where

@@ -1,26 +1,30 @@
 -- The whole call: the first no of the questions before the pass decides, or the pass does.
 -- Key idea: question 14 comes last, so a no before it is the first no of all; and where all before it are yes, the verdict is the pass's.
 use mathlib.Core.Path.{_≡_, refl, sym, ap, _∙_, subst}
-use mathlib.Core.Bool.{Bool, true, false, _&&_, cond}
-use mathlib.Core.List.{List, [], _∷_, _++_}
+use mathlib.Core.Bool.{Bool, false, cond}
+use mathlib.Core.List.{List, [], _∷_}
 use Prim.Native.Nat.{ℕ, zero, suc}
-use native.Mathlib.Omega.{arith}
-use lib.Dec.{T, eqb, eqb·suc-zero}
+use lib.Dec.{eqb, eqb·suc-zero}
 use lib.ListN.{length}
+use lib.IntN.{ℤ}
 use Rattle.network.specs.Table.{Passed, finished, stopped, outOfRange, cleared}
-use Rattle.sheet.specs.Sheet.{Sheet}
-use Rattle.sheet.specs.Questions.{accepted}
-use Rattle.asking.specs.Questions.{Lists, Rooms, Question, given, agree, fitsRooms, passed, inRange, firstNo, asked, questions, refusal, lent, places}
+use Rattle.asking.specs.Questions.{Lists, Rooms, given, agree, fitsRooms, passed, inRange, asked, refusal, lent, places}
 use Rattle.solving.specs.Planning.{refused, Verdict, refuse, byPass, verdict, Left}
 use Rattle.solving.specs.PlanningLaws.{asked-yes, yes-asked, asked-positive, asked-not-14, no-before, no-other, yes-past}
 use Rattle.asking.specs.Asking.{askedNo, Solvable}
 use Rattle.asking.specs.declared.Lengths.{Lengths}
 use Rattle.solving.specs.declared.Answer.{Answer}
-use Rattle.solving.specs.declared.Answer.the-variants.{Refused, Plan, None}
+use Rattle.solving.specs.declared.Answer.the-variants.{Refused}
 
 -- the lengths of the rooms
 abbrev pub lengthsOf : Rooms → Lengths
-lengthsOf r = record { table = length (r .table); plan = length (r .plan); earliest = length (r .earliest); latest = length (r .latest); ring = length (r .ring) }
+lengthsOf r = record {
+  table = length (r .table);
+  plan = length (r .plan);
+  earliest = length (r .earliest);
+  latest = length (r .latest);
+  ring = length (r .ring);
+}
 
 module _ (l : Lists) (before : Rooms) where
   -- ---- refused before the pass
@@ -42,7 +46,9 @@ module _ (l : Lists) (before : Rooms) where
       ∙ ap (λ (b : Bool). cond b (byPass (passed (given l))) (refuse (suc k))) (eqb·suc-zero k)
 
   unchanged : (n : ℕ) → eqb n 14 ≡ false → before ≡ refused (given l) n before
-  unchanged n e = ap (λ (b : Bool). lent (cond b (cleared (places (given l)) (before .table)) (before .table)) (before .plan) (before .earliest) (before .latest) (before .ring)) (sym e)
+  unchanged n e =
+      ap (λ (t : List ℤ). lent t (before .plan) (before .earliest) (before .latest) (before .ring))
+      (ap (λ (b : Bool). cond b (cleared (places (given l)) (before .table)) (before .table)) (sym e))
 
   pub entry-refused : (n : ℕ) → n ≡ askedNo l (lengthsOf before) → (n ≡ 0 → ⊥) → Left (verdict l before) (given l) before (Refused n) before
   entry-refused zero h ne = absurd (ne refl)
@@ -67,7 +73,8 @@ module _ (l : Lists) (before : Rooms) where
   unfolding verdict refusal askedNo
   verdict-solved h =
       let s = given l in
-      let e = yes-past (asked (agree l) s (fitsRooms s before)) (record { number = 14; yes = inRange (passed s) } ∷ []) (asked-positive (agree l) (fitsRooms s before) s) (sym h) in
+      let e = yes-past (asked (agree l) s (fitsRooms s before))
+      (record { number = 14; yes = inRange (passed s) } ∷ []) (asked-positive (agree l) (fitsRooms s before) s) (sym h) in
       ap (λ (n : ℕ). cond (eqb n 0) (byPass (passed s)) (refuse n)) e ∙ by-pass (passed s)
 
   -- so too where the questions before the pass are known to be answered yes

@@ -1,4 +1,3 @@
-ghost use mathlib.Core.Path.{_≡_};
 ghost use Rattle.asking.specs.Questions.{listed, lent, given};
 ghost use Rattle.solving.specs.Planning.{verdict, Left};
 
@@ -20,7 +19,8 @@ pub fn plan(
     ensures { λ r.
         let l = listed span (now (first .entry)) (now (last .entry)) (now (from .entry)) (now (to .entry)) (now (low .entry)) (now (high .entry)) in
         let before = lent (now (table .entry)) (now (plan .entry)) (now (earliest .entry)) (now (latest .entry)) (now (ring .entry)) in
-        ⌜ Left (verdict l before) (given l) before r (lent (now (table .exit)) (now (plan .exit)) (now (earliest .exit)) (now (latest .exit)) (now (ring .exit))) ⌝ }
+        ⌜ Left (verdict l before) (given l) before r
+        (lent (now (table .exit)) (now (plan .exit)) (now (earliest .exit)) (now (latest .exit)) (now (ring .exit))) ⌝ }
 {
     let rooms = asking::Lengths {
         table: table.len(),

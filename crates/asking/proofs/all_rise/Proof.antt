@@ -1,3 +1,4 @@
+-- The pairs before place j rise, so all rise exactly when those from j on do; the first that does not decides.
 use Prim.Native.Nat.{_≤_, _-_}
 use mathlib.Core.Path.{_≡_, refl, sym, _∙_}
 use native.Mathlib.Omega.{arith}
@@ -49,7 +50,8 @@ loop-again c =
     let a = c .before .before .before .before .before .before .before .before .args in
     let l = c .before .before .before .before .before .loop in
     let e = c .before .before .before .before .before .before .before .before .pre in
-    (omega arith, l .inv .1 ∙ rising-next (a .least) (a .most) (a .first .now) (a .last .now) e (l .j) (omega arith) (sym (c .before .rises .ensures) ∙ c .if1 .taken))
+    let rises = sym (c .before .rises .ensures) ∙ c .if1 .taken in
+    (omega arith, l .inv .1 ∙ rising-next (a .least) (a .most) (a .first .now) (a .last .now) e (l .j) (omega arith) rises)
 
 returns : tie.Need-returns Inv-loop μ-loop
 returns c =

@@ -1,3 +1,4 @@
+-- A test that fails decides; past it the test held.
 use borrow.Author.Tests.{le-leb, lt-leb}
 use Rattle.asking.proofs.rises.Statement.{statement}
 use Rattle.asking.proofs.rises.Tie as tie

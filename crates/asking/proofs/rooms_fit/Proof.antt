@@ -1,3 +1,4 @@
+-- A room that is too short decides; past it the room was long enough. The table's length does not overflow, as the span is bounded.
 use mathlib.Core.Path.{refl}
 use Prim.Native.Nat.{_≤_, _+_, _*_}
 use native.Mathlib.Omega.{arith}

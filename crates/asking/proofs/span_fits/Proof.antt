@@ -1,3 +1,4 @@
+-- The two ends of the range are tested one after the other.
 use borrow.Author.Tests.{le-leb, lt-leb}
 use Rattle.asking.proofs.span_fits.Statement.{statement}
 use Rattle.asking.proofs.span_fits.Tie as tie
