@@ -1,19 +1,20 @@
 -- No answer page of an accepted sheet is longer than maxPage, so a page of that length never refuses one.
--- Key idea: a number below ten to the k has at most k digits, so a line is no longer than its words and so many digits, and a page no longer than so many lines.
-use mathlib.Core.Path.{_≡_, refl, sym, ap, _∙_, subst}
+-- Key idea: a number below ten to the k has at most k digits, so a line is no longer than its words and so many digits, and a page no longer than so
+-- many lines.
+use mathlib.Core.Path.{_≡_, refl, ap}
 use mathlib.Core.Logic.{_⊎_, inl, inr, ⊎-elim}
 use mathlib.Core.Bool.{Bool, true, false, _&&_, not}
-use mathlib.Core.List.{List, [], _∷_, _++_, map, List·Memᴰ·head, List·Memᴰ·tail, List·Memᴰ·not-nil, List·Memᴰ·cases-cons}
+use mathlib.Core.List.{List, [], _∷_, map, List·Memᴰ·head, List·Memᴰ·tail, List·Memᴰ·not-nil, List·Memᴰ·cases-cons}
 use Prim.Native.Nat.{ℕ, zero, suc, _+_, _-_, _*_, _≤_, _<_}
 use native.Mathlib.Omega.{arith}
-use native.Mathlib.Nat.{suc-mul, mul-le-mul-right}
+use native.Mathlib.Nat.{suc-mul}
 use native.Mathlib.Decide.{decLe}
 use lib.Dec.{T, eqb, leb, leb→le, eqb-refl}
 use lib.ListN.{length, getD, length-append, List·getD-eq-default}
 use lib.IntN.{ℤ, pos, _+ℤ_}
 use lib.Signed.{ltZ}
 use Rattle.integers.specs.Parts.{up, dn, sum, neg, apart}
-use Rattle.lists.specs.Lists.{run, fromTo, howMany, joined, every, keep, least, greatest}
+use Rattle.lists.specs.Lists.{run, joined, every, least, greatest}
 use Rattle.lists.specs.Members.{In, left, right, in-keep, in-map, every-in}
 use Rattle.lists.specs.Extremes.{least-in, greatest-in}
 use Rattle.lists.specs.Counts.{howMany-count, count-most}
@@ -22,15 +23,17 @@ use Rattle.network.specs.NetworkLaws.{Upto, upto-of-every}
 use Rattle.cycles.specs.CycleLaws.{Distinct, distinct-length}
 use Rattle.network.specs.Table.{mostBoundaries}
 use Rattle.sheet.specs.Limits.{maxSlots, maxUnits, maxCount}
-use Rattle.sheet.specs.Sheet.{Sheet, top, countIn, lawful, lawfulPlans, leastIn, greatestIn, earliest, latest, earliestSlots, latestSlots, soonest, fair, printedPlans, printedPlan, headOr, limit, isRing}
-use Rattle.sheet.specs.PlanLaws.{Lawful, in-lawfulPlans-iff}
+use Rattle.sheet.specs.Sheet.{Sheet, top, limit, isRing, countIn, lawfulPlans, leastIn, greatestIn, earliest, latest}
+use Rattle.sheet.specs.Sheet.{earliestSlots, latestSlots, soonest, fair, printedPlans, printedPlan, headOr}
+use Rattle.sheet.specs.PlanLaws.{in-lawfulPlans-iff}
 use Rattle.sheet.specs.LimitLaws.{countIn-length}
 use Rattle.limits.specs.LimitTableLaws.{limit-small}
 use Rattle.sheet.specs.Questions.{accepted}
 use Rattle.sheet.specs.QuestionLaws.{accepted-sized, accepted-valid}
-use Rattle.writing.specs.Writing.{text, digits, oneNumber, fourNumbers, planHead, unitLine, slotLine, boundLine}
+use Rattle.writing.specs.Writing.{text, digits, oneNumber, fourNumbers, planHead, unitLine, slotLine}
 use Rattle.writing.specs.WritingLaws.{length-one, length-two, length-three, length-four, length-five, oneNumber-length, fourNumbers-length, boundLine-length}
-use Rattle.page.specs.Page.{unitLineAt, unitLines, slotLineAt, slotLines, unitsIn, planPage, stepLine, stepLines, ringLines, shortfallOf, nonePage, maxUnitLine, maxSlotLine, maxStepLine, maxPage}
+use Rattle.page.specs.Page.{unitLineAt, unitLines, slotLineAt, slotLines, unitsIn, planPage, maxUnitLine, maxSlotLine}
+use Rattle.page.specs.Page.{stepLine, stepLines, ringLines, shortfallOf, nonePage, maxStepLine, maxPage}
 use Rattle.page.specs.PageLaws.{three-length, step-forward, step-backward, nonePage-length}
 
 -- ---- digits
@@ -100,7 +103,8 @@ module _ {span : ℕ} {slots first last : List ℕ} {low high : ℕ → ℕ} (s 
   units-short : length (unitLines slots first last) ≤ length slots * maxUnitLine
   unfolding unitLines unitLineAt
   units-short = lines-short (unitLineAt slots first last) maxUnitLine 0 (length slots)
-      (λ j p q. let b = s .seats j in unitLine-short (suc j) (getD slots j 0) (getD first j 0) (getD last j 0) (omega (arith, s .units)) (omega arith) (omega arith) (omega arith))
+      (λ j p q. let b = s .seats j in unitLine-short (suc j) (getD slots j 0) (getD first j 0) (getD last j 0)
+      (omega (arith, s .units)) (omega arith) (omega arith) (omega arith))
 
   slots-short : length (slotLines span (unitsIn slots) low high) ≤ span * maxSlotLine
   unfolding slotLines slotLineAt
@@ -189,7 +193,10 @@ module _ (s : Sheet) (ok : T (accepted s)) where
       values-small (earliest s) maxSlots 0 (length (s .units)) j (λ m. least-small (λ plan. getD plan m 0) maxSlots (lawfulPlans s) (λ x h. seat-small x h m)),
       values-small (latest s) maxSlots 0 (length (s .units)) j (λ m. greatest-small (λ plan. getD plan m 0) maxSlots (lawfulPlans s) (λ x h. seat-small x h m)),
     );
-    ranges = λ t. (least-small (countIn t t) maxUnits (lawfulPlans s) (count-small t t), greatest-small (countIn t t) maxUnits (lawfulPlans s) (count-small t t));
+    ranges = λ t. (
+      least-small (countIn t t) maxUnits (lawfulPlans s) (count-small t t),
+      greatest-small (countIn t t) maxUnits (lawfulPlans s) (count-small t t),
+    );
   }
 
   pub plan-short : length (planPage (s .span) (printedPlan s) (earliestSlots s) (latestSlots s) (λ t. leastIn s t t) (λ t. greatestIn s t t)) ≤ maxPage

@@ -1,6 +1,6 @@
 -- What a reader finds on an answer page: its lines, and what each line says. Definitions only, by the words and numbers of each line;
 -- nothing here knows how the page was written. What stands on a page before an answer's head is no part of the answer.
-use mathlib.Core.Bool.{Bool, true, false, cond}
+use mathlib.Core.Bool.{Bool, false, cond}
 use mathlib.Core.List.{List, [], _∷_, map}
 use Prim.Native.Nat.{ℕ, suc, _-_}
 use lib.Dec.{eqb, ltb}
@@ -10,7 +10,7 @@ use Rattle.lists.specs.Lists.{howMany}
 use Rattle.integers.specs.Parts.{up}
 use Rattle.network.specs.Network.{Weights}
 use Rattle.form.specs.Form.{Piece, word, number, matches, numbers, value}
-use Rattle.line.specs.Lines.{TextLine, lines}
+use Rattle.line.specs.Lines.{lines}
 use Rattle.writing.specs.Writing.{text}
 
 -- what a line says, with its numbers in their order

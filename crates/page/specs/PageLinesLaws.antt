@@ -12,20 +12,22 @@ use lib.Dec.{T, eqb, leb, ltb}
 use lib.ListN.{length, getD, take, drop}
 use lib.Seq.{length-take-le, take-at, drop-at}
 use lib.IntN.{negℤ}
-use borrow.Author.Tests.{eq-eqb, ne-eqb, le-leb, leb-true}
+use borrow.Author.Tests.{ne-eqb, le-leb, leb-true}
 use Rattle.lists.specs.Members.{In, both, left, right, in-map, in-run}
 use Rattle.lists.specs.Values.{listOf-is}
 use Rattle.lists.specs.Lists.{run, fromTo, every, howMany, oneIf, joined}
 use Rattle.integers.specs.Parts.{up}
 use Rattle.network.specs.Network.{Weights}
 use Rattle.form.specs.Words.{lineFeed, zeroDigit}
-use Rattle.form.specs.Form.{Piece, word, number, isDigit, some, startsWith, matches, numbers, written, value, valueFrom}
+use Rattle.form.specs.Form.{Piece, word, number, isDigit, some, matches, numbers, written, value, valueFrom}
 use Rattle.form.specs.FormLaws.{and-left, Digits, Number, Suits, separated, written-matches}
-use Rattle.line.specs.Lines.{TextLine, textLine, inFront, lines}
-use Rattle.writing.specs.Writing.{onto, Room, Written, text, digit, digitsWithin, digits, unitLine, slotLine, planHead, boundLine, shortfallLine}
+use Rattle.line.specs.Lines.{textLine, inFront, lines}
+use Rattle.writing.specs.Writing.{onto, Room, Written, text, digit, digits, unitLine, slotLine, planHead, boundLine, shortfallLine}
 use Rattle.writing.specs.WritingLaws.{digits-one, digits-last}
 use Rattle.page.specs.Page.{unitLineAt, unitLines, slotLineAt, slotLines, unitsIn, planPage, stepLine, stepLines, ringLines, shortfallOf, nonePage}
-use Rattle.page.specs.PageLines.{Said, plan, unit, slot, none, atMost, atLeast, shortfall, other, Reading, planReading, unitReading, slotReading, noneReading, atMostReading, atLeastReading, shortfallReading, readBy, readLine, readLines, answerOn, isUnitWith, unitLinesWith, stepSaid, stepsSaid, ringSaid}
+use Rattle.page.specs.PageLines.{Said, plan, unit, slot, none, atMost, atLeast, shortfall, other}
+use Rattle.page.specs.PageLines.{Reading, planReading, unitReading, slotReading, noneReading, atMostReading, atLeastReading, shortfallReading}
+use Rattle.page.specs.PageLines.{readBy, readLine, readLines, answerOn, isUnitWith, unitLinesWith, stepSaid, stepsSaid, ringSaid}
 
 -- ---- the digits of a number
 
@@ -66,7 +68,10 @@ some-append (x ∷ xs) b = refl
 pub number-digits : (n : ℕ) → Number (digits n)
 number-digits n = digits-rule (λ m ds. Number ds)
     (λ m h. record { digits = (is-digit m h, tt); not-empty = refl })
-    (λ m h e. record { digits = digits-append (digits (m / 10)) (digit (m % 10)) (e .digits) (is-digit (m % 10) (omega arith)); not-empty = some-append (digits (m / 10)) (digit (m % 10)) })
+    (λ m h e. record {
+      digits = digits-append (digits (m / 10)) (digit (m % 10)) (e .digits) (is-digit (m % 10) (omega arith));
+      not-empty = some-append (digits (m / 10)) (digit (m % 10));
+    })
     (suc n) n (omega arith)
 
 -- ---- lines

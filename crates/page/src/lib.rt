@@ -1,12 +1,13 @@
 ghost use mathlib.Core.Path.{_≡_};
-ghost use Prim.Native.Nat.{ℕ, _+_, _-_, _*_, _<_, _≤_};
+ghost use Prim.Native.Nat.{_+_, _-_, _*_, _<_, _≤_};
 ghost use lib.ListN.{length, getD, replicate};
 ghost use Rattle.integers.specs.Parts.{up, dn};
 ghost use Rattle.lists.specs.Lists.{joined};
 ghost use Rattle.network.specs.Table.{entry, mostBoundaries};
 ghost use Rattle.sheet.specs.Limits.{maxSlots, maxUnits};
 ghost use Rattle.writing.specs.Writing.{Room, Written, shortfallLine, maxLine};
-ghost use Rattle.page.specs.Page.{unitLines, headAndUnits, slotLines, tally, leastFrom, greatestFrom, Printable, tablePage, stepLine, ringLines, headAndSteps, shortfallOf, nonePage, RingFits};
+ghost use Rattle.page.specs.Page.{unitLines, headAndUnits, slotLines, tally, leastFrom, greatestFrom, Printable, tablePage};
+ghost use Rattle.page.specs.Page.{stepLine, ringLines, headAndSteps, shortfallOf, nonePage, RingFits};
 use writing::bound_length;
 use writing::digit_count;
 use writing::put_bound;

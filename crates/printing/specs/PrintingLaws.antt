@@ -1,19 +1,17 @@
 -- From what the code does to what printing is to leave.
 -- Key idea: the length is known before the first byte is written, so question 15 is answered by one comparison and decides the rest.
-use mathlib.Core.Path.{_≡_, refl, sym, ap, ap₂, _∙_, subst}
+use mathlib.Core.Path.{_≡_, sym, ap, _∙_, subst}
 use mathlib.Core.Bool.{Bool, true, false}
-use mathlib.Core.List.{List, [], _∷_, _++_}
-use Prim.Native.Nat.{ℕ, suc, _+_, _-_, _*_, _≤_, _<_}
-use native.Mathlib.Omega.{arith}
+use mathlib.Core.List.{List}
+use Prim.Native.Nat.{ℕ, _+_}
 use lib.Dec.{leb}
 use lib.ListN.{length}
-use lib.IntN.{ℤ}
 use borrow.Author.Tests.{leb-true}
 use Rattle.asking.specs.Questions.{Rooms, lent}
-use Rattle.writing.specs.Writing.{onto, Room, Written}
-use Rattle.printing.specs.Printing.{holds, Outcome, Asked}
+use Rattle.writing.specs.Writing.{Room, Written}
+use Rattle.printing.specs.Printing.{holds, Asked}
 use Rattle.printing.specs.declared.Printed.{Printed}
-use Rattle.printing.specs.declared.Printed.the-variants.{Refused, Plan, None}
+use Rattle.printing.specs.declared.Printed.the-variants.{Refused}
 
 -- ---- question 15
 module _ (page : List ℕ) (at : ℕ) (bytes : List ℕ) (size : ℕ) (is : size ≡ length bytes) (b : Bool) (asked : b ≡ leb (at + size) (length page)) where

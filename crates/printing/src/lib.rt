@@ -1,6 +1,6 @@
 ghost use mathlib.Core.Path.{_≡_};
 ghost use mathlib.Core.List.{[], _++_};
-ghost use Prim.Native.Nat.{ℕ, _+_, _*_, _≤_};
+ghost use Prim.Native.Nat.{_+_, _*_, _≤_};
 ghost use lib.Dec.{leb};
 ghost use lib.ListN.{length, drop};
 ghost use Rattle.network.specs.Table.{entry, cleared};
@@ -75,7 +75,7 @@ pub fn print_plan(
         (now (page .entry)) at r
         (lent (now (table .exit)) (now (plan .exit)) (now (earliest .exit)) (now (latest .exit)) []) (now (page .exit)) ⌝ }
 {
-    let mut counts = [0u16; 49];
+    let mut counts = [0u16; sheet::Sheet::MAX_BOUNDARIES];
     page::count_slots(seats, &mut counts);
     let length = page::plan_length(span, seats, firsts, lasts, &counts, closed);
     if holds(page.len(), at, length) {

@@ -111,10 +111,20 @@ digits-last n h =
     ∙ ap₂ (λ r s. r ++ s) (within-enough n (suc (n / 10)) (n / 10) (omega arith) (omega arith)) (sym (within-one (n % 10) (n % 10) (omega arith)))
 
 -- a number is its front digits and then its last one
-pub number-left : {page : List ℕ} {at n : ℕ} → 10 ≤ n → Room page at (digits n)
-    → Pending page at (digits n) page at (digits (n / 10) ∷ digits (n % 10) ∷ [])
-number-left {page} {at} {n} h room =
-    pending-whole (digits (n / 10) ∷ digits (n % 10) ∷ []) (digits-last n h ∙ ap (λ r. digits (n / 10) ++ r) (sym (append-nil (digits (n % 10))))) room
+module _ {page : List ℕ} {at n : ℕ} (many : 10 ≤ n) (room : Room page at (digits n)) where
+  number-left : Pending page at (digits n) page at (digits (n / 10) ∷ digits (n % 10) ∷ [])
+  number-left =
+      pending-whole (digits (n / 10) ∷ digits (n % 10) ∷ []) (digits-last n many ∙ ap (λ r. digits (n / 10) ++ r) (sym (append-nil (digits (n % 10))))) room
+
+  pub front-room : Room page at (digits (n / 10))
+  front-room = pending-room number-left
+
+  module _ {page′ : List ℕ} {at′ : ℕ} (front : Written page at (digits (n / 10)) page′ at′) where
+    pub last-room : Room page′ at′ (digits (n % 10))
+    last-room = pending-room (pending-after number-left front)
+
+    pub number-written : {page″ : List ℕ} {at″ : ℕ} → Written page′ at′ (digits (n % 10)) page″ at″ → Written page at (digits n) page″ at″
+    number-written last = pending-nothing (pending-after (pending-after number-left front) last)
 
 -- ---- lines one after another
 

@@ -1,13 +1,10 @@
 -- After j units each count is that of the first j: a store moves one slot's count, and the unit's slot is that one.
-use mathlib.Core.Path.{_≡_, refl, sym, ap, ap₂, _∙_, subst}
+use mathlib.Core.Path.{sym, ap, subst}
 use mathlib.Core.Logic.{⊎-elim}
-use mathlib.Core.List.{List, [], _∷_, map}
-use Prim.Native.Nat.{ℕ, suc, _+_, _-_, _≤_, _<_}
+use Prim.Native.Nat.{_+_, _-_, _≤_}
 use native.Mathlib.Omega.{arith}
-use native.Mathlib.Numerals.{add-one}
 use denote.Ref.{now}
 use lib.ListN.{length, getD}
-use Rattle.network.specs.Table.{mostBoundaries}
 use Rattle.page.proofs.TallyLaws.{Counted, counted-none, counted-small, counted-store, counted-pass, counted-all}
 use Rattle.page.proofs.count_slots.Statement.{statement}
 use Rattle.page.proofs.count_slots.Tie as tie
@@ -41,7 +38,8 @@ add-counts : tie.Need-add-counts Inv-loop μ-loop
 add-counts c =
     let l = c .before .before .before .before .loop in
     let counted = l .inv .1 in
-    omega (arith, counted-small counted (getD (now (c .before .before .before .before .before .args .plan)) (l .j) 0) (omega (arith, c .before .if1 .taken, counted .long)), l .inv .0)
+    let slot = getD (now (c .before .before .before .before .before .args .plan)) (l .j) 0 in
+    omega (arith, counted-small counted slot (omega (arith, c .before .if1 .taken, counted .long)), l .inv .0)
 
 slice-write-counts : tie.Need-slice-write-counts Inv-loop μ-loop
 slice-write-counts c = omega arith

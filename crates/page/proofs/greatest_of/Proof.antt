@@ -1,3 +1,4 @@
+-- The greatest count is the entry of the step over the slot forward.
 use native.Mathlib.Omega.{arith}
 use mir.Syntax.{w16}
 use mir.Facts.{toZ-ofZ}

@@ -1,3 +1,4 @@
+-- The least count is minus the entry of the step over the slot back.
 use native.Mathlib.Omega.{arith}
 use mir.Syntax.{w16}
 use mir.Facts.{toZ-ofZ}

@@ -1,3 +1,4 @@
+-- The lengths of the head, of the steps' lines and of the last line.
 use mathlib.Core.Path.{ap}
 use native.Mathlib.Omega.{arith}
 use denote.Ref.{now}

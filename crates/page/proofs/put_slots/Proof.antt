@@ -1,10 +1,10 @@
 -- The lines of the slots from t on are left to write.
-use mathlib.Core.Path.{_≡_, refl, sym, ap, ap₂, _∙_, subst}
-use mathlib.Core.List.{List, [], _∷_, map}
-use Prim.Native.Nat.{ℕ, suc, _+_, _-_, _≤_, _<_}
+use mathlib.Core.Path.{_≡_, refl, sym, ap₂, subst}
+use mathlib.Core.List.{List, _∷_, map}
+use Prim.Native.Nat.{ℕ, suc, _+_, _-_, _≤_}
 use native.Mathlib.Omega.{arith}
 use denote.Ref.{now}
-use lib.ListN.{length, getD}
+use lib.ListN.{getD}
 use Rattle.lists.specs.Lists.{run, fromTo}
 use Rattle.writing.specs.Writing.{Room, Written, slotLine}
 use Rattle.page.specs.Page.{slotLineAt, slotLines, leastFrom, greatestFrom}
@@ -20,14 +20,22 @@ Inv-loop page₀ at span counts table next₀ t₀ page next t =
 abbrev μ-loop : tie.MeasureT-loop
 μ-loop page₀ at span counts table next₀ t₀ page next t = suc span - t
 
+-- the numbers of the lines, as the code has them
+abbrev counts : tie.Start Inv-loop μ-loop → ℕ → ℕ
+counts c i = getD (now (c .args .counts)) i 0
+
+abbrev low : tie.Start Inv-loop μ-loop → ℕ → ℕ
+low c = leastFrom (c .args .span + 1) (now (c .args .table))
+
+abbrev high : tie.Start Inv-loop μ-loop → ℕ → ℕ
+high c = greatestFrom (c .args .span + 1) (now (c .args .table))
+
 -- the line of slot t
 abbrev line : tie.Start Inv-loop μ-loop → ℕ → List ℕ
-line c = slotLineAt (λ i. getD (now (c .args .counts)) i 0) (leastFrom (c .args .span + 1) (now (c .args .table))) (greatestFrom (c .args .span + 1) (now (c .args .table)))
+line c = slotLineAt (counts c) (low c) (high c)
 
 abbrev lines : tie.Start Inv-loop μ-loop → List ℕ
-lines c =
-    slotLines (c .args .span) (λ i. getD (now (c .args .counts)) i 0) (leastFrom (c .args .span + 1) (now (c .args .table)))
-    (greatestFrom (c .args .span + 1) (now (c .args .table)))
+lines c = slotLines (c .args .span) (counts c) (low c) (high c)
 
 loop-holds : tie.Need-loop-holds Inv-loop μ-loop
 unfolding slotLines
@@ -50,22 +58,32 @@ least-of-requires c κs = omega arith
 greatest-of-requires : tie.Need-greatest-of-requires Inv-loop μ-loop
 greatest-of-requires c κs = omega arith
 
-next : (c : tie.In-loop Inv-loop μ-loop) → Pending (now (c .before .before .before .before .args .page)) (c .before .before .before .before .args .at) (lines (c .before .before .before .before)) (c .before .loop .page) (c .before .loop .next)
-    (line (c .before .before .before .before) (c .before .loop .t) ∷ map (line (c .before .before .before .before)) (run (c .before .loop .t + 1) (suc (c .before .before .before .before .args .span) - (c .before .loop .t + 1))))
-next c =
-    lines-next (line (c .before .before .before .before)) (c .before .loop .t) (suc (c .before .before .before .before .args .span)) (omega arith) (c .before .loop .inv .2)
+-- back to the start of the loop's turn, and of the call
+abbrev turn : tie.After-greatest-of Inv-loop μ-loop → tie.In-loop Inv-loop μ-loop
+turn c = c .before .before .before .before
+
+abbrev start : tie.In-loop Inv-loop μ-loop → tie.Start Inv-loop μ-loop
+start c = c .before .before .before .before
+
+next : (c : tie.In-loop Inv-loop μ-loop)
+    → (let s = start c in let l = c .before .loop in
+    Pending (now (s .args .page)) (s .args .at) (lines s) (l .page) (l .next)
+    (line s (l .t) ∷ map (line s) (run (l .t + 1) (suc (s .args .span) - (l .t + 1)))))
+next c = lines-next (line (start c)) (c .before .loop .t) (suc (start c .args .span)) (omega arith) (c .before .loop .inv .2)
 
 -- what is handed over is the line of slot t
-same : (c : tie.After-greatest-of Inv-loop μ-loop) →
-    slotLine (c .before .before .before .before .before .loop .t) (getD (now (c .before .before .before .before .before .before .before .before .args .counts)) (c .before .before .before .before .before .loop .t) 0) (c .before .least-of .result) (c .greatest-of .result)
-    ≡ line (c .before .before .before .before .before .before .before .before) (c .before .before .before .before .before .loop .t)
+same : (c : tie.After-greatest-of Inv-loop μ-loop)
+    → (let s = start (turn c) in let t = turn c .before .loop .t in
+    slotLine t (counts s t) (c .before .least-of .result) (c .greatest-of .result) ≡ line s t)
 unfolding slotLineAt
 same c =
-    let t = c .before .before .before .before .before .loop .t in
-    ap₂ (λ l g. slotLine t (getD (now (c .before .before .before .before .before .before .before .before .args .counts)) t 0) l g) (c .before .least-of .ensures) (c .greatest-of .ensures)
+    let t = turn c .before .loop .t in
+    ap₂ (λ l g. slotLine t (counts (start (turn c)) t) l g) (c .before .least-of .ensures) (c .greatest-of .ensures)
 
 put-slot-requires : tie.Need-put-slot-requires Inv-loop μ-loop
-put-slot-requires c κs = subst (Room (c .before .before .before .before .before .loop .page) (c .before .before .before .before .before .loop .next)) (sym (same c)) (pending-room (next (c .before .before .before .before)))
+put-slot-requires c κs =
+    let l = turn c .before .loop in
+    subst (Room (l .page) (l .next)) (sym (same c)) (pending-room (next (turn c)))
 
 add-t : tie.Need-add-t Inv-loop μ-loop
 add-t c = omega arith
@@ -75,19 +93,21 @@ loop-less c = omega arith
 
 loop-again : tie.Need-loop-again Inv-loop μ-loop
 loop-again c =
-    let g = c .before .before .before in (
+    let g : tie.After-greatest-of Inv-loop μ-loop = c .before .before .before in
+    let l = turn g .before .loop in
+    let put = c .before .before .put-slot in (
       omega arith,
       omega arith,
-      pending-after (next (c .before .before .before .before .before .before .before))
-          (subst (λ l. Written (c .before .before .before .before .before .before .before .before .loop .page) (c .before .before .before .before .before .before .before .before .loop .next) l (c .before .before .put-slot .last .0) (c .before .before .put-slot .result)) (same g)
-          (c .before .before .put-slot .ensures)),
+      pending-after (next (turn g)) (subst (λ line. Written (l .page) (l .next) line (put .last .0) (put .result)) (same g) (put .ensures)),
     )
 
 same-length : tie.Need-same-length Inv-loop μ-loop
 same-length c = omega arith
 
 returns : tie.Need-returns Inv-loop μ-loop
-returns c = lines-end (line (c .before .before .before .before)) (c .before .loop .t) (suc (c .before .before .before .before .args .span)) (omega arith) (c .before .loop .inv .2)
+returns c =
+    let s : tie.Start Inv-loop μ-loop = c .before .before .before .before in
+    lines-end (line s) (c .before .loop .t) (suc (s .args .span)) (omega arith) (c .before .loop .inv .2)
 
 pub put-slots-spec : {M : Type 1} → statement M
 put-slots-spec =

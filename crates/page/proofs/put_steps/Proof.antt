@@ -1,7 +1,7 @@
 -- The lines of the steps from place i on are left to write; the last step goes back to the first boundary.
-use mathlib.Core.Path.{_≡_, refl, sym, ap, _∙_, subst}
+use mathlib.Core.Path.{_≡_, ap, subst}
 use mathlib.Core.List.{List, [], _∷_}
-use Prim.Native.Nat.{ℕ, suc, _+_, _-_, _≤_, _<_}
+use Prim.Native.Nat.{ℕ, _+_, _-_, _≤_}
 use native.Mathlib.Omega.{arith}
 use denote.Ref.{now}
 use lib.ListN.{length, getD, drop}
@@ -16,7 +16,8 @@ use Rattle.page.proofs.put_steps.Tie as tie
 
 abbrev Inv-loop : tie.InvT-loop
 Inv-loop page₀ at limits w ring last next₀ i₀ page next i =
-    (i ≤ last) × Pending page₀ at (joined (ringLines (entry w limits) ring)) page next (stepLines (entry w limits) (getD ring i 0) (drop (i + 1) ring) (getD ring 0 0))
+    (i ≤ last) × Pending page₀ at (joined (ringLines (entry w limits) ring)) page next
+    (stepLines (entry w limits) (getD ring i 0) (drop (i + 1) ring) (getD ring 0 0))
 
 abbrev μ-loop : tie.MeasureT-loop
 μ-loop page₀ at limits w ring last next₀ i₀ page next i = last - i
@@ -44,24 +45,27 @@ abbrev boundary : tie.Start Inv-loop μ-loop → ℕ → ℕ
 boundary c i = getD (now (c .args .ring)) i 0
 
 -- the next step goes from place i to place i + 1
-next : (c : tie.In-loop Inv-loop μ-loop) → PendingOf (c .before .before .before .before) (c .before .loop .page) (c .before .loop .next)
-    (stepLine (limits (c .before .before .before .before)) (boundary (c .before .before .before .before) (c .before .loop .i)) (boundary (c .before .before .before .before) (c .before .loop .i + 1))
-    ∷ stepLines (limits (c .before .before .before .before)) (boundary (c .before .before .before .before) (c .before .loop .i + 1)) (drop (c .before .loop .i + 1 + 1) (now (c .before .before .before .before .args .ring))) (boundary (c .before .before .before .before) 0))
+next : (c : tie.In-loop Inv-loop μ-loop)
+    → (let s : tie.Start Inv-loop μ-loop = c .before .before .before .before in let l = c .before .loop in
+    PendingOf s (l .page) (l .next)
+    (stepLine (limits s) (boundary s (l .i)) (boundary s (l .i + 1))
+    ∷ stepLines (limits s) (boundary s (l .i + 1)) (drop (l .i + 1 + 1) (now (s .args .ring))) (boundary s 0)))
 next c =
     let s = c .before .before .before .before in
     let l = c .before .loop in
     subst (PendingOf s (l .page) (l .next)) (ring-next (limits s) (now (s .args .ring)) (l .i) (boundary s (l .i)) (boundary s 0) (omega arith)) (l .inv .1)
 
 -- the last one goes back to the first boundary
-last : (c : tie.After-loop Inv-loop μ-loop) → PendingOf (c .before .before .before .before) (c .before .loop .page) (c .before .loop .next)
-    (stepLine (limits (c .before .before .before .before)) (boundary (c .before .before .before .before) (length (now (c .before .before .before .before .args .ring)) - 1)) (boundary (c .before .before .before .before) 0) ∷ [])
+last : (c : tie.After-loop Inv-loop μ-loop)
+    → (let s : tie.Start Inv-loop μ-loop = c .before .before .before .before in
+    PendingOf s (c .before .loop .page) (c .before .loop .next) (stepLine (limits s) (boundary s (length (now (s .args .ring)) - 1)) (boundary s 0) ∷ []))
 last c =
     let s = c .before .before .before .before in
     let l = c .before .loop in
     let e : l .i ≡ length (now (s .args .ring)) - 1 = omega arith in
+    let end = ring-end (limits s) (now (s .args .ring)) (l .i) (boundary s (l .i)) (boundary s 0) (omega (arith, s .pre .0 .some)) in
     subst (λ k. PendingOf s (l .page) (l .next) (stepLine (limits s) (boundary s k) (boundary s 0) ∷ [])) e
-    (subst (PendingOf s (l .page) (l .next)) (ring-end (limits s) (now (s .args .ring)) (l .i) (boundary s (l .i)) (boundary s 0) (omega (arith, s .pre .0 .some)))
-    (l .inv .1))
+    (subst (PendingOf s (l .page) (l .next)) end (l .inv .1))
 
 mul-put-step : tie.Need-mul-put-step Inv-loop μ-loop
 mul-put-step c = omega arith
@@ -82,8 +86,10 @@ put-step-requires : tie.Need-put-step-requires Inv-loop μ-loop
 put-step-requires c κs =
     let s = c .before .before .before .before .before .before .before in
     let i = c .before .before .before .before .loop .i in
-    let f = s .pre .0 in
-    ((f .inside i (omega (arith, f .some)), f .inside (i + 1) (omega (arith, f .some)), f .boundaries, f .entries), pending-room (next (c .before .before .before)))
+    let f = s .pre .0 in (
+      (f .inside i (omega (arith, f .some)), f .inside (i + 1) (omega (arith, f .some)), f .boundaries, f .entries),
+      pending-room (next (c .before .before .before)),
+    )
 
 add-i : tie.Need-add-i Inv-loop μ-loop
 add-i c = omega arith
@@ -106,8 +112,10 @@ shared-slice-read-put-step-4 c = omega arith
 put-step-requires-2 : tie.Need-put-step-requires-2 Inv-loop μ-loop
 put-step-requires-2 c κs =
     let s = c .before .before .before .before .before .before .before in
-    let f = s .pre .0 in
-    ((f .inside (length (now (s .args .ring)) - 1) (omega (arith, f .some)), f .inside 0 (f .some), f .boundaries, f .entries), pending-room (last (c .before .before .before)))
+    let f = s .pre .0 in (
+      (f .inside (length (now (s .args .ring)) - 1) (omega (arith, f .some)), f .inside 0 (f .some), f .boundaries, f .entries),
+      pending-room (last (c .before .before .before)),
+    )
 
 same-length : tie.Need-same-length Inv-loop μ-loop
 same-length c = omega arith

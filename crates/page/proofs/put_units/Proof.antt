@@ -1,13 +1,12 @@
 -- The lines of the units from j on are left to write.
-use mathlib.Core.Path.{_≡_, refl, sym, ap, ap₂, _∙_, subst}
-use mathlib.Core.List.{List, [], _∷_, map}
-use Prim.Native.Nat.{ℕ, suc, _+_, _-_, _≤_, _<_}
+use mathlib.Core.Path.{_≡_, ap}
+use mathlib.Core.List.{List, _∷_, map}
+use Prim.Native.Nat.{ℕ, _+_, _-_, _≤_}
 use native.Mathlib.Omega.{arith}
 use native.Mathlib.Numerals.{add-one}
 use denote.Ref.{now}
-use lib.ListN.{length, getD}
+use lib.ListN.{length}
 use Rattle.lists.specs.Lists.{run, joined}
-use Rattle.writing.specs.Writing.{unitLine}
 use Rattle.page.specs.Page.{unitLineAt, unitLines}
 use Rattle.writing.specs.WritingLaws.{Pending, pending-whole, pending-room, pending-after, lines-next, lines-end}
 use Rattle.page.proofs.put_units.Statement.{statement}
@@ -20,14 +19,17 @@ Inv-loop page₀ at plan earliest latest next₀ j₀ page next j =
 abbrev μ-loop : tie.MeasureT-loop
 μ-loop page₀ at plan earliest latest next₀ j₀ page next j = length plan - j
 
+-- the line of unit j
+abbrev line : tie.Start Inv-loop μ-loop → ℕ → List ℕ
+line c = unitLineAt (now (c .args .plan)) (now (c .args .earliest)) (now (c .args .latest))
+
 loop-holds : tie.Need-loop-holds Inv-loop μ-loop
 unfolding unitLines
 loop-holds c =
-    let s = c .before .before .before .before in
-    let a = s .args in
-    let lines = unitLineAt (now (a .plan)) (now (a .earliest)) (now (a .latest)) in
-    let e : length (now (a .plan)) ≡ length (now (a .plan)) - 0 = omega arith in
-    (omega arith, pending-whole (map lines (run 0 (length (now (a .plan)) - 0))) (ap (λ k. joined (map lines (run 0 k))) e) (s .pre .1))
+    let s : tie.Start Inv-loop μ-loop = c .before .before .before .before in
+    let n = length (now (s .args .plan)) in
+    let e : n ≡ n - 0 = omega arith in
+    (omega arith, pending-whole (map (line s) (run 0 (n - 0))) (ap (λ k. joined (map (line s) (run 0 k))) e) (s .pre .1))
 
 add-put-unit : tie.Need-add-put-unit Inv-loop μ-loop
 add-put-unit c = omega arith
@@ -53,16 +55,18 @@ mul-put-unit-3 c = omega arith
 shared-slice-read-put-unit-3 : tie.Need-shared-slice-read-put-unit-3 Inv-loop μ-loop
 shared-slice-read-put-unit-3 c = omega arith
 
+-- back to the start, from a turn of the loop
+abbrev start : tie.In-loop Inv-loop μ-loop → tie.Start Inv-loop μ-loop
+start c = c .before .before .before .before .before .before
+
 -- the next line is that of unit j
-next : (c : tie.In-loop Inv-loop μ-loop) → Pending (now (c .before .before .before .before .before .before .args .page)) (c .before .before .before .before .before .before .args .at)
-    (unitLines (now (c .before .before .before .before .before .before .args .plan)) (now (c .before .before .before .before .before .before .args .earliest)) (now (c .before .before .before .before .before .before .args .latest))) (c .before .loop .page) (c .before .loop .next)
-    (unitLineAt (now (c .before .before .before .before .before .before .args .plan)) (now (c .before .before .before .before .before .before .args .earliest)) (now (c .before .before .before .before .before .before .args .latest)) (c .before .loop .j)
-    ∷ map (unitLineAt (now (c .before .before .before .before .before .before .args .plan)) (now (c .before .before .before .before .before .before .args .earliest)) (now (c .before .before .before .before .before .before .args .latest)))
-    (run (c .before .loop .j + 1) (length (now (c .before .before .before .before .before .before .args .plan)) - (c .before .loop .j + 1))))
+next : (c : tie.In-loop Inv-loop μ-loop)
+    → (let s = start c in let a = s .args in let l = c .before .loop in
+    Pending (now (a .page)) (a .at) (unitLines (now (a .plan)) (now (a .earliest)) (now (a .latest))) (l .page) (l .next)
+    (line s (l .j) ∷ map (line s) (run (l .j + 1) (length (now (a .plan)) - (l .j + 1)))))
 next c =
-    let a = c .before .before .before .before .before .before .args in
-    lines-next (unitLineAt (now (a .plan)) (now (a .earliest)) (now (a .latest))) (c .before .loop .j) (length (now (a .plan))) (c .loop-test .taken)
-    (c .before .loop .inv .1)
+    let s = start c in
+    lines-next (line s) (c .before .loop .j) (length (now (s .args .plan))) (c .loop-test .taken) (c .before .loop .inv .1)
 
 put-unit-requires : tie.Need-put-unit-requires Inv-loop μ-loop
 unfolding unitLineAt
@@ -76,16 +80,17 @@ loop-less c = omega arith
 
 loop-again : tie.Need-loop-again Inv-loop μ-loop
 unfolding unitLineAt
-loop-again c = (omega arith, pending-after (next (c .before .before .before .before .before .before .before)) (rw (add-one (c .before .before .before .before .before .before .before .before .loop .j)) at (c .before .before .put-unit .ensures)))
+loop-again c =
+    let i : tie.In-loop Inv-loop μ-loop = c .before .before .before .before .before .before .before in
+    (omega arith, pending-after (next i) (rw (add-one (i .before .loop .j)) at (c .before .before .put-unit .ensures)))
 
 same-length : tie.Need-same-length Inv-loop μ-loop
 same-length c = omega arith
 
 returns : tie.Need-returns Inv-loop μ-loop
 returns c =
-    let a = c .before .before .before .before .before .before .args in
-    lines-end (unitLineAt (now (a .plan)) (now (a .earliest)) (now (a .latest))) (c .before .loop .j) (length (now (a .plan))) (c .loop-test .left)
-    (c .before .loop .inv .1)
+    let s : tie.Start Inv-loop μ-loop = c .before .before .before .before .before .before in
+    lines-end (line s) (c .before .loop .j) (length (now (s .args .plan))) (c .loop-test .left) (c .before .loop .inv .1)
 
 pub put-units-spec : {M : Type 1} → statement M
 put-units-spec =

@@ -1,7 +1,6 @@
 -- After i steps, what they rise and fall by and the weights of the steps that are left add up to the ring's sum.
-use mathlib.Core.Path.{_≡_, refl, sym, ap, ap₂, _∙_, subst}
-use mathlib.Core.List.{List}
-use Prim.Native.Nat.{ℕ, _+_, _-_, _*_, _≤_, _<_}
+use mathlib.Core.Path.{_≡_, ap, _∙_}
+use Prim.Native.Nat.{ℕ, _+_, _-_, _*_, _≤_}
 use native.Mathlib.Omega.{arith}
 use denote.Ref.{now}
 use lib.ListN.{length, getD}
@@ -32,20 +31,26 @@ boundary c i = getD (now (c .args .ring)) i 0
 
 -- the limit of the step in hand
 abbrev step : tie.After-entry-at Inv-loop μ-loop → ℤ
-step c = limits (c .before .before .before .before .before .before) (boundary (c .before .before .before .before .before .before) (c .before .before .before .before .loop .i)) (boundary (c .before .before .before .before .before .before) (c .before .before .before .before .loop .i + 1))
+step c =
+    let s : tie.Start Inv-loop μ-loop = c .before .before .before .before .before .before in
+    let i = c .before .before .before .before .loop .i in
+    limits s (boundary s i) (boundary s (i + 1))
 
 step-is : (c : tie.After-entry-at Inv-loop μ-loop) → toZ w16 (ofZ w16 (c .entry-at .result)) ≡ step c
 step-is c = toZ-ofZ {w = w16} (record { sfits = c .entry-at .ok }) ∙ c .entry-at .ensures
 
 step-small : (c : tie.After-entry-at Inv-loop μ-loop) → (up (step c) ≤ maxCount) × (dn (step c) ≤ maxCount)
 step-small c =
-    let f = c .before .before .before .before .before .before .pre in
+    let s : tie.Start Inv-loop μ-loop = c .before .before .before .before .before .before in
+    let f = s .pre in
     let i = c .before .before .before .before .loop .i in
-    f .small (boundary (c .before .before .before .before .before .before) i) (boundary (c .before .before .before .before .before .before) (i + 1)) (f .inside i (omega (arith, f .some))) (f .inside (i + 1) (omega (arith, f .some)))
+    f .small (boundary s i) (boundary s (i + 1)) (f .inside i (omega (arith, f .some))) (f .inside (i + 1) (omega (arith, f .some)))
 
 -- the limit of the last step
 abbrev closing : tie.After-entry-at2 Inv-loop μ-loop → ℤ
-closing c = limits (c .before .before .before .before .before .before) (boundary (c .before .before .before .before .before .before) (length (now (c .before .before .before .before .before .before .args .ring)) - 1)) (boundary (c .before .before .before .before .before .before) 0)
+closing c =
+    let s : tie.Start Inv-loop μ-loop = c .before .before .before .before .before .before in
+    limits s (boundary s (length (now (s .args .ring)) - 1)) (boundary s 0)
 
 closing-is : (c : tie.After-entry-at2 Inv-loop μ-loop) → toZ w16 (ofZ w16 (c .entry-at2 .result)) ≡ closing c
 closing-is c = toZ-ofZ {w = w16} (record { sfits = c .entry-at2 .ok }) ∙ c .entry-at2 .ensures
@@ -97,7 +102,8 @@ above-requires c κs = tt
 add-rise : tie.Need-add-rise Inv-loop μ-loop
 add-rise c =
     let l = c .before .before .before .before .before .loop in
-    omega (arith, l .inv .0, l .inv .1, c .above .ensures, ap up (step-is (c .before)), step-small (c .before) .0, c .before .before .before .before .before .before .before .pre .few)
+    let at = c .before in
+    omega (arith, l .inv .0, l .inv .1, c .above .ensures, ap up (step-is at), step-small at .0, at .before .before .before .before .before .before .pre .few)
 
 below-requires : tie.Need-below-requires Inv-loop μ-loop
 below-requires c κs = tt
@@ -105,7 +111,8 @@ below-requires c κs = tt
 add-fall : tie.Need-add-fall Inv-loop μ-loop
 add-fall c =
     let l = c .before .before .before .before .before .before .loop in
-    omega (arith, l .inv .0, l .inv .2, c .below .ensures, ap dn (step-is (c .before .before)), step-small (c .before .before) .1, c .before .before .before .before .before .before .before .before .pre .few)
+    let at = c .before .before in
+    omega (arith, l .inv .0, l .inv .2, c .below .ensures, ap dn (step-is at), step-small at .1, at .before .before .before .before .before .before .pre .few)
 
 add-i : tie.Need-add-i Inv-loop μ-loop
 add-i c = omega arith
@@ -153,7 +160,9 @@ below-requires-2 c κs = tt
 add-excess : tie.Need-add-excess Inv-loop μ-loop
 add-excess c =
     let l = c .before .before .before .before .before .loop in
-    omega (arith, l .inv .0, l .inv .2, c .below2 .ensures, ap dn (closing-is (c .before)), closing-small (c .before) .1, c .before .before .before .before .before .before .before .pre .few)
+    let at = c .before in
+    let few = at .before .before .before .before .before .before .pre .few in
+    omega (arith, l .inv .0, l .inv .2, c .below2 .ensures, ap dn (closing-is at), closing-small at .1, few)
 
 above-requires-2 : tie.Need-above-requires-2 Inv-loop μ-loop
 above-requires-2 c κs = tt
@@ -161,7 +170,9 @@ above-requires-2 c κs = tt
 add-excess-2 : tie.Need-add-excess-2 Inv-loop μ-loop
 add-excess-2 c =
     let l = c .before .before .before .before .before .before .loop in
-    omega (arith, l .inv .0, l .inv .1, c .above2 .ensures, ap up (closing-is (c .before .before)), closing-small (c .before .before) .0, c .before .before .before .before .before .before .before .before .pre .few)
+    let at = c .before .before in
+    let few = at .before .before .before .before .before .before .pre .few in
+    omega (arith, l .inv .0, l .inv .1, c .above2 .ensures, ap up (closing-is at), closing-small at .0, few)
 
 excess-requires : tie.Need-excess-requires Inv-loop μ-loop
 excess-requires c κs = tt

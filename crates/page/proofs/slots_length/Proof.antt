@@ -1,11 +1,9 @@
 -- What is counted and the length of the lines from t on make up the whole.
-use mathlib.Core.Path.{_≡_, refl, sym, ap, ap₂, _∙_}
-use mathlib.Core.List.{List, map}
-use Prim.Native.Nat.{ℕ, suc, _+_, _-_, _*_, _≤_, _<_}
+use mathlib.Core.Path.{ap₂, _∙_}
+use Prim.Native.Nat.{suc, _+_, _-_, _*_, _≤_}
 use native.Mathlib.Omega.{arith}
 use denote.Ref.{now}
 use lib.ListN.{length, getD}
-use Rattle.lists.specs.Lists.{run, fromTo, joined}
 use Rattle.writing.specs.Writing.{maxLine, slotLine}
 use Rattle.page.specs.Page.{slotLineAt, slotLines, leastFrom, greatestFrom}
 use Rattle.writing.specs.WritingLaws.{Measured, measured-next, measured-end}
@@ -57,7 +55,8 @@ unfolding slotLineAt
 loop-again c =
     let l = c .before .before .before .before .before .loop in
     let a = c .before .before .before .before .before .before .before .args in
-    let e = ap₂ (λ l₁ g. length (slotLine (l .t) (getD (now (a .counts)) (l .t) 0) l₁ g)) (c .before .before .least-of .ensures) (c .before .greatest-of .ensures) in
+    let e = ap₂ (λ l₁ g. length (slotLine (l .t) (getD (now (a .counts)) (l .t) 0) l₁ g))
+    (c .before .before .least-of .ensures) (c .before .greatest-of .ensures) in
     (omega arith, omega arith, omega arith, measured-next (omega arith) (c .slot-length .ensures .0 ∙ e) (l .inv .3))
 
 returns : tie.Need-returns Inv-loop μ-loop

@@ -1,6 +1,6 @@
 -- Forward the limit's positive part, backward its negative part.
-use mathlib.Core.Path.{_≡_, sym, ap, ap₂, _∙_}
-use Prim.Native.Nat.{ℕ, suc, _+_}
+use mathlib.Core.Path.{ap, _∙_}
+use Prim.Native.Nat.{suc}
 use native.Mathlib.Omega.{arith}
 use native.Mathlib.Numerals.{add-one}
 use denote.Ref.{now}
@@ -9,7 +9,7 @@ use mir.Syntax.{w16}
 use mir.Facts.{toZ-ofZ}
 use Rattle.integers.specs.Parts.{up, dn}
 use Rattle.network.specs.Table.{entry}
-use Rattle.writing.specs.Writing.{text, digits, boundLine}
+use Rattle.writing.specs.Writing.{text, digits}
 use Rattle.writing.specs.WritingLaws.{boundLine-length}
 use Rattle.page.specs.PageLaws.{step-forward, step-backward}
 use Rattle.page.proofs.step_length.Statement.{statement}

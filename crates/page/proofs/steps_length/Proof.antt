@@ -1,10 +1,9 @@
 -- What is counted and the length of the steps from place i on make up the whole.
-use mathlib.Core.Path.{_≡_, sym, ap, _∙_}
-use mathlib.Core.List.{List}
-use Prim.Native.Nat.{ℕ, _+_, _-_, _*_, _≤_, _<_}
+use mathlib.Core.Path.{_≡_}
+use Prim.Native.Nat.{_+_, _-_, _*_, _≤_}
 use native.Mathlib.Omega.{arith}
 use denote.Ref.{now}
-use lib.ListN.{length, getD}
+use lib.ListN.{length}
 use Rattle.network.specs.Table.{entry}
 use Rattle.writing.specs.Writing.{maxLine}
 use Rattle.page.specs.PageLaws.{StepsMeasured, steps-none, steps-next, steps-all}

@@ -1,14 +1,24 @@
 -- Where the page holds the answer, the rooms and the page are written; else nothing is.
-use mathlib.Core.Path.{_≡_, refl, sym, ap, ap₂, _∙_}
-use mathlib.Core.List.{List, []}
-use Prim.Native.Nat.{ℕ, _*_}
+use mathlib.Core.Path.{refl, sym}
+use mathlib.Core.List.{List}
+use Prim.Native.Nat.{ℕ}
 use denote.Ref.{now}
-use lib.ListN.{length}
-use Rattle.asking.specs.Questions.{lent}
 use Rattle.page.specs.Page.{tablePage}
 use Rattle.printing.specs.PrintingLaws.{room, asked-yes, asked-no}
 use Rattle.printing.proofs.print_plan.Statement.{statement}
 use Rattle.printing.proofs.print_plan.Tie as tie
+
+abbrev bytes : tie.Start → List ℕ
+bytes c =
+    let a = c .args in
+    tablePage (a .span) (now (a .seats)) (now (a .firsts)) (now (a .lasts)) (now (a .closed))
+
+-- the page holds the answer: back to where the units were counted, and to the start
+abbrev counted : tie.Then1 → tie.After-count-slots
+counted c = c .before .before .before .before .before
+
+abbrev start : tie.Then1 → tie.Start
+start c = counted c .before .before .before .before .before .before .before .before .before
 
 slice-aggregate-count-slots : tie.Need-slice-aggregate-count-slots
 slice-aggregate-count-slots c = refl
@@ -20,26 +30,30 @@ slice-aggregate-plan-length : tie.Need-slice-aggregate-plan-length
 slice-aggregate-plan-length c = sym (c .before .before .count-slots .kept .1 .0)
 
 plan-length-requires : tie.Need-plan-length-requires
-plan-length-requires c κs = (c .before .before .before .before .before .before .before .before .before .before .before .pre .0, c .before .before .count-slots .ensures)
+plan-length-requires c κs =
+    let s : tie.Start = c .before .before .before .before .before .before .before .before .before .before .before in
+    (s .pre .0, c .before .before .count-slots .ensures)
 
 holds-requires : tie.Need-holds-requires
 holds-requires c κs = tt
 
 keep-plan-requires : tie.Need-keep-plan-requires
-keep-plan-requires c κs = c .before .before .before .before .before .before .before .before .before .before .before .before .before .before .before .before .before .before .pre .1
+keep-plan-requires c κs = start (c .before .before .before .before) .pre .1
 
 slice-aggregate-put-plan : tie.Need-slice-aggregate-put-plan
-slice-aggregate-put-plan c = sym (c .before .before .before .before .before .before .before .before .before .before .before .before .before .before .before .before .before .before .before .count-slots .kept .1 .0)
+slice-aggregate-put-plan c =
+    let p : tie.Then1 = c .before .before .before .before .before .before .before .before .before .before .before .before .before .before in
+    sym (counted p .count-slots .kept .1 .0)
 
 put-plan-requires : tie.Need-put-plan-requires
 put-plan-requires c κs =
-    let s = c .before .before .before .before .before .before .before .before .before .before .before .before .before .before .before .before .before .before .before .before .before .before .before .before .before .before .before .before in
-    let a = s .args in (
+    let p : tie.Then1 = c .before .before .before .before .before .before .before .before .before .before .before .before .before .before in
+    let s = start p in (
       s .pre .0,
       (
-        c .before .before .before .before .before .before .before .before .before .before .before .before .before .before .before .before .before .before .before .count-slots .ensures,
-        room (now (a .page)) (a .at) (tablePage (a .span) (now (a .seats)) (now (a .firsts)) (now (a .lasts)) (now (a .closed))) (c .before .before .before .before .before .before .before .before .before .before .before .before .before .before .before .before .plan-length .result)
-            (c .before .before .before .before .before .before .before .before .before .before .before .before .before .before .before .before .plan-length .ensures) (c .before .before .before .before .before .before .before .before .before .before .before .before .before .before .before .holds .result) (c .before .before .before .before .before .before .before .before .before .before .before .before .before .before .before .holds .ensures) (c .before .before .before .before .before .before .before .before .before .before .before .before .before .before .if1 .taken),
+        counted p .count-slots .ensures,
+        room (now (s .args .page)) (s .args .at) (bytes s) (p .before .before .plan-length .result) (p .before .before .plan-length .ensures)
+            (p .before .holds .result) (p .before .holds .ensures) (p .if1 .taken),
       ),
     )
 
@@ -60,17 +74,19 @@ same-length-5 c = c .before .before .put-plan .kept .0
 
 returns : tie.Need-returns
 returns c =
-    let a = c .before .before .before .before .before .before .before .before .before .before .before .before .before .before .before .before .before .before .before .before .before .before .before .before .before .before .before .before .before .before .before .args in
-    let k = c .before .before .before .before .before .before .before .before .before .before .before .before .keep-plan .ensures in
-    asked-yes (now (a .page)) (a .at) (tablePage (a .span) (now (a .seats)) (now (a .firsts)) (now (a .lasts)) (now (a .closed))) (c .before .before .before .before .before .before .before .before .before .before .before .before .before .before .before .before .before .before .before .plan-length .result)
-    (c .before .before .before .before .before .before .before .before .before .before .before .before .before .before .before .before .before .before .before .plan-length .ensures) (c .before .before .before .before .before .before .before .before .before .before .before .before .before .before .before .before .before .before .holds .result) (c .before .before .before .before .before .before .before .before .before .before .before .before .before .before .before .before .before .before .holds .ensures) _ _ _ _ _ _ (c .before .before .before .before .before .before .before .before .before .before .before .before .before .before .before .before .before .if1 .taken)
+    let kept = c .before .before .before .before .before .before .before .before .before .before .before .before in
+    let p : tie.Then1 = kept .before .before .before .before .before in
+    let s = start p in
+    let k = kept .keep-plan .ensures in
+    asked-yes (now (s .args .page)) (s .args .at) (bytes s) (p .before .before .plan-length .result) (p .before .before .plan-length .ensures)
+    (p .before .holds .result) (p .before .holds .ensures) _ _ _ _ _ _ (p .if1 .taken)
     (c .before .before .put-plan .result) (c .before .before .put-plan .ensures) refl (rw (k .0, k .1, k .2, k .3) refl)
 
 returns-2 : tie.Need-returns-2
 returns-2 c =
-    let a = c .before .before .before .before .before .before .before .before .before .before .before .before .before .before .args in
-    asked-no (now (a .page)) (a .at) (tablePage (a .span) (now (a .seats)) (now (a .firsts)) (now (a .lasts)) (now (a .closed))) (c .before .before .plan-length .result)
-    (c .before .before .plan-length .ensures) (c .before .holds .result) (c .before .holds .ensures) _ _ _ _ _ _ (c .if1 .left) refl refl refl
+    let s : tie.Start = c .before .before .before .before .before .before .before .before .before .before .before .before .before .before in
+    asked-no (now (s .args .page)) (s .args .at) (bytes s) (c .before .before .plan-length .result) (c .before .before .plan-length .ensures)
+    (c .before .holds .result) (c .before .holds .ensures) _ _ _ _ _ _ (c .if1 .left) refl refl refl
 
 pub print-plan-spec : {M : Type 1} → statement M
 print-plan-spec =

@@ -1,16 +1,21 @@
 -- Where the page holds the answer, the rooms and the page are written; else nothing is.
-use mathlib.Core.Path.{_≡_, refl, sym, ap, ap₂, _∙_}
-use mathlib.Core.List.{List, []}
-use Prim.Native.Nat.{ℕ, _*_}
+use mathlib.Core.Path.{refl}
+use mathlib.Core.List.{List}
+use Prim.Native.Nat.{ℕ}
 use denote.Ref.{now}
-use lib.ListN.{length}
-use Rattle.asking.specs.Questions.{lent}
 use Rattle.network.specs.Table.{entry}
 use Rattle.page.specs.Page.{nonePage}
 use Rattle.printing.specs.PrintingLaws.{room, asked-yes, asked-no}
 use borrow.Author.Needs.{needs}
 use Rattle.printing.proofs.print_ring.Statement.{statement}
 use Rattle.printing.proofs.print_ring.Tie as tie
+
+abbrev bytes : tie.Start → List ℕ
+bytes c = nonePage (entry (c .args .w) (now (c .args .limits))) (now (c .args .found))
+
+-- back to the start, from where the page holds the answer
+abbrev start : tie.Then1 → tie.Start
+start c = c .before .before .before .before .before .before
 
 none-length-requires : tie.Need-none-length-requires
 none-length-requires c κs = c .before .before .before .pre .0
@@ -29,11 +34,11 @@ copy-list-requires c κs = c .before .before .before .before .before .before .be
 
 put-none-requires : tie.Need-put-none-requires
 put-none-requires c κs =
-    let s = c .before .before .before .before .before .before .before .before .before .before .before .before .before .before in
-    let a = s .args in (
+    let p : tie.Then1 = c .before .before .before .before .before .before .before .before in
+    let s = start p in (
       s .pre .0,
-      room (now (a .page)) (a .at) (nonePage (entry (a .w) (now (a .limits))) (now (a .found))) (c .before .before .before .before .before .before .before .before .before .before .none-length .result)
-          (c .before .before .before .before .before .before .before .before .before .before .none-length .ensures) (c .before .before .before .before .before .before .before .before .before .holds .result) (c .before .before .before .before .before .before .before .before .before .holds .ensures) (c .before .before .before .before .before .before .before .before .if1 .taken),
+      room (now (s .args .page)) (s .args .at) (bytes s) (p .before .before .none-length .result) (p .before .before .none-length .ensures)
+          (p .before .holds .result) (p .before .holds .ensures) (p .if1 .taken),
     )
 
 same-length : tie.Need-same-length
@@ -47,17 +52,19 @@ same-length-3 c = c .before .before .put-none .kept .0
 
 returns : tie.Need-returns
 returns c =
-    let a = c .before .before .before .before .before .before .before .before .before .before .before .before .before .before .before .before .before .args in
-    asked-yes (now (a .page)) (a .at) (nonePage (entry (a .w) (now (a .limits))) (now (a .found))) (c .before .before .before .before .before .before .before .before .before .before .before .before .before .none-length .result)
-    (c .before .before .before .before .before .before .before .before .before .before .before .before .before .none-length .ensures) (c .before .before .before .before .before .before .before .before .before .before .before .before .holds .result) (c .before .before .before .before .before .before .before .before .before .before .before .before .holds .ensures) _ _ _ _ _ _ (c .before .before .before .before .before .before .before .before .before .before .before .if1 .taken)
+    let p : tie.Then1 = c .before .before .before .before .before .before .before .before .before .before .before in
+    let cleared = c .before .before .before .before .before .before .before .before .before .clear in
+    let s = start p in
+    asked-yes (now (s .args .page)) (s .args .at) (bytes s) (p .before .before .none-length .result) (p .before .before .none-length .ensures)
+    (p .before .holds .result) (p .before .holds .ensures) _ _ _ _ _ _ (p .if1 .taken)
     (c .before .before .put-none .result) (c .before .before .put-none .ensures) refl
-    (rw (c .before .before .before .before .before .before .before .before .before .clear .ensures, c .before .before .before .before .before .before .copy-list .ensures) refl)
+    (rw (cleared .ensures, c .before .before .before .before .before .before .copy-list .ensures) refl)
 
 returns-2 : tie.Need-returns-2
 returns-2 c =
-    let a = c .before .before .before .before .before .before .args in
-    asked-no (now (a .page)) (a .at) (nonePage (entry (a .w) (now (a .limits))) (now (a .found))) (c .before .before .none-length .result)
-    (c .before .before .none-length .ensures) (c .before .holds .result) (c .before .holds .ensures) _ _ _ _ _ _ (c .if1 .left) refl refl refl
+    let s : tie.Start = c .before .before .before .before .before .before in
+    asked-no (now (s .args .page)) (s .args .at) (bytes s) (c .before .before .none-length .result) (c .before .before .none-length .ensures)
+    (c .before .holds .result) (c .before .holds .ensures) _ _ _ _ _ _ (c .if1 .left) refl refl refl
 
 pub print-ring-spec : {M : Type 1} → statement M
 print-ring-spec =

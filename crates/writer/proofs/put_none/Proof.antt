@@ -1,5 +1,5 @@
--- `writer::put_none` meets its contract: a walk of its MIR, by hand. All that it knows of `new`, `put_steps`, `put_shortfall` and `place` is that each meets its
--- contract.
+-- `writer::put_none` meets its contract: a walk of its MIR, by hand. All that it knows of `new`, `put_steps`, `put_shortfall` and `place` is that each meets
+-- its contract.
 -- Key idea: each is called at the page's own lifetime, share and ghost name (`Calls.antt`). What they hand back is a writer that is known whole, so what
 -- `place` says of the last list is said of `page`'s, and the borrow is given up for good (`gave-slice`).
 -- The limits and the ring are passed twice, by copies.

@@ -8,8 +8,11 @@ use Rattle.writing.specs.WritingLaws.{Pending, pending-whole, pending-ro
 use Rattle.writing.proofs.put_bound.Statement.{statement}
 use Rattle.writing.proofs.put_bound.Tie as tie
 
+abbrev line : tie.Start → List ℕ
+line c = boundLine (now (c .args .word)) (c .args .bound) (c .args .first) (c .args .last)
+
 abbrev PendingOf : tie.Start → List ℕ → ℕ → List (List ℕ) → Type 0
-PendingOf c page at rest = Pending (now (c .args .page)) (c .args .at) (boundLine (now (c .args .word)) (c .args .bound) (c .args .first) (c .args .last)) page at rest
+PendingOf c page at rest = Pending (now (c .args .page)) (c .args .at) (line c) page at rest
 
 abbrev rest-one : tie.Start → List (List ℕ)
 rest-one c = text " (slots " ∷ digits (c .args .first) ∷ text " " ∷ digits (c .args .last) ∷ text "))\n" ∷ []
@@ -17,20 +20,32 @@ rest-one c = text " (slots " ∷ digits (c .args .first) ∷ text " " ∷ digits
 abbrev rest-two : tie.Start → List (List ℕ)
 rest-two c = text " " ∷ digits (c .args .last) ∷ text "))\n" ∷ []
 
+-- from a pair to the one before it
+abbrev before-one : tie.After-put-pair → tie.Start
+before-one c = c .before .before .before .before
+
+abbrev before-two : tie.After-put-pair2 → tie.After-put-pair
+before-two c = c .before .before .before .before .before
+
+abbrev before-three : tie.After-put-pair3 → tie.After-put-pair2
+before-three c = c .before .before .before .before .before
+
 after-none : (c : tie.Start) → PendingOf c (now (c .args .page)) (c .args .at) (now (c .args .word) ∷ digits (c .args .bound) ∷ rest-one c)
 unfolding boundLine
 after-none c = pending-whole (now (c .args .word) ∷ digits (c .args .bound) ∷ rest-one c) refl (c .pre)
 
-after-one : (c : tie.After-put-pair) → PendingOf (c .before .before .before .before) (c .put-pair .last .0) (c .put-pair .result) (rest-one (c .before .before .before .before))
-after-one c = pending-after (pending-pair (after-none (c .before .before .before .before))) (c .put-pair .ensures)
+after-one : (c : tie.After-put-pair) → PendingOf (before-one c) (c .put-pair .last .0) (c .put-pair .result) (rest-one (before-one c))
+after-one c = pending-after (pending-pair (after-none (before-one c))) (c .put-pair .ensures)
 
-after-two : (c : tie.After-put-pair2) → PendingOf (c .before .before .before .before .before .before .before .before .before) (c .put-pair2 .last .0) (c .put-pair2 .result) (rest-two (c .before .before .before .before .before .before .before .before .before))
+after-two : (c : tie.After-put-pair2)
+    → (let s = before-one (before-two c) in PendingOf s (c .put-pair2 .last .0) (c .put-pair2 .result) (rest-two s))
 unfolding text
-after-two c = pending-after (pending-pair (after-one (c .before .before .before .before .before))) (c .put-pair2 .ensures)
+after-two c = pending-after (pending-pair (after-one (before-two c))) (c .put-pair2 .ensures)
 
-after-three : (c : tie.After-put-pair3) → PendingOf (c .before .before .before .before .before .before .before .before .before .before .before .before .before .before) (c .put-pair3 .last .0) (c .put-pair3 .result) (text "))\n" ∷ [])
+after-three : (c : tie.After-put-pair3)
+    → PendingOf (before-one (before-two (before-three c))) (c .put-pair3 .last .0) (c .put-pair3 .result) (text "))\n" ∷ [])
 unfolding text
-after-three c = pending-after (pending-pair (after-two (c .before .before .before .before .before))) (c .put-pair3 .ensures)
+after-three c = pending-after (pending-pair (after-two (before-three c))) (c .put-pair3 .ensures)
 
 put-pair-requires : tie.Need-put-pair-requires
 put-pair-requires c κs = pending-room (pending-pair (after-none (c .before .before .before)))

@@ -1,11 +1,10 @@
-use mathlib.Core.Path.{_≡_, refl, sym, ap, ap₂, _∙_, subst}
-use mathlib.Core.List.{List, [], _∷_, _++_}
-use Prim.Native.Nat.{ℕ, _+_, _-_, _≤_, _<_}
+-- A number below ten is one digit.
+use mathlib.Core.Path.{sym, ap, _∙_}
 use native.Mathlib.Omega.{arith}
 use lib.Seq.{sets}
 use denote.Ref.{now}
-use lib.ListN.{length-set, length, getD}
-use Rattle.writing.specs.Writing.{digits, digit}
+use lib.ListN.{length-set, length}
+use Rattle.writing.specs.Writing.{digits}
 use Rattle.writing.specs.WritingLaws.{digits-one, onto-sets}
 use Rattle.writing.proofs.put_one.Statement.{statement}
 use Rattle.writing.proofs.put_one.Tie as tie

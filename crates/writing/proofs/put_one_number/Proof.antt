@@ -1,6 +1,6 @@
 -- A word, a number and the closing word.
 use mathlib.Core.Path.{_∙_, refl}
-use mathlib.Core.List.{List, [], _∷_}
+use mathlib.Core.List.{[], _∷_}
 use denote.Ref.{now}
 use Rattle.writing.specs.Writing.{text, digits, oneNumber}
 use Rattle.writing.specs.WritingLaws.{Pending, pending-whole, pending-room, pending-pair, pending-after, pending-nothing}
@@ -20,7 +20,9 @@ slice-aggregate-put-word c = refl
 
 put-word-requires : tie.Need-put-word-requires
 unfolding text
-put-word-requires c κs = pending-room (pending-after (pending-pair (start (c .before .before .before .before .before .before .before .before))) (c .before .before .before .before .put-pair .ensures))
+put-word-requires c κs =
+    let pair = c .before .before .before .before .put-pair .ensures in
+    pending-room (pending-after (pending-pair (start (c .before .before .before .before .before .before .before .before))) pair)
 
 same-length : tie.Need-same-length
 same-length c = c .before .before .put-word .kept .0 ∙ c .before .before .before .before .before .before .before .put-pair .kept .0
@@ -28,8 +30,10 @@ same-length c = c .before .before .put-word .kept .0 ∙ c .before .before .befo
 returns : tie.Need-returns
 unfolding text
 returns c =
-    pending-nothing
-    (pending-after (pending-after (pending-pair (start (c .before .before .before .before .before .before .before .before .before .before .before))) (c .before .before .before .before .before .before .before .put-pair .ensures)) (c .before .before .put-word .ensures))
+    let pair = c .before .before .before .before .before .before .before .put-pair .ensures in
+    let close = c .before .before .put-word .ensures in
+    let s : tie.Start = c .before .before .before .before .before .before .before .before .before .before .before in
+    pending-nothing (pending-after (pending-after (pending-pair (start s)) pair) close)
 
 pub put-one-number-spec : {M : Type 1} → statement M
 put-one-number-spec =

@@ -1,12 +1,12 @@
 -- A word, byte by byte: after i bytes the rest of the word is left to write.
-use mathlib.Core.Path.{_≡_, refl, sym, ap, ap₂, _∙_, subst}
-use mathlib.Core.List.{List, [], _∷_, append-nil}
-use Prim.Native.Nat.{ℕ, suc, _+_, _-_, _≤_, _<_}
+use mathlib.Core.Path.{sym}
+use mathlib.Core.List.{[], _∷_, append-nil}
+use Prim.Native.Nat.{_+_, _-_, _≤_, _<_}
 use native.Mathlib.Omega.{arith}
 use native.Mathlib.Nat.{add-zero, add-assoc}
 use native.Mathlib.Numerals.{add-one}
 use denote.Ref.{now}
-use lib.ListN.{length, getD, drop, drop-of-length-le}
+use lib.ListN.{length, drop, drop-of-length-le}
 use lib.Seq.{drop-cons}
 use Rattle.writing.specs.WritingLaws.{Pending, pending-whole, pending-byte, pending-empty, pending-nothing}
 use Rattle.writing.proofs.put_word.Statement.{statement}

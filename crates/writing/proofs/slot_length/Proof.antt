@@ -1,3 +1,4 @@
+-- The words of the line, and the digits of its four numbers.
 use native.Mathlib.Omega.{arith}
 use Rattle.writing.specs.Writing.{text, fourNumbers, slotLine}
 use Rattle.writing.specs.WritingLaws.{fourNumbers-length}
@@ -12,7 +13,10 @@ add-result c = omega arith
 
 returns : tie.Need-returns
 unfolding slotLine fourNumbers text
-returns c = (omega (arith, c .four-digit-counts .ensures .0, fourNumbers-length (text "(slot ") (c .before .args .slot) (text " (count ") (c .before .args .count) (text ") (range ") (c .before .args .least) (c .before .args .greatest)), omega arith)
+returns c =
+    let a = c .before .args in
+    let line = fourNumbers-length (text "(slot ") (a .slot) (text " (count ") (a .count) (text ") (range ") (a .least) (a .greatest) in
+    (omega (arith, c .four-digit-counts .ensures .0, line), omega arith)
 
 pub slot-length-spec : {M : Type 1} → statement M
 slot-length-spec = tie.close (tie.spec four-digit-counts-requires add-result returns)

@@ -1,3 +1,4 @@
+-- The words of the line, and the digits of its four numbers.
 use native.Mathlib.Omega.{arith}
 use Rattle.writing.specs.Writing.{text, fourNumbers, unitLine}
 use Rattle.writing.specs.WritingLaws.{fourNumbers-length}
@@ -12,7 +13,10 @@ add-result c = omega arith
 
 returns : tie.Need-returns
 unfolding unitLine fourNumbers text
-returns c = (omega (arith, c .four-digit-counts .ensures .0, fourNumbers-length (text "(unit ") (c .before .args .unit) (text " (slot ") (c .before .args .slot) (text ") (between ") (c .before .args .earliest) (c .before .args .latest)), omega arith)
+returns c =
+    let a = c .before .args in
+    let line = fourNumbers-length (text "(unit ") (a .unit) (text " (slot ") (a .slot) (text ") (between ") (a .earliest) (a .latest) in
+    (omega (arith, c .four-digit-counts .ensures .0, line), omega arith)
 
 pub unit-length-spec : {M : Type 1} → statement M
 unit-length-spec = tie.close (tie.spec four-digit-counts-requires add-result returns)
