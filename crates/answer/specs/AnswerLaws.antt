@@ -7,9 +7,8 @@ use mathlib.Core.List.{List}
 use Prim.Native.Nat.{ℕ, _+_, _≤_}
 use native.Mathlib.Omega.{arith}
 use lib.Dec.{T}
-use lib.ListN.{length, take, drop, replicate, length-append}
+use lib.ListN.{length, take, drop, length-append}
 use lib.Seq.{take-at}
-use lib.IntN.{pos}
 use borrow.Author.Tests.{le-leb}
 use Rattle.lists.specs.Members.{within-iff}
 use Rattle.network.specs.Table.{Passed, finished, stopped, outOfRange}
@@ -19,7 +18,7 @@ use Rattle.questions.specs.Reading.{maxBytes, Rooms, roomsForAll, Answer, refus
 use Rattle.questions.specs.AcceptedLaws.{reading-accepts}
 use Rattle.questions.specs.RefusalLaws.{reading-refusals}
 use Rattle.reader.specs.Rooms.{sizesOf, leaves, roomsAfter}
-use Rattle.asking.specs.Questions.{Lists, Rooms as Lent, lent, given, passed}
+use Rattle.asking.specs.Questions.{Lists, Rooms as Lent, given, passed}
 use Rattle.solving.specs.Planning.{byPass, Left}
 use Rattle.asking.specs.Asking.{Solvable}
 use Rattle.planner.specs.EntryLaws.{verdict-solvable}
@@ -28,7 +27,7 @@ use Rattle.writing.specs.Writing.{text, onto, Room, Written}
 use Rattle.page.specs.Page.{maxPage}
 use Rattle.page.specs.PageBounds.{five-at-most, plan-short, none-short}
 use Rattle.printing.specs.Printing.{planBytes, ringBytes, holds, Asked, Shown, Printing}
-use Rattle.printer.specs.OwnLaws.{own-fit}
+use Rattle.printer.specs.OwnLaws.{ownRooms, own-fit}
 use Rattle.printing.specs.declared.Printed.{Printed}
 use Rattle.printing.specs.declared.Printed.the-variants.{Refused, Plan, None}
 use Rattle.answer.specs.Answer.{refusedLine, ByPass, AnswerToSheet, ByReading, AnswerTo, Answered}
@@ -44,10 +43,7 @@ pub refused-room : (page : List ℕ) (number line : ℕ) → number ≤ 14 → l
 refused-room page number line hn hl long = record { fits = omega (arith, refused-short number line hn hl) }
 
 -- ---- the rooms that a call lends for planning hold every accepted sheet
-abbrev pub planningRooms : Lent
-planningRooms = lent (replicate 2401 (pos 0)) (replicate 300 0) (replicate 300 0) (replicate 300 0) (replicate 49 0)
-
-pub held-solvable : (t : Read) (m : Rooms (List ℕ)) → Held t m → Solvable (fronts t m) planningRooms
+pub held-solvable : (t : Read) (m : Rooms (List ℕ)) → Held t m → Solvable (fronts t m) ownRooms
 held-solvable t m h = record { lists = h .lists; sheet = h .sheet; rooms = own-fit (given (fronts t m)) (h .sheet) }
 
 -- ---- what printing a sheet comes to, where every question before the pass is answered yes and the page is long enough

@@ -58,7 +58,8 @@ module _ {A : Type 0} (f : A → ℕ) (xs : List A) (n : ℕ) (e : n ≡ length 
   front-fits : n ≤ length (onto (map f xs) room)
   front-fits = omega (arith, e, length-map xs f, length-append (map f xs) (drop (length (map f xs)) room))
 
-module _ (s : Sheet) (t : Read) (span : t .span ≡ s .span) (units : t .units ≡ length (s .units)) (rules : t .rules ≡ length (s .rules)) (m : Rooms (List ℕ)) where
+module _ (s : Sheet) (t : Read) (span : t .span ≡ s .span) (units : t .units ≡ length (s .units)) (rules : t .rules ≡ length (s .rules))
+    (m : Rooms (List ℕ)) where
   abbrev left : Rooms (List ℕ)
   left = leaves (read 0 0 0) s m
 

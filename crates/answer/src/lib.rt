@@ -11,8 +11,6 @@ use sheet::Sheet;
 // No answer is longer: the head, a line of 37 bytes for each unit and one of 38 for each slot.
 pub const MAX_ANSWER: usize = 18 + 37 * Sheet::MAX_UNITS + 38 * Sheet::MAX_SLOTS;
 
-const MAX_CELLS: usize = Sheet::MAX_BOUNDARIES * Sheet::MAX_BOUNDARIES;
-
 // The line of a refusal.
 fn refuse(page: &mut [u8; MAX_ANSWER], number: usize, line: usize) -> usize
     requires { ⌜ (number ≤ 14) × (line ≤ maxBytes) ⌝ }
@@ -40,7 +38,7 @@ fn answer_sheet(
 {
     let n = s.units;
     let r = s.rules;
-    let mut table = [0i16; MAX_CELLS];
+    let mut table = [0i16; printer::MAX_CELLS];
     let mut plan = [0u16; Sheet::MAX_UNITS];
     let mut earliest = [0u16; Sheet::MAX_UNITS];
     let mut latest = [0u16; Sheet::MAX_UNITS];

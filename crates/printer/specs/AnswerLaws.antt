@@ -1,21 +1,20 @@
 -- The answer of a sheet, as printing has it in its own arrays: the bytes that the page's definitions give for them are those of the sheet.
 -- Key idea: a finished table's entries beside the diagonal are each slot's greatest and minus its least count; and inside the table of the limits the
 -- entries are the limits, so the lines of a ring are the same for both.
-use mathlib.Core.Path.{_≡_, refl, sym, ap, ap₂, _∙_, subst}
-use mathlib.Core.List.{List, [], _∷_, _++_}
+use mathlib.Core.Path.{_≡_, sym, ap, _∙_}
+use mathlib.Core.List.{List, [], _∷_}
 use Prim.Native.Nat.{ℕ, zero, suc, _+_, _-_, _*_, _≤_, _<_}
 use native.Mathlib.Omega.{arith}
 use native.Mathlib.Numerals.{add-one}
 use lib.Dec.{T}
 use lib.ListN.{length, getD, drop, length-append}
-use lib.IntN.{ℤ, pos, negℤ}
+use lib.IntN.{ℤ, pos}
 use Rattle.integers.specs.Parts.{up, dn, neg}
 use Rattle.lists.specs.Values.{length-listOf}
 use Rattle.network.specs.NetworkLaws.{Upto}
-use Rattle.network.specs.Table.{Passed, finished, entry, tableOf, mostBoundaries}
+use Rattle.network.specs.Table.{finished, entry, tableOf}
 use Rattle.network.specs.TableLaws.{length-tableOf, entry-front}
 use Rattle.network.specs.PassLaws.{finished-kept}
-use Rattle.sheet.specs.Limits.{maxSlots, maxUnits, maxCount}
 use Rattle.sheet.specs.Sheet.{Sheet, top, boundaries, limit, earliest, latest, earliestSlots, latestSlots, printedPlan, leastIn, greatestIn, isRing}
 use Rattle.sheet.specs.PlanLaws.{lawful-iff}
 use Rattle.sheet.specs.Questions.{accepted}

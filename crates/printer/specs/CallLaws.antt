@@ -1,26 +1,26 @@
 -- From planning in arrays of the call's own to what the call leaves.
 -- Key idea: the own arrays say how the pass over the sheet's limits ended, and that alone decides what planning would reply and leave in the rooms lent.
-use mathlib.Core.Path.{_≡_, refl, sym, ap, ap₂, _∙_, subst}
-use mathlib.Core.Bool.{Bool, true, false, _&&_}
-use mathlib.Core.List.{List, [], _∷_, _++_}
-use Prim.Native.Nat.{ℕ, suc, _+_, _-_, _*_, _≤_, _<_}
+use mathlib.Core.Path.{_≡_, refl, sym, ap, _∙_, subst}
+use mathlib.Core.Bool.{Bool, true, false}
+use mathlib.Core.List.{List, []}
+use Prim.Native.Nat.{ℕ, _+_, _*_, _≤_}
 use native.Mathlib.Omega.{arith}
 use lib.Dec.{T}
 use lib.ListN.{length, take, drop}
 use lib.Seq.{take-at}
 use lib.IntN.{ℤ}
 use Rattle.network.specs.Table.{Passed, finished, stopped, outOfRange, cleared, entry}
-use Rattle.sheet.specs.Sheet.{Sheet, printedPlan, earliestSlots, latestSlots, isRing, boundaries}
+use Rattle.sheet.specs.Sheet.{Sheet, printedPlan, earliestSlots, latestSlots, isRing}
 use Rattle.limits.specs.LimitTable.{limitTable}
 use Rattle.sheet.specs.Questions.{accepted}
 use Rattle.planner.specs.EntryLaws.{lengthsOf, entry-refused, entry-solved}
 use Rattle.asking.specs.Asking.{askedNo}
-use Rattle.asking.specs.Questions.{Lists, Rooms, given, lent, places, roomsFit, fitsRooms, passed}
-use Rattle.solving.specs.Planning.{planned, ringed, refused, Verdict, byPass, Left}
+use Rattle.asking.specs.Questions.{Lists, Rooms, given, lent, places, passed}
+use Rattle.solving.specs.Planning.{planned, ringed, refused, byPass, Left}
 use Rattle.solving.specs.declared.Answer.{Answer}
 use Rattle.solving.specs.declared.Answer.the-variants as planning
 use Rattle.page.specs.Page.{tablePage, nonePage}
-use Rattle.printing.specs.Printing.{planBytes, ringBytes, onFront, holds, Outcome, Asked, PrintingOf, Printing}
+use Rattle.printing.specs.Printing.{ringBytes, onFront, holds, Asked, PrintingOf, Printing}
 use Rattle.printer.specs.AnswerLaws.{boundaries-span, table-size, seats-size, firsts-size, lasts-size, plan-bytes, ring-bytes}
 use Rattle.printing.specs.declared.Printed.{Printed}
 use Rattle.printing.specs.declared.Printed.the-variants.{Refused, Plan, None}
@@ -64,7 +64,8 @@ module _ (s : Sheet) (own after : Rooms) where
       go outOfRange h = absurd (omega (arith, ap tag (h .0)))
 
 -- ---- rooms that a part of the call does not see
-with-ring : (b : Bool) (says : ℕ → Printed) (bytes : List ℕ) (t t₁ t₂ : List ℤ) (p p₁ p₂ e e₁ e₂ l l₁ l₂ ring page : List ℕ) (at : ℕ) (reply : Printed) (left : List ℕ)
+with-ring : (b : Bool) (says : ℕ → Printed) (bytes : List ℕ) (t t₁ t₂ : List ℤ) (p p₁ p₂ e e₁ e₂ l l₁ l₂ ring page : List ℕ) (at : ℕ)
+    (reply : Printed) (left : List ℕ)
     → Asked b says bytes (lent t p e l []) (lent t₁ p₁ e₁ l₁ []) page at reply (lent t₂ p₂ e₂ l₂ []) left
     → Asked b says bytes (lent t p e l ring) (lent t₁ p₁ e₁ l₁ ring) page at reply (lent t₂ p₂ e₂ l₂ ring) left
 with-ring true says bytes t t₁ t₂ p p₁ p₂ e e₁ e₂ l l₁ l₂ ring page at reply left o =
@@ -109,7 +110,8 @@ module _ (s : Sheet) (ok : T (accepted s)) (table : List ℤ) (plan earliest lat
         → PrintingOf (byPass (passed s)) s before page at reply (lent table′ plan′ earliest′ latest′ ring) left
     plan-printed t e table′ plan′ earliest′ latest′ o =
         let n = length (s .units) in
-        let rooms : lent (onFront t table) (onFront (printedPlan s) plan) (onFront (earliestSlots s) earliest) (onFront (latestSlots s) latest) ring ≡ planned s t before =
+        let rooms : lent (onFront t table) (onFront (printedPlan s) plan) (onFront (earliestSlots s) earliest) (onFront (latestSlots s) latest) ring
+        ≡ planned s t before =
         rw (table-size s ok t e, seats-size s ok t e, firsts-size s ok t e, lasts-size s ok t e) refl in
         let bytes = tablePage (s .span) (printedPlan s) (earliestSlots s) (latestSlots s) t in
         record {
@@ -117,7 +119,8 @@ module _ (s : Sheet) (ok : T (accepted s)) (table : List ℤ) (plan earliest lat
           planned = planned s t before;
           call = subst (λ p. Left (byPass p) s before planning.Plan (planned s t before)) (sym e) (refl, refl);
           shown =
-              subst (λ bs. Asked (holds page at bs) Plan bs before (planned s t before) page at reply (lent table′ plan′ earliest′ latest′ ring) left) (plan-bytes s ok t e)
+              subst (λ bs. Asked (holds page at bs) Plan bs before (planned s t before) page at reply (lent table′ plan′ earliest′ latest′ ring) left)
+              (plan-bytes s ok t e)
               (subst (λ r. Asked (holds page at bytes) Plan bytes before r page at reply (lent table′ plan′ earliest′ latest′ ring) left) rooms
               (with-ring (holds page at bytes) Plan bytes table (onFront t table) table′ plan (onFront (printedPlan s) plan) plan′ earliest
               (onFront (earliestSlots s) earliest) earliest′ latest (onFront (latestSlots s) latest) latest′ ring page at reply left o));
@@ -142,9 +145,11 @@ module _ (s : Sheet) (ok : T (accepted s)) (table : List ℤ) (plan earliest lat
           planned = ringed s c before;
           call = subst (λ p. Left (byPass p) s before (planning.None (length c)) (ringed s c before)) (sym e) (c, h, refl, refl);
           shown =
-              subst (λ bs. Asked (holds page at bs) (None (length c)) bs before (ringed s c before) page at reply (lent table′ plan earliest latest ring′) left) same
+              subst (λ bs. Asked (holds page at bs) (None (length c)) bs before (ringed s c before) page at reply (lent table′ plan earliest latest ring′) left)
+              same
               (subst (λ r. Asked (holds page at bytes) (None (length c)) bytes before r page at reply (lent table′ plan earliest latest ring′) left) rooms
-              (with-plan (holds page at bytes) (None (length c)) bytes table (cleared (w * w) table) table′ plan earliest latest ring (onFront c ring) ring′ page at reply left o));
+              (with-plan (holds page at bytes) (None (length c)) bytes table (cleared (w * w) table) table′ plan earliest latest ring (onFront c ring) ring′
+              page at reply left o));
         }
 
 -- ---- the questions before the pass

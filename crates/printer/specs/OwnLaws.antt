@@ -1,32 +1,32 @@
 -- Planning in arrays of the call's own, part by part: what each function of the call is asked, and what the call leaves.
-use mathlib.Core.Path.{_≡_, refl, sym, ap, ap₂, _∙_, subst}
-use mathlib.Core.Bool.{Bool, _&&_}
+use mathlib.Core.Path.{_≡_, refl, sym, ap, _∙_, subst}
+use mathlib.Core.Bool.{_&&_}
 use mathlib.Core.List.{List, [], _++_}
-use Prim.Native.Nat.{ℕ, suc, _+_, _*_, _≤_}
+use Prim.Native.Nat.{ℕ, _+_, _*_, _≤_}
 use native.Mathlib.Omega.{arith}
 use native.Mathlib.Nat.{mul-le-mul}
-use lib.Dec.{T, leb, leb→le, le→leb}
-use lib.ListN.{length, take, drop, length-append, length-drop}
-use lib.Seq.{take-at, length-take-le}
-use lib.IntN.{ℤ}
-use Rattle.lists.specs.Members.{both, left, right}
-use Rattle.network.specs.Table.{Passed, finished, stopped, outOfRange, cleared, entry}
+use lib.Dec.{T, leb, le→leb}
+use lib.ListN.{length, take, drop, replicate, length-append}
+use lib.Seq.{take-at}
+use lib.IntN.{ℤ, pos}
+use Rattle.lists.specs.Members.{both}
+use Rattle.network.specs.Table.{finished, stopped, cleared, entry}
 use Rattle.sheet.specs.Limits.{maxUnits}
 use Rattle.sheet.specs.Sheet.{Sheet, top, boundaries, printedPlan, earliestSlots, latestSlots, isRing}
 use Rattle.limits.specs.LimitTable.{limitTable, Fillable}
 use Rattle.sheet.specs.Questions.{accepted, sheetOf}
 use Rattle.sheet.specs.QuestionLaws.{accepted-sized, listsAgree-read}
-use Rattle.asking.specs.Questions.{Lists, Rooms, given, lent, places, roomsFit, fitsRooms, passed}
+use Rattle.asking.specs.Questions.{Lists, Rooms, given, lent, places, roomsFit, passed}
 use Rattle.solving.specs.Planning.{planned, ringed, byPass, Left}
 use Rattle.asking.specs.Asking.{Solvable}
 use Rattle.asking.specs.AskingLaws.{units-length}
-use Rattle.solving.specs.SolvingLaws.{RoomsHold, limits-asked}
+use Rattle.solving.specs.SolvingLaws.{RoomsHold, rooms-hold}
 use Rattle.solving.specs.declared.Answer.{Answer}
 use Rattle.solving.specs.declared.Answer.the-variants as planning
 use Rattle.page.specs.PageBounds.{ring-read}
 use Rattle.page.specs.Page.{Printable, tablePage, RingFits, nonePage}
 use Rattle.printing.specs.Printing.{onFront, holds, Asked, PrintingOf}
-use Rattle.printer.specs.AnswerLaws.{boundaries-span, places-span, table-size, seats-size, firsts-size, lasts-size, plan-printable, ring-printable}
+use Rattle.printer.specs.AnswerLaws.{places-span, table-size, seats-size, firsts-size, lasts-size, plan-printable, ring-printable}
 use Rattle.printer.specs.CallLaws.{refused-left, plan-left, none-left, range-printed, plan-printed, ring-printed}
 use Rattle.printing.specs.declared.Printed.{Printed}
 use Rattle.printing.specs.declared.Printed.the-variants.{Refused, Plan, None}
@@ -38,6 +38,10 @@ ownCells = 2401
 abbrev pub ownBoundaries : ℕ
 ownBoundaries = 49
 
+-- the arrays as the call makes them
+abbrev pub ownRooms : Rooms
+ownRooms = lent (replicate ownCells (pos 0)) (replicate maxUnits 0) (replicate maxUnits 0) (replicate maxUnits 0) (replicate ownBoundaries 0)
+
 -- they hold every accepted sheet
 pub own-fit : (s : Sheet) → T (accepted s) → T (roomsFit s ownCells maxUnits maxUnits maxUnits ownBoundaries)
 unfolding roomsFit top
@@ -46,36 +50,14 @@ own-fit s ok =
     let n = length (s .units) in
     let w : boundaries s ≤ 49 = omega (arith, sized .slots .1) in
     let units = le→leb n maxUnits (sized .units) in
-    both (leb (places s) ownCells) (leb n maxUnits && (leb n maxUnits && (leb n maxUnits && leb (boundaries s) 49))) (le→leb (places s) ownCells (mul-le-mul w w))
+    both (leb (places s) ownCells) (leb n maxUnits && (leb n maxUnits && (leb n maxUnits && leb (boundaries s) 49)))
+    (le→leb (places s) ownCells (mul-le-mul w w))
     (both (leb n maxUnits) (leb n maxUnits && (leb n maxUnits && leb (boundaries s) 49)) units
     (both (leb n maxUnits) (leb n maxUnits && leb (boundaries s) 49) units
     (both (leb n maxUnits) (leb (boundaries s) 49) units (le→leb (boundaries s) 49 w))))
 
-pub own-solvable : (l : Lists) (before own : Rooms) → Solvable l before
-    → length (own .table) ≡ ownCells → length (own .plan) ≡ maxUnits → length (own .earliest) ≡ maxUnits → length (own .latest) ≡ maxUnits
-    → length (own .ring) ≡ ownBoundaries → Solvable l own
-own-solvable l before own S t p e f r =
-    record { lists = S .lists; sheet = S .sheet; rooms = rw (t, p, e, f, r) (own-fit (given l) (S .sheet)) }
-
-rooms-read : (s : Sheet) (r : Rooms) → T (fitsRooms s r) → RoomsHold s r
-unfolding roomsFit
-rooms-read s r h =
-    let n = length (s .units) in
-    let a = leb (places s) (length (r .table)) in
-    let b = leb n (length (r .plan)) in
-    let c = leb n (length (r .earliest)) in
-    let d = leb n (length (r .latest)) in
-    let e = leb (boundaries s) (length (r .ring)) in
-    let h₁ = right a (b && (c && (d && e))) h in
-    let h₂ = right b (c && (d && e)) h₁ in
-    let h₃ = right c (d && e) h₂ in
-    record {
-      table = leb→le (places s) (length (r .table)) (left a (b && (c && (d && e))) h);
-      plan = leb→le n (length (r .plan)) (left b (c && (d && e)) h₁);
-      earliest = leb→le n (length (r .earliest)) (left c (d && e) h₂);
-      latest = leb→le n (length (r .latest)) (left d e h₃);
-      ring = leb→le (boundaries s) (length (r .ring)) (right d e h₃);
-    }
+pub own-solvable : (l : Lists) (before : Rooms) → Solvable l before → Solvable l ownRooms
+own-solvable l before S = record { lists = S .lists; sheet = S .sheet; rooms = own-fit (given l) (S .sheet) }
 
 -- a list in front of a room, taken again
 front-again : {A : Type 0} (n : ℕ) (xs rest room : List A) → length xs ≡ n → room ≡ xs ++ rest → take n room ≡ xs
@@ -109,7 +91,7 @@ module _ (l : Lists) (before : Rooms) (S : Solvable l before) where
   units-are = units-length l (listsAgree-read (l .first) (l .last) (l .from) (l .to) (l .low) (l .high) (S .lists))
 
   lends : RoomsHold s before
-  lends = rooms-read s before (S .rooms)
+  lends = rooms-hold s before (S .rooms)
 
   pub cells-lent : w * w ≤ length (before .table)
   cells-lent = omega (arith, lends .table, cells-are)
@@ -168,7 +150,8 @@ module _ (l : Lists) (before : Rooms) (S : Solvable l before) where
     seats-long = front-long (length (l .first)) (printedPlan s) (drop (length (s .units)) (own .plan)) (after .plan) seats (ap (λ r. r .plan) left-as)
 
     pub firsts-long : length (l .first) ≤ length (after .earliest)
-    firsts-long = front-long (length (l .first)) (earliestSlots s) (drop (length (s .units)) (own .earliest)) (after .earliest) firsts (ap (λ r. r .earliest) left-as)
+    firsts-long =
+        front-long (length (l .first)) (earliestSlots s) (drop (length (s .units)) (own .earliest)) (after .earliest) firsts (ap (λ r. r .earliest) left-as)
 
     pub lasts-long : length (l .first) ≤ length (after .latest)
     lasts-long = front-long (length (l .first)) (latestSlots s) (drop (length (s .units)) (own .latest)) (after .latest) lasts (ap (λ r. r .latest) left-as)
@@ -187,9 +170,11 @@ module _ (l : Lists) (before : Rooms) (S : Solvable l before) where
     late = take (length (l .first)) (after .latest)
 
     pub plan-asked : Printable (l .span) seated early late closed
-        × ((length closed ≤ length (before .table)) × (length seated ≤ length (before .plan)) × (length early ≤ length (before .earliest)) × (length late ≤ length (before .latest)))
+        × ((length closed ≤ length (before .table)) × (length seated ≤ length (before .plan))
+        × (length early ≤ length (before .earliest)) × (length late ≤ length (before .latest)))
     plan-asked = (
-      rw (closed-part, seats-part, firsts-part, lasts-part) (subst (λ p. Printable p (printedPlan s) (earliestSlots s) (latestSlots s) t) span-is (plan-printable s (S .sheet) t halts)),
+      rw (closed-part, seats-part, firsts-part, lasts-part)
+          (subst (λ p. Printable p (printedPlan s) (earliestSlots s) (latestSlots s) t) span-is (plan-printable s (S .sheet) t halts)),
       (
         omega (arith, ap length closed-part, cells, cells-lent),
         omega (arith, ap length seats-part, seats, lends .plan, units-are),
@@ -207,11 +192,12 @@ module _ (l : Lists) (before : Rooms) (S : Solvable l before) where
         → PrintingOf (byPass (passed s)) s before page at out (lent table plan earliest latest (before .ring)) shown
     unfolding sheetOf
     plan-shown page at out shown table plan earliest latest o =
-        plan-printed s (S .sheet) (before .table) (before .plan) (before .earliest) (before .latest) (before .ring) page at out shown t halts table plan earliest latest
-        (rw span-is (rw (closed-part, seats-part, firsts-part, lasts-part) at o))
+        plan-printed s (S .sheet) (before .table) (before .plan) (before .earliest) (before .latest) (before .ring) page at out shown t halts
+        table plan earliest latest (rw span-is (rw (closed-part, seats-part, firsts-part, lasts-part) at o))
 
   -- ---- the part of the own array that a ring is in, and the limits filled in again
-  module _ (own after : Rooms) (c : List ℕ) (h : T (isRing s c)) (stops : passed s ≡ stopped) (left-as : after ≡ ringed s c own) (k : ℕ) (size : k ≡ length c) where
+  module _ (own after : Rooms) (c : List ℕ) (h : T (isRing s c)) (stops : passed s ≡ stopped) (left-as : after ≡ ringed s c own)
+      (k : ℕ) (size : k ≡ length c) where
     pub ring-part : take k (after .ring) ≡ c
     ring-part = front-again k c (drop (length c) (own .ring)) (after .ring) (sym size) (ap (λ r. r .ring) left-as)
 
@@ -231,7 +217,8 @@ module _ (l : Lists) (before : Rooms) (S : Solvable l before) where
           let f = subst (λ p. RingFits (p + 1) (limitTable s cleared-room) c) span-is (ring-printable s (S .sheet) c h cleared-room room-long) in
           (rw (e, ring-part) f, (cells-lent, omega (arith, ap length ring-part, ring-read s c h .few, lends .ring)))
 
-      pub ring-shown : (limits : List ℤ) → limits ≡ limitTable s cleared-room → (page : List ℕ) (at : ℕ) (out : Printed) (shown : List ℕ) (table : List ℤ) (ring : List ℕ)
+      pub ring-shown : (limits : List ℤ) → limits ≡ limitTable s cleared-room
+          → (page : List ℕ) (at : ℕ) (out : Printed) (shown : List ℕ) (table : List ℤ) (ring : List ℕ)
           → (let found = take k (after .ring) in
           let bytes = nonePage (entry w limits) found in
           Asked (holds page at bytes) (None (length found)) bytes (lent (before .table) [] [] [] (before .ring))

@@ -2,43 +2,27 @@
 -- `call` is what the entry `print` ensures of every call: `Printing`, in Printing.antt. With `call .call` the conditions of planning hold of its reply and
 -- rooms, `call .answer` and `call .planned`.
 use mathlib.Core.Path.{_≡_, refl, sym, ap, _∙_, subst}
-use mathlib.Core.Logic.{_⊎_, inl, inr, ⊎-elim}
+use mathlib.Core.Logic.{_⊎_, inl, inr}
 use mathlib.Core.Bool.{Bool, true, false}
 use mathlib.Core.List.{List, [], _∷_, _++_}
-use Prim.Native.Nat.{ℕ, zero, suc, _+_, _-_, _≤_}
+use Prim.Native.Nat.{ℕ, _+_, _-_, _≤_}
 use native.Mathlib.Omega.{arith}
-use lib.Dec.{T, leb}
-use lib.ListN.{length, getD, take, drop}
-use lib.Seq.{take-at}
-use borrow.Author.Tests.{leb-true, le-leb}
+use lib.ListN.{length, getD, take}
+use borrow.Author.Tests.{leb-true}
 use Rattle.lists.specs.Members.{In}
 use Rattle.sheet.specs.Sheet.{Sheet, limit, leastIn, greatestIn, printedPlan, earliestSlots, latestSlots}
 use Rattle.asking.specs.Questions.{Lists, Rooms, given, refusal}
-use Rattle.solving.specs.Planning.{verdict, Left, numberOf as planningNumber}
-use Rattle.solving.specs.PlanningLaws.{no-refusal}
-use Rattle.planner.specs.ConditionLaws.{call-answered}
+use Rattle.solving.specs.Planning.{numberOf as planningNumber}
 use Rattle.planner.specs.Conditions.{number-is-first-no}
 use Rattle.solving.specs.declared.Answer.{Answer}
 use Rattle.solving.specs.declared.Answer.the-variants as planning
-use Rattle.writing.specs.Writing.{onto, Room, Written}
-use Rattle.page.specs.Page.{maxPage}
-use Rattle.page.specs.PageBounds.{plan-short, none-short}
-use Rattle.page.specs.PageLines.{Said, plan, unit, slot, none, shortfall, readLines, answerOn, unitLinesWith, ringSaid}
-use Rattle.page.specs.PageLinesLaws.{plan-read, slot-line-true, unit-line-true, none-read, answer-read}
+use Rattle.writing.specs.Writing.{Room, Written}
+use Rattle.page.specs.PageLines.{unit, slot, none, shortfall, readLines, answerOn, unitLinesWith, ringSaid}
+use Rattle.page.specs.PageLinesLaws.{slot-line-true, unit-line-true, none-read, answer-read}
 use Rattle.page.specs.Page.{shortfallOf}
-use Rattle.printing.specs.Printing.{planBytes, ringBytes, holds, numberOf, Outcome, Asked, Shown, Printing}
+use Rattle.printing.specs.Printing.{planBytes, ringBytes, holds, numberOf, Asked, Shown, Printing}
 use Rattle.printing.specs.declared.Printed.{Printed}
 use Rattle.printing.specs.declared.Printed.the-variants.{Refused, Plan, None}
-
-abbrev tag : Answer → ℕ
-tag (planning.Refused n) = 0
-tag planning.Plan = 1
-tag (planning.None k) = 2
-
-abbrev tag-number : Answer → ℕ
-tag-number (planning.Refused n) = n
-tag-number planning.Plan = 0
-tag-number (planning.None k) = k
 
 abbrev kind : Printed → ℕ
 kind (Refused n) = 0
@@ -102,15 +86,18 @@ module _ (l : Lists) (before : Rooms) (page : List ℕ) (at : ℕ) (reply : Prin
         → (c ≡ unitLinesWith t (answerOn left at next)) × (lo ≡ leastIn s t t) × (hi ≡ greatestIn s t t)
     unfolding planBytes
     slot-lines t c lo hi m =
-        let r = slot-line-true (s .span) (printedPlan s) (earliestSlots s) (latestSlots s) (λ t. leastIn s t t) (λ t. greatestIn s t t) t c lo hi (subst (In (slot t c lo hi)) lines-are m) in
+        let stands = subst (In (slot t c lo hi)) lines-are m in
+        let r = slot-line-true (s .span) (printedPlan s) (earliestSlots s) (latestSlots s) (λ t. leastIn s t t) (λ t. greatestIn s t t) t c lo hi stands in
         (r .0 ∙ ap (unitLinesWith t) (sym lines-are), r .1, r .2)
 
     -- On each unit line stand the unit's slot in the printed plan and its narrowed window.
     pub unit-lines : (u x e f : ℕ) → In (unit u x e f) (answerOn left at next)
-        → (1 ≤ u) × (u ≤ length (printedPlan s)) × (x ≡ getD (printedPlan s) (u - 1) 0) × (e ≡ getD (earliestSlots s) (u - 1) 0) × (f ≡ getD (latestSlots s) (u - 1) 0)
+        → (1 ≤ u) × (u ≤ length (printedPlan s)) × (x ≡ getD (printedPlan s) (u - 1) 0)
+        × (e ≡ getD (earliestSlots s) (u - 1) 0) × (f ≡ getD (latestSlots s) (u - 1) 0)
     unfolding planBytes
     unit-lines u x e f m =
-        unit-line-true (s .span) (printedPlan s) (earliestSlots s) (latestSlots s) (λ t. leastIn s t t) (λ t. greatestIn s t t) u x e f (subst (In (unit u x e f)) lines-are m)
+        unit-line-true (s .span) (printedPlan s) (earliestSlots s) (latestSlots s) (λ t. leastIn s t t) (λ t. greatestIn s t t) u x e f
+        (subst (In (unit u x e f)) lines-are m)
 
   -- ---- none
   module _ (k next : ℕ) (none? : reply ≡ None k next) where
@@ -123,10 +110,11 @@ module _ (l : Lists) (before : Rooms) (page : List ℕ) (at : ℕ) (reply : Prin
         not-plan true o = omega (arith, ap kind (sym none? ∙ o .replied))
         not-plan false o = omega (arith, ap kind (sym none? ∙ o .replied))
     ring-stands′ (planning.None j) planned o =
-        let same : j ≡ k = which (holds page at (ringBytes s (take j (planned .ring)))) o in (
+        let bytes : ℕ → List ℕ = λ i. ringBytes s (take i (planned .ring)) in
+        let same : j ≡ k = which (holds page at (bytes j)) o in (
           ap planning.None same,
-          stands (ringBytes s (take k (planned .ring))) before planned page at reply after left (None k) (λ m. refl) (λ n e. omega (arith, ap kind e)) next none?
-              (subst (λ i. Asked (holds page at (ringBytes s (take i (planned .ring)))) (None i) (ringBytes s (take i (planned .ring))) before planned page at reply after left) same o),
+          stands (bytes k) before planned page at reply after left (None k) (λ m. refl) (λ n e. omega (arith, ap kind e)) next none?
+              (subst (λ i. Asked (holds page at (bytes i)) (None i) (bytes i) before planned page at reply after left) same o),
         )
       where
         which : (b : Bool) → Asked b (None j) (ringBytes s (take j (planned .ring))) before planned page at reply after left → j ≡ k
@@ -164,35 +152,3 @@ module _ (l : Lists) (before : Rooms) (page : List ℕ) (at : ℕ) (reply : Prin
       go (planning.None k) planned e o =
           let bytes = ringBytes s (take k (planned .ring)) in
           asked (holds page at bytes) (None k) bytes planned (λ n. refl) e o
-
-  -- A page with maxPage places from its running place on is never refused.
-  pub long-page : at + maxPage ≤ length page → numberOf reply ≡ refusal l before
-  unfolding planBytes ringBytes
-  long-page h = go (refusal l before) refl
-    where
-      held : (says : ℕ → Printed) (bytes : List ℕ) (planned : Rooms) → ((n : ℕ) → numberOf (says n) ≡ 0) → 0 ≡ refusal l before → length bytes ≤ maxPage
-          → Asked (holds page at bytes) says bytes before planned page at reply after left → numberOf reply ≡ refusal l before
-      held says bytes planned zeroes e short o =
-          let f : Asked true says bytes before planned page at reply after left =
-          subst (λ b. Asked b says bytes before planned page at reply after left) (le-leb (at + length bytes) (length page) (omega arith)) o in
-          ap numberOf (f .replied) ∙ zeroes (at + length bytes) ∙ e
-
-      answered : (a : Answer) (planned : Rooms) → refusal l before ≡ 0 → Left (verdict l before) s before a planned → Shown a s before planned page at reply after left
-          → numberOf reply ≡ refusal l before
-      answered (planning.Refused n) planned e c o = ap numberOf (o .replied) ∙ number-is-first-no l before (planning.Refused n) planned c
-      answered planning.Plan planned e c o =
-          held Plan (planBytes s) planned (λ n. refl) (sym e) (plan-short s (no-refusal l before e .sheet)) o
-      answered (planning.None k) planned e c o =
-          ⊎-elim (λ p. absurd (omega (arith, ap tag (p .is))))
-          (λ r.
-          let size : k ≡ length (r .ring) = ap tag-number (r .is) in
-          let found : take k (planned .ring) ≡ r .ring =
-          ap (λ i. take i (planned .ring)) size ∙ ap (λ (q : Rooms). take (length (r .ring)) (q .ring)) (r .left)
-          ∙ take-at (r .ring) (drop (length (r .ring)) (before .ring)) (length (r .ring)) refl in
-          held (None k) (ringBytes s (take k (planned .ring))) planned (λ n. refl) (sym e)
-          (subst (λ c. length (ringBytes s c) ≤ maxPage) (sym found) (none-short s (no-refusal l before e .sheet) (r .ring) (r .closed))) o)
-          (call-answered l before (planning.None k) planned c e)
-
-      go : (n : ℕ) → refusal l before ≡ n → numberOf reply ≡ refusal l before
-      go zero e = answered (call .answer) (call .planned) e (call .call) (call .shown)
-      go (suc n) e = ⊎-elim (λ f. f) (λ q. absurd (omega (arith, q .0))) refusals

@@ -4,6 +4,10 @@ ghost use Rattle.asking.specs.Asking.{Solvable};
 ghost use Rattle.solving.specs.Planning.{byPass};
 ghost use Rattle.printing.specs.Printing.{PrintingOf, Printing};
 use printing::Printed;
+use sheet::Sheet;
+
+// The entries of the largest table.
+pub const MAX_CELLS: usize = Sheet::MAX_BOUNDARIES * Sheet::MAX_BOUNDARIES;
 
 // A sheet of which every question before the pass is answered yes. It is planned in arrays of this call's own: a refusal by 15 changes nothing.
 fn print_solved(
@@ -30,11 +34,11 @@ fn print_solved(
         (lent (now (table .entry)) (now (plan .entry)) (now (earliest .entry)) (now (latest .entry)) (now (ring .entry))) (now (page .entry)) at r
         (lent (now (table .exit)) (now (plan .exit)) (now (earliest .exit)) (now (latest .exit)) (now (ring .exit))) (now (page .exit)) ⌝ }
 {
-    let mut closed = [0i16; 2401];
-    let mut seats = [0u16; 300];
-    let mut firsts = [0u16; 300];
-    let mut lasts = [0u16; 300];
-    let mut found = [0u16; 49];
+    let mut closed = [0i16; MAX_CELLS];
+    let mut seats = [0u16; Sheet::MAX_UNITS];
+    let mut firsts = [0u16; Sheet::MAX_UNITS];
+    let mut lasts = [0u16; Sheet::MAX_UNITS];
+    let mut found = [0u16; Sheet::MAX_BOUNDARIES];
     let answer = solving::solve(
         span,
         first,

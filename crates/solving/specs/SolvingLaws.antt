@@ -133,7 +133,7 @@ pub record RoomsHold (s : Sheet) (r : Rooms) : Type 0 where
   pub latest : length (s .units) ≤ length (r .latest)
   pub ring : boundaries s ≤ length (r .ring)
 
-rooms-hold : (s : Sheet) (r : Rooms) → T (fitsRooms s r) → RoomsHold s r
+pub rooms-hold : (s : Sheet) (r : Rooms) → T (fitsRooms s r) → RoomsHold s r
 unfolding roomsFit
 rooms-hold s r h =
     let n = length (s .units) in

@@ -20,20 +20,22 @@ sizes : sizesOf empty ≡ roomsForAll
 sizes = refl
 
 -- from what reading answered back to the call, and to the start
-abbrev called : tie.After-reading → tie.After-read
-called c = c .before .before .before .before .before .before .before .before
+abbrev refused-call : tie.After-reading → tie.After-read
+refused-call c = c .before .before .before .before .before .before .before .before
 
-abbrev called-2 : tie.After-reading2 → tie.After-read
-called-2 c = c .before .before .before .before .before .before .before .before
+abbrev sheet-call : tie.After-reading2 → tie.After-read
+sheet-call c = c .before .before .before .before .before .before .before .before
 
 abbrev input : tie.After-read → List ℕ
 input c = now (c .before .before .before .before .before .before .before .before .args .text)
 
-refused-told : (c : tie.After-reading) → refused (c .reading .given .0 .0 .number) (c .reading .given .0 .0 .line) ≡ reading (input (called c)) (sizesOf empty)
-refused-told c = sym (ap answerOf (c .reading .given .1)) ∙ called c .read .ensures .0
+refused-told : (c : tie.After-reading)
+    → refused (c .reading .given .0 .0 .number) (c .reading .given .0 .0 .line) ≡ reading (input (refused-call c)) (sizesOf empty)
+refused-told c = sym (ap answerOf (c .reading .given .1)) ∙ refused-call c .read .ensures .0
 
-read-told : (c : tie.After-reading2) → let s = c .reading2 .given .0 .0 in read (s .span) (s .units) (s .rules) ≡ reading (input (called-2 c)) (sizesOf empty)
-read-told c = sym (ap answerOf (c .reading2 .given .1)) ∙ called-2 c .read .ensures .0
+read-told : (c : tie.After-reading2)
+    → let s = c .reading2 .given .0 .0 in read (s .span) (s .units) (s .rules) ≡ reading (input (sheet-call c)) (sizesOf empty)
+read-told c = sym (ap answerOf (c .reading2 .given .1)) ∙ sheet-call c .read .ensures .0
 
 slice-aggregate-read : tie.Need-slice-aggregate-read
 slice-aggregate-read c = search needs
@@ -61,7 +63,7 @@ enum-known-reading c = search needs
 
 refuse-requires : tie.Need-refuse-requires
 refuse-requires c κs =
-    let r = refused-small (input (called (c .before .before))) empty sizes _ _ (refused-told (c .before .before)) in
+    let r = refused-small (input (refused-call (c .before .before))) empty sizes _ _ (refused-told (c .before .before)) in
     (omega (arith, r .0), omega (arith, r .1))
 
 enum-known-reading-2 : tie.Need-enum-known-reading-2
@@ -88,17 +90,17 @@ slice-aggregate-answer-sheet-6 c = search needs
 answer-sheet-requires : tie.Need-answer-sheet-requires
 answer-sheet-requires c κs =
     let d = c .before .before .before .before .before .before .before .before in
-    read-held (input (called-2 d)) empty sizes _ (read-told d) _ (called-2 d .read .ensures .1)
+    read-held (input (sheet-call d)) empty sizes _ (read-told d) _ (sheet-call d .read .ensures .1)
 
 returns : tie.Need-returns
 returns c =
     let d = c .before .before .before in
-    refusal-answered _ (refused-answer (input (called d)) empty sizes _ _ (refused-told d)) refl (c .refuse .ensures)
+    refusal-answered _ (refused-answer (input (refused-call d)) empty sizes _ _ (refused-told d)) refl (c .refuse .ensures)
 
 returns-2 : tie.Need-returns-2
 returns-2 c =
     let d = c .before .before .before .before .before .before .before .before .before in
-    read-answered (input (called-2 d)) empty sizes _ (read-told d) _ (called-2 d .read .ensures .1) _ _ _ (c .answer-sheet .ensures)
+    read-answered (input (sheet-call d)) empty sizes _ (read-told d) _ (sheet-call d .read .ensures .1) _ _ _ (c .answer-sheet .ensures)
 
 pub answer-spec : {M : Type 1} → statement M
 answer-spec =

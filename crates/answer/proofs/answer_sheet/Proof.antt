@@ -11,7 +11,8 @@ use Rattle.asking.specs.Questions.{given}
 use Rattle.printing.specs.declared.Printed.the-variants.{Refused, Plan, None}
 use Rattle.answer.specs.Answer.{refusedLine, AnswerToSheet, Answered}
 use Rattle.answer.specs.Fronts.{fronts}
-use Rattle.answer.specs.AnswerLaws.{held-solvable, planningRooms, print-refused, print-plan, print-none, refusal-answered}
+use Rattle.printer.specs.OwnLaws.{ownRooms}
+use Rattle.answer.specs.AnswerLaws.{held-solvable, print-refused, print-plan, print-none, refusal-answered}
 use borrow.Author.Needs.{needs}
 use Rattle.answer.proofs.answer_sheet.Statement.{statement}
 use Rattle.answer.proofs.answer_sheet.Tie as tie
@@ -40,17 +41,17 @@ module _ (c : tie.After-print) where
 
   refused-is : (n : ℕ) → c .print .result ≡ Refused n → (n ≡ 14) × (left ≡ now (begun .args .page)) × AnswerToSheet sheet (refusedLine n 0)
   refused-is =
-      print-refused (fronts (begun .args .s) (lists begun)) planningRooms (held-solvable _ _ (begun .pre)) (now (begun .args .page))
+      print-refused (fronts (begun .args .s) (lists begun)) ownRooms (held-solvable _ _ (begun .pre)) (now (begun .args .page))
       (omega (arith, c .before .print-arg7 .given .0 .1)) (c .print .result) _ left (c .print .ensures)
 
   plan-is : (next : ℕ) → c .print .result ≡ Plan next → Answered (AnswerToSheet sheet) (now (begun .args .page)) left next
   plan-is =
-      print-plan (fronts (begun .args .s) (lists begun)) planningRooms (held-solvable _ _ (begun .pre)) (now (begun .args .page))
+      print-plan (fronts (begun .args .s) (lists begun)) ownRooms (held-solvable _ _ (begun .pre)) (now (begun .args .page))
       (omega (arith, c .before .print-arg7 .given .0 .1)) (c .print .result) _ left (c .print .ensures)
 
   none-is : (k next : ℕ) → c .print .result ≡ None k next → Answered (AnswerToSheet sheet) (now (begun .args .page)) left next
   none-is =
-      print-none (fronts (begun .args .s) (lists begun)) planningRooms (held-solvable _ _ (begun .pre)) (now (begun .args .page))
+      print-none (fronts (begun .args .s) (lists begun)) ownRooms (held-solvable _ _ (begun .pre)) (now (begun .args .page))
       (omega (arith, c .before .print-arg7 .given .0 .1)) (c .print .result) _ left (c .print .ensures)
 
 slice-aggregate-print : tie.Need-slice-aggregate-print
@@ -94,7 +95,8 @@ enum-known-printed c = search needs
 
 refuse-requires : tie.Need-refuse-requires
 refuse-requires c κs =
-    let r = refused-is (c .before .before .before .before .before .before .before .before .before) (c .before .before .printed .given .0 .0) (c .before .before .printed .given .1) in
+    let told = c .before .before .printed .given in
+    let r = refused-is (c .before .before .before .before .before .before .before .before .before) (told .0 .0) (told .1) in
     (omega (arith, r .0), omega arith)
 
 enum-known-printed-2 : tie.Need-enum-known-printed-2
@@ -105,7 +107,8 @@ enum-known-printed-3 c = search needs
 
 returns : tie.Need-returns
 returns c =
-    let r = refused-is (c .before .before .before .before .before .before .before .before .before .before) (c .before .before .before .printed .given .0 .0) (c .before .before .before .printed .given .1) in
+    let told = c .before .before .before .printed .given in
+    let r = refused-is (c .before .before .before .before .before .before .before .before .before .before) (told .0 .0) (told .1) in
     refusal-answered (refusedLine (c .before .before .before .printed .given .0 .0) 0) (r .2) (r .1) (c .refuse .ensures)
 
 returns-2 : tie.Need-returns-2

@@ -30,7 +30,8 @@ after-one : (c : tie.After-put-pair) → PendingOf (c .before .before .before) (
 unfolding text
 after-one c = pending-after (pending-pair (after-none (c .before .before))) (c .put-pair .ensures)
 
-after-two : (c : tie.After-put-pair2) → PendingOf (c .before .before .before .before .before .before) (c .put-pair2 .last .0) (c .put-pair2 .result) (text "))\n" ∷ [])
+after-two : (c : tie.After-put-pair2)
+    → PendingOf (c .before .before .before .before .before .before) (c .put-pair2 .last .0) (c .put-pair2 .result) (text "))\n" ∷ [])
 unfolding text
 after-two c = pending-after (pending-pair (after-one (c .before .before .before))) (c .put-pair2 .ensures)
 

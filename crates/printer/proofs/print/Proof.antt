@@ -17,38 +17,59 @@ before c =
     let a = c .args in
     lent (now (a .table)) (now (a .plan)) (now (a .earliest)) (now (a .latest)) (now (a .ring))
 
+-- back to the start, from where no question was answered no
+abbrev start : tie.Then1 → tie.Start
+start c = c .before .before .before .before .before .before .before .before .before .before .before .before .before
+
 ask-requires : tie.Need-ask-requires
 ask-requires c κs = tt
 
 print-solved-requires : tie.Need-print-solved-requires
-print-solved-requires c κs = entry-solvable (lists (c .before .before .before .before .before .before .before .before .before .before .before .before .before .before .before .before .before .before .before)) (before (c .before .before .before .before .before .before .before .before .before .before .before .before .before .before .before .before .before .before .before)) (sym (c .before .before .before .before .before .before .if1 .taken) ∙ c .before .before .before .before .before .before .before .ask .ensures)
+print-solved-requires c κs =
+    let p : tie.Then1 = c .before .before .before .before .before .before in
+    entry-solvable (lists (start p)) (before (start p)) (sym (p .if1 .taken) ∙ p .before .ask .ensures)
 
 same-length : tie.Need-same-length
-same-length c = c .before .before .before .before .before .before .before .before .before .before .before .print-solved .kept .1 .1 .1 .1 .1 .1 .1 .0
+same-length c =
+    let rooms = c .before .before .before .before .before .before .before .before .before .before .before .print-solved .kept .1 .1 .1 .1 .1 .1 .1 in
+    rooms .0
 
 same-length-2 : tie.Need-same-length-2
-same-length-2 c = c .before .before .before .before .before .before .before .before .before .before .before .print-solved .kept .1 .1 .1 .1 .1 .1 .1 .1 .0
+same-length-2 c =
+    let rooms = c .before .before .before .before .before .before .before .before .before .before .before .print-solved .kept .1 .1 .1 .1 .1 .1 .1 in
+    rooms .1 .0
 
 same-length-3 : tie.Need-same-length-3
-same-length-3 c = c .before .before .before .before .before .before .before .before .before .before .before .print-solved .kept .1 .1 .1 .1 .1 .1 .1 .1 .1 .0
+same-length-3 c =
+    let rooms = c .before .before .before .before .before .before .before .before .before .before .before .print-solved .kept .1 .1 .1 .1 .1 .1 .1 in
+    rooms .1 .1 .0
 
 same-length-4 : tie.Need-same-length-4
-same-length-4 c = c .before .before .before .before .before .before .before .before .before .before .before .print-solved .kept .1 .1 .1 .1 .1 .1 .1 .1 .1 .1 .0
+same-length-4 c =
+    let rooms = c .before .before .before .before .before .before .before .before .before .before .before .print-solved .kept .1 .1 .1 .1 .1 .1 .1 in
+    rooms .1 .1 .1 .0
 
 same-length-5 : tie.Need-same-length-5
-same-length-5 c = c .before .before .before .before .before .before .before .before .before .before .before .print-solved .kept .1 .1 .1 .1 .1 .1 .1 .1 .1 .1 .1 .0
+same-length-5 c =
+    let rooms = c .before .before .before .before .before .before .before .before .before .before .before .print-solved .kept .1 .1 .1 .1 .1 .1 .1 in
+    rooms .1 .1 .1 .1 .0
 
 same-length-6 : tie.Need-same-length-6
-same-length-6 c = c .before .before .before .before .before .before .before .before .before .before .before .print-solved .kept .1 .1 .1 .1 .1 .1 .1 .1 .1 .1 .1 .1 .0
+same-length-6 c =
+    let rooms = c .before .before .before .before .before .before .before .before .before .before .before .print-solved .kept .1 .1 .1 .1 .1 .1 .1 in
+    rooms .1 .1 .1 .1 .1 .0
 
 returns : tie.Need-returns
 returns c =
-    let s = c .before .before .before .before .before .before .before .before .before .before .before .before .before .before .before .before .before .before .before .before .before .before .before .before .before .before .before .before .before .before .before in
-    solved-printed (lists s) (before s) (now (s .args .page)) (s .args .at) (sym (c .before .before .before .before .before .before .before .before .before .before .before .before .before .before .before .before .before .before .if1 .taken) ∙ c .before .before .before .before .before .before .before .before .before .before .before .before .before .before .before .before .before .before .before .ask .ensures) _ _ _ (c .before .before .before .before .before .before .before .before .before .before .before .print-solved .ensures)
+    let printed = c .before .before .before .before .before .before .before .before .before .before .before in
+    let p : tie.Then1 = printed .before .before .before .before .before .before .before in
+    let s = start p in
+    solved-printed (lists s) (before s) (now (s .args .page)) (s .args .at) (sym (p .if1 .taken) ∙ p .before .ask .ensures) _ _ _
+    (printed .print-solved .ensures)
 
 returns-2 : tie.Need-returns-2
 returns-2 c =
-    let s = c .before .before .before .before .before .before .before .before .before .before .before .before .before in
+    let s : tie.Start = c .before .before .before .before .before .before .before .before .before .before .before .before .before in
     refused-printed (lists s) (before s) (now (s .args .page)) (s .args .at) (c .before .ask .result) (c .before .ask .ensures) (c .if1 .left)
 
 pub print-spec : {M : Type 1} → statement M
