@@ -1,6 +1,6 @@
 -- One cut for all windows that open in one slot.
 -- Key idea: a window that closes no later has fewer arcs, so what the longest marked window admits, every other that reaches to the cut admits too.
-use mathlib.Core.Path.{_≡_, sym, subst}
+use mathlib.Core.Path.{_≡_, subst}
 use mathlib.Core.List.{List}
 use Prim.Native.Nat.{ℕ, _-_, _≤_, _<_, min}
 use native.Mathlib.Omega.{arith}
