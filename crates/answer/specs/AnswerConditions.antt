@@ -5,14 +5,14 @@ use mathlib.Core.Path.{_≡_, refl, sym, ap, _∙_, subst}
 use mathlib.Core.Logic.{_↔_}
 use mathlib.Core.Bool.{Bool, _&&_, not}
 use mathlib.Core.List.{List}
-use Prim.Native.Nat.{ℕ, _≤_}
+use Prim.Native.Nat.{ℕ, _-_, _≤_}
 use native.Mathlib.Omega.{arith}
 use lib.Dec.{T, eqb}
 use lib.ListN.{length, getD}
 use Rattle.lists.specs.Lists.{fromTo, every}
-use Rattle.lists.specs.Members.{within-iff, in-fromTo, every-in}
+use Rattle.lists.specs.Members.{In, within-iff, in-fromTo, every-in}
 use Rattle.network.specs.Table.{Passed, finished, stopped, outOfRange, entry}
-use Rattle.sheet.specs.Sheet.{Sheet, lawful, isRing, boundaries}
+use Rattle.sheet.specs.Sheet.{Sheet, lawful, isRing, boundaries, leastIn, greatestIn, printedPlan, earliestSlots, latestSlots}
 use Rattle.sheet.specs.Questions.{accepted}
 use Rattle.sheet.specs.QuestionLaws.{accepted-valid}
 use Rattle.seating.specs.RangeLaws.{solved-plan}
@@ -24,6 +24,8 @@ use Rattle.solving.specs.PlanningLaws.{passed-solved, stopped-unlawful}
 use Rattle.writing.specs.Writing.{text, digits, digitsWithin, planHead}
 use Rattle.page.specs.Page.{planPage, nonePage, maxPage}
 use Rattle.page.specs.PageBounds.{plan-short, none-short}
+use Rattle.page.specs.PageLines.{slot, unit, readLines, unitLinesWith}
+use Rattle.page.specs.PageLinesLaws.{slot-line-true, unit-line-true}
 use Rattle.printing.specs.Printing.{planBytes, ringBytes}
 use Rattle.answer.specs.Answer.{refusedLine, ByPass, ByReading, AnswerTo}
 use Rattle.answer.specs.AnswerLaws.{refused-short}
@@ -123,3 +125,25 @@ module _ (input bytes : List ℕ) (a : AnswerTo input bytes) (all-yes : firstNo 
           absurd (none (x .0) (x .1))
       go stopped e b = b
       go outOfRange e b = absurd (in-range b)
+
+  -- On the page of a plan, read back as lines,
+  module _ (planned : bytes ≡ planBytes s) where
+    -- each slot line has the number of unit lines with that slot, and the least and the greatest over lawful plans;
+    pub slot-lines : (t c lo hi : ℕ) → In (slot t c lo hi) (readLines bytes)
+        → (c ≡ unitLinesWith t (readLines bytes)) × (lo ≡ leastIn s t t) × (hi ≡ greatestIn s t t)
+    unfolding planBytes
+    slot-lines t c lo hi =
+        subst (λ b. In (slot t c lo hi) (readLines b) → (c ≡ unitLinesWith t (readLines b)) × (lo ≡ leastIn s t t) × (hi ≡ greatestIn s t t)) (sym planned)
+        (slot-line-true (s .span) (printedPlan s) (earliestSlots s) (latestSlots s) (λ t. leastIn s t t) (λ t. greatestIn s t t) t c lo hi)
+
+    -- each unit line has the unit's slot in the printed plan, and its narrowed window.
+    pub unit-lines : (u x e f : ℕ) → In (unit u x e f) (readLines bytes)
+        → (1 ≤ u) × (u ≤ length (printedPlan s)) × (x ≡ getD (printedPlan s) (u - 1) 0)
+        × (e ≡ getD (earliestSlots s) (u - 1) 0) × (f ≡ getD (latestSlots s) (u - 1) 0)
+    unfolding planBytes
+    unit-lines u x e f =
+        subst
+        (λ b. In (unit u x e f) (readLines b) → (1 ≤ u) × (u ≤ length (printedPlan s)) × (x ≡ getD (printedPlan s) (u - 1) 0)
+        × (e ≡ getD (earliestSlots s) (u - 1) 0) × (f ≡ getD (latestSlots s) (u - 1) 0))
+        (sym planned)
+        (unit-line-true (s .span) (printedPlan s) (earliestSlots s) (latestSlots s) (λ t. leastIn s t t) (λ t. greatestIn s t t) u x e f)
