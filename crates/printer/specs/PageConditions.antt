@@ -2,27 +2,41 @@
 -- `call` is what the entry `print` ensures of every call: `Printing`, in Printing.antt. With `call .call` the conditions of planning hold of its reply and
 -- rooms, `call .answer` and `call .planned`.
 use mathlib.Core.Path.{_≡_, refl, sym, ap, _∙_, subst}
-use mathlib.Core.Logic.{_⊎_, inl, inr}
+use mathlib.Core.Logic.{_⊎_, inl, inr, ⊎-elim}
 use mathlib.Core.Bool.{Bool, true, false}
 use mathlib.Core.List.{List, [], _∷_, _++_}
-use Prim.Native.Nat.{ℕ, _+_, _-_, _≤_}
+use Prim.Native.Nat.{ℕ, zero, suc, _+_, _-_, _≤_}
 use native.Mathlib.Omega.{arith}
-use lib.ListN.{length, getD, take}
-use borrow.Author.Tests.{leb-true}
+use lib.ListN.{length, getD, take, drop}
+use lib.Seq.{take-at}
+use borrow.Author.Tests.{leb-true, le-leb}
 use Rattle.lists.specs.Members.{In}
 use Rattle.sheet.specs.Sheet.{Sheet, limit, leastIn, greatestIn, printedPlan, earliestSlots, latestSlots}
 use Rattle.asking.specs.Questions.{Lists, Rooms, given, refusal}
-use Rattle.solving.specs.Planning.{numberOf as planningNumber}
+use Rattle.solving.specs.Planning.{verdict, Left, numberOf as planningNumber}
+use Rattle.solving.specs.PlanningLaws.{no-refusal}
+use Rattle.planner.specs.ConditionLaws.{call-answered}
 use Rattle.planner.specs.Conditions.{number-is-first-no}
 use Rattle.solving.specs.declared.Answer.{Answer}
 use Rattle.solving.specs.declared.Answer.the-variants as planning
 use Rattle.writing.specs.Writing.{Room, Written}
 use Rattle.page.specs.PageLines.{unit, slot, none, shortfall, readLines, answerOn, unitLinesWith, ringSaid}
 use Rattle.page.specs.PageLinesLaws.{slot-line-true, unit-line-true, none-read, answer-read}
-use Rattle.page.specs.Page.{shortfallOf}
+use Rattle.page.specs.Page.{shortfallOf, maxPage}
+use Rattle.page.specs.PageBounds.{plan-short, none-short}
 use Rattle.printing.specs.Printing.{planBytes, ringBytes, holds, numberOf, Asked, Shown, Printing}
 use Rattle.printing.specs.declared.Printed.{Printed}
 use Rattle.printing.specs.declared.Printed.the-variants.{Refused, Plan, None}
+
+abbrev tag : Answer → ℕ
+tag (planning.Refused n) = 0
+tag planning.Plan = 1
+tag (planning.None k) = 2
+
+abbrev tag-number : Answer → ℕ
+tag-number (planning.Refused n) = n
+tag-number planning.Plan = 0
+tag-number (planning.None k) = k
 
 abbrev kind : Printed → ℕ
 kind (Refused n) = 0
@@ -152,3 +166,35 @@ module _ (l : Lists) (before : Rooms) (page : List ℕ) (at : ℕ) (reply : Prin
       go (planning.None k) planned e o =
           let bytes = ringBytes s (take k (planned .ring)) in
           asked (holds page at bytes) (None k) bytes planned (λ n. refl) e o
+
+  -- A page with maxPage places from its running place on is never refused by 15.
+  pub long-page : at + maxPage ≤ length page → numberOf reply ≡ refusal l before
+  unfolding planBytes ringBytes
+  long-page h = go (refusal l before) refl
+    where
+      held : (says : ℕ → Printed) (bytes : List ℕ) (planned : Rooms) → ((n : ℕ) → numberOf (says n) ≡ 0) → 0 ≡ refusal l before → length bytes ≤ maxPage
+          → Asked (holds page at bytes) says bytes before planned page at reply after left → numberOf reply ≡ refusal l before
+      held says bytes planned zeroes e short o =
+          let f : Asked true says bytes before planned page at reply after left =
+          subst (λ b. Asked b says bytes before planned page at reply after left) (le-leb (at + length bytes) (length page) (omega arith)) o in
+          ap numberOf (f .replied) ∙ zeroes (at + length bytes) ∙ e
+
+      answered : (a : Answer) (planned : Rooms) → refusal l before ≡ 0 → Left (verdict l before) s before a planned
+          → Shown a s before planned page at reply after left → numberOf reply ≡ refusal l before
+      answered (planning.Refused n) planned e c o = ap numberOf (o .replied) ∙ number-is-first-no l before (planning.Refused n) planned c
+      answered planning.Plan planned e c o =
+          held Plan (planBytes s) planned (λ n. refl) (sym e) (plan-short s (no-refusal l before e .sheet)) o
+      answered (planning.None k) planned e c o =
+          ⊎-elim (λ p. absurd (omega (arith, ap tag (p .is))))
+          (λ r.
+          let size : k ≡ length (r .ring) = ap tag-number (r .is) in
+          let found : take k (planned .ring) ≡ r .ring =
+          ap (λ i. take i (planned .ring)) size ∙ ap (λ (q : Rooms). take (length (r .ring)) (q .ring)) (r .left)
+          ∙ take-at (r .ring) (drop (length (r .ring)) (before .ring)) (length (r .ring)) refl in
+          held (None k) (ringBytes s (take k (planned .ring))) planned (λ n. refl) (sym e)
+          (subst (λ c. length (ringBytes s c) ≤ maxPage) (sym found) (none-short s (no-refusal l before e .sheet) (r .ring) (r .closed))) o)
+          (call-answered l before (planning.None k) planned c e)
+
+      go : (n : ℕ) → refusal l before ≡ n → numberOf reply ≡ refusal l before
+      go zero e = answered (call .answer) (call .planned) e (call .call) (call .shown)
+      go (suc n) e = ⊎-elim (λ f. f) (λ q. absurd (omega (arith, q .0))) refusals
