@@ -4,10 +4,10 @@ use std::time::Duration;
 
 use reference::damage::{any_text, note_of_depth, valid, with_notes};
 use reference::program::{fault, output_fault, run};
-use reference::random::{any_sheet, largest_sheet, Random};
+use reference::random::{any_sheet, largest_sheet, small_sheet, Random};
 use reference::reading::read;
 use reference::tally::Tally;
-use reference::{cases, effort, seed};
+use reference::{cases, effort, enumerated, page, seed};
 
 /// Runs the program on a text, counts the case, and fails where anything differs from the model.
 fn hold(tally: &mut Tally, text: &[u8]) {
@@ -98,6 +98,20 @@ fn texts_that_are_too_long() {
         let text = vec![b'x'; length];
         assert_eq!(run(&text, &[1_000], None), b"(refused 1 (line 0))\n", "{length} in parts");
     }
+}
+
+/// Each small sheet against all its plans.
+#[test]
+fn small_sheets() {
+    let mut tally = Tally::new("the program on small sheets, all plans tried", seed(405));
+    for i in 0..effort(4_000) {
+        let sheet = small_sheet(&mut Random::of_case(seed(405), i));
+        let solved = enumerated::solve(&sheet);
+        tally.add(0, if solved.is_some() { "with a plan" } else { "with none" });
+        let page = run(&sheet.text(), &[], None);
+        assert_eq!(page::fault(&sheet, solved.as_ref(), &page), None, "seed {} case {i}: {sheet:?}", seed(405));
+    }
+    tally.report();
 }
 
 #[test]
