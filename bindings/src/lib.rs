@@ -3,12 +3,15 @@
 //! [`Sheet`] reads, plans and prints with rooms of its own; [`entry`] has the planner's open entries as they are, with every
 //! room lent by the caller. Only numbers and slices cross the border.
 //!
-//! ```ignore
+//! ```
+//! # fn main() -> Result<(), tugrokt::Refusal> {
 //! let sheet = tugrokt::Sheet::read(b"(sheet 3)\n(unit (window 1 3))\n(rule (slots 2 3) (count 1 1))\n")?;
 //! match sheet.plan()? {
-//!     tugrokt::Answer::Plan(plan) => println!("{:?}", plan.slot),
+//!     tugrokt::Answer::Plan(plan) => assert_eq!(plan.slot, [2]),
 //!     tugrokt::Answer::None { ring } => println!("no plan: {ring:?}"),
 //! }
+//! # Ok(())
+//! # }
 //! ```
 //! `examples/` has a whole program, and the same in C.
 
