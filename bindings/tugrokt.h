@@ -1,7 +1,8 @@
 /*
  * The wave planner's open entries.
  *
- * Any lists, any rooms and any numbers get an answer. The caller's one duty is that of every C function: each pointer has
+ * Any lists, any rooms and any numbers get an answer; only the last two functions ask something, which stands there. The
+ * caller's one duty beside is that of every C function: each pointer has
  * as many places behind it as the length beside it says, and what is lent for writing overlaps nothing else.
  *
  * The reply is 0, or the number of the question that refused the call. A refused call changes no room. The numbers that a
