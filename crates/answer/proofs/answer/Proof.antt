@@ -37,55 +37,10 @@ read-told : (c : tie.After-reading2)
     → let s = c .reading2 .given .0 .0 in read (s .span) (s .units) (s .rules) ≡ reading (input (sheet-call c)) (sizesOf empty)
 read-told c = sym (ap answerOf (c .reading2 .given .1)) ∙ sheet-call c .read .ensures .0
 
-slice-aggregate-read : tie.Need-slice-aggregate-read
-slice-aggregate-read c = search needs
-
-slice-aggregate-read-2 : tie.Need-slice-aggregate-read-2
-slice-aggregate-read-2 c = search needs
-
-slice-aggregate-read-3 : tie.Need-slice-aggregate-read-3
-slice-aggregate-read-3 c = search needs
-
-slice-aggregate-read-4 : tie.Need-slice-aggregate-read-4
-slice-aggregate-read-4 c = search needs
-
-slice-aggregate-read-5 : tie.Need-slice-aggregate-read-5
-slice-aggregate-read-5 c = search needs
-
-slice-aggregate-read-6 : tie.Need-slice-aggregate-read-6
-slice-aggregate-read-6 c = search needs
-
-read-requires : tie.Need-read-requires
-read-requires c κs = search needs
-
-enum-known-reading : tie.Need-enum-known-reading
-enum-known-reading c = search needs
-
 refuse-requires : tie.Need-refuse-requires
 refuse-requires c κs =
     let r = refused-small (input (refused-call (c .before .before))) empty sizes _ _ (refused-told (c .before .before)) in
     (omega (arith, r .0), omega (arith, r .1))
-
-enum-known-reading-2 : tie.Need-enum-known-reading-2
-enum-known-reading-2 c = search needs
-
-slice-aggregate-answer-sheet : tie.Need-slice-aggregate-answer-sheet
-slice-aggregate-answer-sheet c = search needs
-
-slice-aggregate-answer-sheet-2 : tie.Need-slice-aggregate-answer-sheet-2
-slice-aggregate-answer-sheet-2 c = search needs
-
-slice-aggregate-answer-sheet-3 : tie.Need-slice-aggregate-answer-sheet-3
-slice-aggregate-answer-sheet-3 c = search needs
-
-slice-aggregate-answer-sheet-4 : tie.Need-slice-aggregate-answer-sheet-4
-slice-aggregate-answer-sheet-4 c = search needs
-
-slice-aggregate-answer-sheet-5 : tie.Need-slice-aggregate-answer-sheet-5
-slice-aggregate-answer-sheet-5 c = search needs
-
-slice-aggregate-answer-sheet-6 : tie.Need-slice-aggregate-answer-sheet-6
-slice-aggregate-answer-sheet-6 c = search needs
 
 answer-sheet-requires : tie.Need-answer-sheet-requires
 answer-sheet-requires c κs =
@@ -103,25 +58,6 @@ returns-2 c =
     read-answered (input (sheet-call d)) empty sizes _ (read-told d) _ (sheet-call d .read .ensures .1) _ _ _ (c .answer-sheet .ensures)
 
 pub answer-spec : {M : Type 1} → statement M
-answer-spec =
-    tie.close
-    (tie.spec
-    slice-aggregate-read
-    slice-aggregate-read-2
-    slice-aggregate-read-3
-    slice-aggregate-read-4
-    slice-aggregate-read-5
-    slice-aggregate-read-6
-    read-requires
-    enum-known-reading
-    refuse-requires
-    enum-known-reading-2
-    slice-aggregate-answer-sheet
-    slice-aggregate-answer-sheet-2
-    slice-aggregate-answer-sheet-3
-    slice-aggregate-answer-sheet-4
-    slice-aggregate-answer-sheet-5
-    slice-aggregate-answer-sheet-6
-    answer-sheet-requires
-    returns
-    returns-2)
+answer-spec = tie.close (tie.spec (λ c. search needs) (λ c. search needs) (λ c. search needs) (λ c. search needs) (λ c. search needs)
+    (λ c. search needs) (λ c κs. search needs) (λ c. search needs) refuse-requires (λ c. search needs) (λ c. search needs) (λ c. search needs)
+    (λ c. search needs) (λ c. search needs) (λ c. search needs) (λ c. search needs) answer-sheet-requires returns returns-2)

@@ -72,38 +72,11 @@ slice-aggregate-print-5 c = sym (length-take-le _ _ (start (c .before .before .b
 slice-aggregate-print-6 : tie.Need-slice-aggregate-print-6
 slice-aggregate-print-6 c = sym (length-take-le _ _ (start (c .before .before .before .before .before) .pre .in-high))
 
-slice-aggregate-print-7 : tie.Need-slice-aggregate-print-7
-slice-aggregate-print-7 c = search needs
-
-slice-aggregate-print-8 : tie.Need-slice-aggregate-print-8
-slice-aggregate-print-8 c = search needs
-
-slice-aggregate-print-9 : tie.Need-slice-aggregate-print-9
-slice-aggregate-print-9 c = search needs
-
-slice-aggregate-print-10 : tie.Need-slice-aggregate-print-10
-slice-aggregate-print-10 c = search needs
-
-slice-aggregate-print-11 : tie.Need-slice-aggregate-print-11
-slice-aggregate-print-11 c = search needs
-
-print-requires : tie.Need-print-requires
-print-requires c κs = search needs
-
-enum-known-printed : tie.Need-enum-known-printed
-enum-known-printed c = search needs
-
 refuse-requires : tie.Need-refuse-requires
 refuse-requires c κs =
     let told = c .before .before .printed .given in
     let r = refused-is (c .before .before .before .before .before .before .before .before .before) (told .0 .0) (told .1) in
     (omega (arith, r .0), omega arith)
-
-enum-known-printed-2 : tie.Need-enum-known-printed-2
-enum-known-printed-2 c = search needs
-
-enum-known-printed-3 : tie.Need-enum-known-printed-3
-enum-known-printed-3 c = search needs
 
 returns : tie.Need-returns
 returns c =
@@ -118,25 +91,6 @@ returns-3 : tie.Need-returns-3
 returns-3 c = none-is (c .before .before .before .before .before .before .before .before) _ _ (c .before .printed3 .given .1)
 
 pub answer-sheet-spec : {M : Type 1} → statement M
-answer-sheet-spec =
-    tie.close
-    (tie.spec
-    slice-aggregate-print
-    slice-aggregate-print-2
-    slice-aggregate-print-3
-    slice-aggregate-print-4
-    slice-aggregate-print-5
-    slice-aggregate-print-6
-    slice-aggregate-print-7
-    slice-aggregate-print-8
-    slice-aggregate-print-9
-    slice-aggregate-print-10
-    slice-aggregate-print-11
-    print-requires
-    enum-known-printed
-    refuse-requires
-    enum-known-printed-2
-    enum-known-printed-3
-    returns
-    returns-2
-    returns-3)
+answer-sheet-spec = tie.close (tie.spec slice-aggregate-print slice-aggregate-print-2 slice-aggregate-print-3 slice-aggregate-print-4
+    slice-aggregate-print-5 slice-aggregate-print-6 (λ c. search needs) (λ c. search needs) (λ c. search needs) (λ c. search needs)
+    (λ c. search needs) (λ c κs. search needs) (λ c. search needs) refuse-requires (λ c. search needs) (λ c. search needs) returns returns-2 returns-3)

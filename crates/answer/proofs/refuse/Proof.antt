@@ -35,28 +35,13 @@ after-two : (c : tie.After-put-pair2)
 unfolding text
 after-two c = pending-after (pending-pair (after-one (c .before .before .before))) (c .put-pair2 .ensures)
 
-slice-aggregate-put-pair : tie.Need-slice-aggregate-put-pair
-slice-aggregate-put-pair c = refl
-
-cast-put-pair : tie.Need-cast-put-pair
-cast-put-pair c = search needs
-
 put-pair-requires : tie.Need-put-pair-requires
 unfolding text
 put-pair-requires c κs = pending-room (pending-pair (after-none (c .before)))
 
-slice-aggregate-put-pair-2 : tie.Need-slice-aggregate-put-pair-2
-slice-aggregate-put-pair-2 c = refl
-
-cast-put-pair-2 : tie.Need-cast-put-pair-2
-cast-put-pair-2 c = search needs
-
 put-pair-requires-2 : tie.Need-put-pair-requires-2
 unfolding text
 put-pair-requires-2 c κs = pending-room (pending-pair (after-one (c .before .before)))
-
-slice-aggregate-put-word : tie.Need-slice-aggregate-put-word
-slice-aggregate-put-word c = refl
 
 put-word-requires : tie.Need-put-word-requires
 unfolding text
@@ -67,15 +52,5 @@ unfolding text
 returns c = pending-nothing (pending-after (after-two (c .before .before .before)) (c .put-word .ensures))
 
 pub refuse-spec : {M : Type 1} → statement M
-refuse-spec =
-    tie.close
-    (tie.spec
-    slice-aggregate-put-pair
-    cast-put-pair
-    put-pair-requires
-    slice-aggregate-put-pair-2
-    cast-put-pair-2
-    put-pair-requires-2
-    slice-aggregate-put-word
-    put-word-requires
-    returns)
+refuse-spec = tie.close (tie.spec (λ c. refl) (λ c. search needs) put-pair-requires (λ c. refl) (λ c. search needs) put-pair-requires-2 (λ c. refl)
+    put-word-requires returns)

@@ -18,32 +18,11 @@ loop-holds : tie.Need-loop-holds Inv-loop μ-loop
 unfolding allRising risingFrom
 loop-holds c = (omega arith, refl)
 
-mul-rises : tie.Need-mul-rises Inv-loop μ-loop
-mul-rises c = omega arith
-
-shared-slice-read-rises : tie.Need-shared-slice-read-rises Inv-loop μ-loop
-shared-slice-read-rises c = omega arith
-
 cast-rises : tie.Need-cast-rises Inv-loop μ-loop
 cast-rises c = omega (arith, c .shared-slice-known3 .given (c .before .before .loop .j))
 
-mul-rises-2 : tie.Need-mul-rises-2 Inv-loop μ-loop
-mul-rises-2 c = omega arith
-
-shared-slice-read-rises-2 : tie.Need-shared-slice-read-rises-2 Inv-loop μ-loop
-shared-slice-read-rises-2 c = omega arith
-
 cast-rises-2 : tie.Need-cast-rises-2 Inv-loop μ-loop
 cast-rises-2 c = omega (arith, c .shared-slice-known4 .given (c .before .before .before .loop .j))
-
-rises-requires : tie.Need-rises-requires Inv-loop μ-loop
-rises-requires c κs = tt
-
-add-j : tie.Need-add-j Inv-loop μ-loop
-add-j c = omega arith
-
-loop-less : tie.Need-loop-less Inv-loop μ-loop
-loop-less c = omega arith
 
 loop-again : tie.Need-loop-again Inv-loop μ-loop
 loop-again c =
@@ -67,21 +46,5 @@ returns-2 c =
     sym (l .inv .1 ∙ rising-end (a .least) (a .most) (a .first .now) (a .last .now) (c .before .before .before .before .pre) (l .j) (omega arith))
 
 pub all-rise-spec : {M : Type 1} → statement M
-all-rise-spec =
-    tie.close
-    (tie.spec
-    Inv-loop
-    μ-loop
-    loop-holds
-    mul-rises
-    shared-slice-read-rises
-    cast-rises
-    mul-rises-2
-    shared-slice-read-rises-2
-    cast-rises-2
-    rises-requires
-    add-j
-    loop-less
-    loop-again
-    returns
-    returns-2)
+all-rise-spec = tie.close (tie.spec Inv-loop μ-loop loop-holds (λ c. omega arith) (λ c. omega arith) cast-rises (λ c. omega arith) (λ c. omega arith)
+    cast-rises-2 (λ c κs. tt) (λ c. omega arith) (λ c. omega arith) loop-again returns returns-2)

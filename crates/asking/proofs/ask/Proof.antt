@@ -62,9 +62,6 @@ counts-yes c = sym (c .before .all-rise3 .ensures) ∙ c .if7 .taken
 lists-agree-requires : tie.Need-lists-agree-requires
 lists-agree-requires c κs = search needs
 
-span-fits-requires : tie.Need-span-fits-requires
-span-fits-requires c κs = search needs
-
 all-rise-requires : tie.Need-all-rise-requires
 all-rise-requires c κs =
     let p : tie.Then1 = c .before .before .before .before in
@@ -146,21 +143,5 @@ returns-9 c =
     (windows-yes (q .before .before .before .before)) (stretches-yes (q .before .before)) (counts-yes q) (sym (c .before .rooms-fit .ensures) ∙ c .if8 .left)
 
 pub ask-spec : {M : Type 1} → statement M
-ask-spec =
-    tie.close
-    (tie.spec
-    lists-agree-requires
-    returns
-    span-fits-requires
-    returns-2
-    returns-3
-    returns-4
-    all-rise-requires
-    returns-5
-    all-rise-requires-2
-    returns-6
-    all-rise-requires-3
-    returns-7
-    rooms-fit-requires
-    returns-8
-    returns-9)
+ask-spec = tie.close (tie.spec lists-agree-requires returns (λ c κs. search needs) returns-2 returns-3 returns-4 all-rise-requires returns-5
+    all-rise-requires-2 returns-6 all-rise-requires-3 returns-7 rooms-fit-requires returns-8 returns-9)

@@ -9,9 +9,6 @@ use Rattle.asking.specs.Asking.{lengthsFit}
 use Rattle.asking.proofs.rooms_fit.Statement.{statement}
 use Rattle.asking.proofs.rooms_fit.Tie as tie
 
-add-w : tie.Need-add-w
-add-w c = omega arith
-
 mul-if1 : tie.Need-mul-if1
 mul-if1 c =
     let h : c .args .span + 1 ≤ 49 = omega arith in
@@ -47,4 +44,4 @@ returns-5 c =
     (holds-here _ _ _ (le-leb _ _ (c .before .if3 .left)) (holds-here _ _ _ (le-leb _ _ (c .if4 .left)) refl)))
 
 pub rooms-fit-spec : {M : Type 1} → statement M
-rooms-fit-spec = tie.close (tie.spec add-w mul-if1 returns returns-2 returns-3 returns-4 returns-5)
+rooms-fit-spec = tie.close (tie.spec (λ c. omega arith) mul-if1 returns returns-2 returns-3 returns-4 returns-5)

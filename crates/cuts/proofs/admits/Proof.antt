@@ -16,26 +16,14 @@ Inv-loop d m w f v l z₀ row end z = (length z ≡ 49) × SunkAt w d m f v l z
 abbrev μ-loop : tie.MeasureT-loop
 μ-loop d m w f v l z₀ row end z = heightAt w d f z
 
-sub-row : tie.Need-sub-row Inv-loop μ-loop
-sub-row c = omega arith
-
 mul-row : tie.Need-mul-row Inv-loop μ-loop
 mul-row c = omega (arith, row-inside (c .args .f - 1) (c .args .w) (omega arith))
 
 add-end : tie.Need-add-end Inv-loop μ-loop
 add-end c = omega (arith, row-inside (c .args .f - 1) (c .args .w) (omega arith))
 
-slice-aggregate-carry : tie.Need-slice-aggregate-carry Inv-loop μ-loop
-slice-aggregate-carry c = search needs
-
 mul-carry : tie.Need-mul-carry Inv-loop μ-loop
 mul-carry c = omega (arith, row-inside (c .before .args .f - 1) (c .before .args .w) (omega arith))
-
-sub-carry : tie.Need-sub-carry Inv-loop μ-loop
-sub-carry c = search needs
-
-part-carry-start : tie.Need-part-carry-start Inv-loop μ-loop
-part-carry-start c = search needs
 
 part-carry-end : tie.Need-part-carry-end Inv-loop μ-loop
 part-carry-end c = omega (arith, row-inside (c .before .args .f - 1) (c .before .args .w) (omega arith))
@@ -58,9 +46,6 @@ loop-holds c =
     let a = st .args in
     let z = c .before .carry .last .0 in
     (c .before .carry .kept .0, sunk-first (a .w) (a .f) (a .v) (a .l) (a .d .now) (a .m .now) (st .pre .0) (st .pre .1) z (c .before .carry .ensures))
-
-slice-aggregate-sweep : tie.Need-slice-aggregate-sweep Inv-loop μ-loop
-slice-aggregate-sweep c = search needs
 
 sweep-requires : tie.Need-sweep-requires Inv-loop μ-loop
 sweep-requires c κs =
@@ -115,27 +100,6 @@ loop-again c =
     )
 
 pub admits-spec : {M : Type 1} → statement M
-admits-spec =
-    tie.close
-    (tie.spec
-    Inv-loop
-    μ-loop
-    sub-row
-    mul-row
-    add-end
-    slice-aggregate-carry
-    mul-carry
-    sub-carry
-    part-carry-start
-    part-carry-end
-    carry-requires
-    loop-holds
-    slice-aggregate-sweep
-    sweep-requires
-    enum-told
-    returns
-    enum-told-2
-    returns-2
-    enum-told-3
-    loop-less
-    loop-again)
+admits-spec = tie.close (tie.spec Inv-loop μ-loop (λ c. omega arith) mul-row add-end (λ c. search needs) mul-carry (λ c. search needs)
+    (λ c. search needs) part-carry-end carry-requires loop-holds (λ c. search needs) sweep-requires enum-told returns enum-told-2 returns-2
+    enum-told-3 loop-less loop-again)

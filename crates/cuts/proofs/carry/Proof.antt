@@ -23,17 +23,8 @@ abbrev μ-loop : tie.MeasureT-loop
 loop-holds : tie.Need-loop-holds Inv-loop μ-loop
 loop-holds c = (omega arith, refl, carried-none _ _ _)
 
-mul-lesser : tie.Need-mul-lesser Inv-loop μ-loop
-mul-lesser c = omega arith
-
 slice-copy-out-lesser : tie.Need-slice-copy-out-lesser Inv-loop μ-loop
 slice-copy-out-lesser c = omega (arith, c .before .loop .inv .2 .long)
-
-mul-lesser-2 : tie.Need-mul-lesser-2 Inv-loop μ-loop
-mul-lesser-2 c = omega arith
-
-shared-slice-copy-out-lesser : tie.Need-shared-slice-copy-out-lesser Inv-loop μ-loop
-shared-slice-copy-out-lesser c = omega arith
 
 add-lesser : tie.Need-add-lesser Inv-loop μ-loop
 add-lesser c =
@@ -43,20 +34,8 @@ add-lesser c =
     let f : SFits w16 (getD row i (pos 0)) = search needs in
     rw (toZ-ofZ (st .fits .k), toZ-ofZ f) (sum-fits (st .args .k) (at row i) (st .pre .2) (st .pre .1 i (omega arith)))
 
-lesser-requires : tie.Need-lesser-requires Inv-loop μ-loop
-lesser-requires c κs = search needs
-
-mul-t15 : tie.Need-mul-t15 Inv-loop μ-loop
-mul-t15 c = omega arith
-
 slice-set-from-z : tie.Need-slice-set-from-z Inv-loop μ-loop
 slice-set-from-z c = omega (arith, c .before .before .before .before .loop .inv .2 .long)
-
-add-c : tie.Need-add-c Inv-loop μ-loop
-add-c c = omega arith
-
-loop-less : tie.Need-loop-less Inv-loop μ-loop
-loop-less c = omega arith
 
 loop-again : tie.Need-loop-again Inv-loop μ-loop
 loop-again c =
@@ -85,22 +64,5 @@ returns c =
     (simp (toZ-ofZ (c .before .before .fits .k)) at (l .inv .2))
 
 pub carry-spec : {M : Type 1} → statement M
-carry-spec =
-    tie.close
-    (tie.spec
-    Inv-loop
-    μ-loop
-    loop-holds
-    mul-lesser
-    slice-copy-out-lesser
-    mul-lesser-2
-    shared-slice-copy-out-lesser
-    add-lesser
-    lesser-requires
-    mul-t15
-    slice-set-from-z
-    add-c
-    loop-less
-    loop-again
-    same-length
-    returns)
+carry-spec = tie.close (tie.spec Inv-loop μ-loop loop-holds (λ c. omega arith) slice-copy-out-lesser (λ c. omega arith) (λ c. omega arith) add-lesser
+    (λ c κs. search needs) (λ c. omega arith) slice-set-from-z (λ c. omega arith) (λ c. omega arith) loop-again same-length returns)

@@ -75,16 +75,4 @@ returns c =
     search-last (a .w) (a .d .now) (a .m .now) (a .f) (a .l) (a .known) (l .from) (l .to) (l .middle) (c .loop-test .left) (st .pre .0 .4) (l .inv)
 
 pub least-cut-spec : {M : Type 1} → statement M
-least-cut-spec =
-    tie.close
-    (tie.spec
-    Inv-loop
-    μ-loop
-    loop-holds
-    admits-requires
-    add-from
-    sub-middle
-    add-middle
-    loop-less
-    loop-again
-    returns)
+least-cut-spec = tie.close (tie.spec Inv-loop μ-loop loop-holds admits-requires add-from sub-middle add-middle loop-less loop-again returns)

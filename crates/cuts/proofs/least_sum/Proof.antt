@@ -20,12 +20,6 @@ Inv-loop xs ys r₀ i₀ i-end r i = (i ≤ length xs) × (i-end ≡ length xs) 
 abbrev μ-loop : tie.MeasureT-loop
 μ-loop xs ys r₀ i₀ i-end r i = length xs - i
 
-shared-slice-copy-out-r : tie.Need-shared-slice-copy-out-r Inv-loop μ-loop
-shared-slice-copy-out-r c = omega arith
-
-shared-slice-copy-out-r-2 : tie.Need-shared-slice-copy-out-r-2 Inv-loop μ-loop
-shared-slice-copy-out-r-2 c = omega arith
-
 add-r : tie.Need-add-r Inv-loop μ-loop
 add-r c =
     let st = c .before .before in
@@ -45,18 +39,6 @@ loop-holds c =
     let fs = sum-fits (at xs 0) (at ys 0) (st .pre .2 0 (omega arith)) (st .pre .3 0 (omega arith)) in
     (omega arith, refl, simp (toZ-ofZ fx, toZ-ofZ fy, toZ-ofZ fs) (least-first xs ys (st .pre .0)))
 
-mul-lesser : tie.Need-mul-lesser Inv-loop μ-loop
-mul-lesser c = omega arith
-
-shared-slice-copy-out-lesser : tie.Need-shared-slice-copy-out-lesser Inv-loop μ-loop
-shared-slice-copy-out-lesser c = omega arith
-
-mul-lesser-2 : tie.Need-mul-lesser-2 Inv-loop μ-loop
-mul-lesser-2 c = omega arith
-
-shared-slice-copy-out-lesser-2 : tie.Need-shared-slice-copy-out-lesser-2 Inv-loop μ-loop
-shared-slice-copy-out-lesser-2 c = omega arith
-
 add-lesser : tie.Need-add-lesser Inv-loop μ-loop
 add-lesser c =
     let st = c .before .before .before .before .before .before in
@@ -66,15 +48,6 @@ add-lesser c =
     let fx : SFits w16 (getD xs i (pos 0)) = search needs in
     let fy : SFits w16 (getD ys i (pos 0)) = search needs in
     rw (toZ-ofZ fx, toZ-ofZ fy) (sum-fits (at xs i) (at ys i) (st .pre .2 i (omega arith)) (st .pre .3 i (omega arith)))
-
-lesser-requires : tie.Need-lesser-requires Inv-loop μ-loop
-lesser-requires c κs = tt
-
-add-i : tie.Need-add-i Inv-loop μ-loop
-add-i c = omega arith
-
-loop-less : tie.Need-loop-less Inv-loop μ-loop
-loop-less c = omega arith
 
 loop-again : tie.Need-loop-again Inv-loop μ-loop
 loop-again c =
@@ -98,22 +71,5 @@ returns c =
     subst (λ (n : ℕ). LeastSum n xs ys (toZ w16 (l .r))) e (l .inv .2)
 
 pub least-sum-spec : {M : Type 1} → statement M
-least-sum-spec =
-    tie.close
-    (tie.spec
-    Inv-loop
-    μ-loop
-    shared-slice-copy-out-r
-    shared-slice-copy-out-r-2
-    add-r
-    loop-holds
-    mul-lesser
-    shared-slice-copy-out-lesser
-    mul-lesser-2
-    shared-slice-copy-out-lesser-2
-    add-lesser
-    lesser-requires
-    add-i
-    loop-less
-    loop-again
-    returns)
+least-sum-spec = tie.close (tie.spec Inv-loop μ-loop (λ c. omega arith) (λ c. omega arith) add-r loop-holds (λ c. omega arith) (λ c. omega arith)
+    (λ c. omega arith) (λ c. omega arith) add-lesser (λ c κs. tt) (λ c. omega arith) (λ c. omega arith) loop-again returns)

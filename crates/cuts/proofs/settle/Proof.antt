@@ -28,26 +28,8 @@ add-arcs c = omega (arith, row-inside (c .args .b) (c .args .w) (omega arith))
 add-arcs-end : tie.Need-add-arcs-end
 add-arcs-end c = omega (arith, row-inside (c .args .b) (c .args .w) (omega arith))
 
-mul-least-sum : tie.Need-mul-least-sum
-mul-least-sum c = search needs
-
-sub-least-sum : tie.Need-sub-least-sum
-sub-least-sum c = search needs
-
-part-least-sum-start : tie.Need-part-least-sum-start
-part-least-sum-start c = search needs
-
-part-least-sum-end : tie.Need-part-least-sum-end
-part-least-sum-end c = search needs
-
 mul-least-sum-2 : tie.Need-mul-least-sum-2
 mul-least-sum-2 c = omega (arith, row-inside (c .before .before .args .b) (c .before .before .args .w) (omega arith))
-
-sub-least-sum-2 : tie.Need-sub-least-sum-2
-sub-least-sum-2 c = search needs
-
-part-least-sum-start-2 : tie.Need-part-least-sum-start-2
-part-least-sum-start-2 c = search needs
 
 part-least-sum-end-2 : tie.Need-part-least-sum-end-2
 part-least-sum-end-2 c = omega (arith, row-inside (c .before .before .args .b) (c .before .before .args .w) (omega arith))
@@ -59,24 +41,9 @@ least-sum-requires c κs =
     let p = st .pre in
     least-asks (a .w) (a .f) (a .v) (a .l) (a .d .now) (a .m .now) (p .0) (p .1) (a .b) (a .z .now) (p .2) (p .3) (p .4)
 
-mul-less : tie.Need-mul-less
-mul-less c = search needs
-
-slice-copy-out-less : tie.Need-slice-copy-out-less
-slice-copy-out-less c = search needs
-
-less-requires : tie.Need-less-requires
-less-requires c κs = search needs
-
 mul-carry : tie.Need-mul-carry
 mul-carry c = let st = c .before .before .before .before .before .before .before .before in
     omega (arith, row-inside (st .args .b) (st .args .w) (omega (arith, st .pre .2, st .pre .1)), st .pre .0 .size, st .good)
-
-sub-carry : tie.Need-sub-carry
-sub-carry c = search needs
-
-part-carry-start : tie.Need-part-carry-start
-part-carry-start c = search needs
 
 part-carry-end : tie.Need-part-carry-end
 part-carry-end c =
@@ -93,21 +60,6 @@ carry-requires c κs =
     simp (toZ-ofZ fk) (carry-asks (a .w) (a .f) (a .v) (a .l) (a .d .now) (a .m .now) (p .0) (p .1) (a .b) (a .z .now) (p .2) (p .3) (p .4)
     (c′ .least-sum .result) (c′ .least-sum .ensures))
 
-sub-less : tie.Need-sub-less
-sub-less c = search needs
-
-mul-less-2 : tie.Need-mul-less-2
-mul-less-2 c = search needs
-
-slice-copy-out-less-2 : tie.Need-slice-copy-out-less-2
-slice-copy-out-less-2 c = search needs
-
-less-requires-2 : tie.Need-less-requires-2
-less-requires-2 c κs = search needs
-
-same-length : tie.Need-same-length
-same-length c = search needs
-
 returns : tie.Need-returns
 returns c =
     let cc = c .before .before .before .before in
@@ -122,9 +74,6 @@ returns c =
     let h : ltZ (at z′ (a .f - 1)) (pos 0) ≡ true = simp (toZ-ofZ fz) at (sym (c .before .less2 .ensures) ∙ c .if2 .taken) in
     settled-lost (a .w) (a .f) (a .v) (a .l) (a .d .now) (a .m .now) (p .0) (p .1) (a .b) (a .z .now) (p .2) (p .3) (p .4)
     (c′ .least-sum .result) (c′ .least-sum .ensures) z′ r h
-
-same-length-2 : tie.Need-same-length-2
-same-length-2 c = search needs
 
 returns-2 : tie.Need-returns-2
 returns-2 c =
@@ -144,9 +93,6 @@ returns-2 c =
     settled-lower (a .w) (a .f) (a .v) (a .l) (a .d .now) (a .m .now) (p .0) (p .1) (a .b) (a .z .now) (p .2) (p .3) (p .4)
     (c′ .least-sum .result) (c′ .least-sum .ensures) z′ r h g
 
-same-length-3 : tie.Need-same-length-3
-same-length-3 c = search needs
-
 returns-3 : tie.Need-returns-3
 returns-3 c =
     let c′ = c .before .before .before in
@@ -160,37 +106,8 @@ returns-3 c =
     (c′ .least-sum .result) (c′ .least-sum .ensures) h
 
 pub settle-spec : {M : Type 1} → statement M
-settle-spec =
-    tie.close
-    (tie.spec
-    mul-row
-    add-end
-    add-arcs
-    add-arcs-end
-    mul-least-sum
-    sub-least-sum
-    part-least-sum-start
-    part-least-sum-end
-    mul-least-sum-2
-    sub-least-sum-2
-    part-least-sum-start-2
-    part-least-sum-end-2
-    least-sum-requires
-    mul-less
-    slice-copy-out-less
-    less-requires
-    mul-carry
-    sub-carry
-    part-carry-start
-    part-carry-end
-    carry-requires
-    sub-less
-    mul-less-2
-    slice-copy-out-less-2
-    less-requires-2
-    same-length
-    returns
-    same-length-2
-    returns-2
-    same-length-3
+settle-spec = tie.close (tie.spec mul-row add-end add-arcs add-arcs-end (λ c. search needs) (λ c. search needs) (λ c. search needs)
+    (λ c. search needs) mul-least-sum-2 (λ c. search needs) (λ c. search needs) part-least-sum-end-2 least-sum-requires (λ c. search needs)
+    (λ c. search needs) (λ c κs. search needs) mul-carry (λ c. search needs) (λ c. search needs) part-carry-end carry-requires (λ c. search needs)
+    (λ c. search needs) (λ c. search needs) (λ c κs. search needs) (λ c. search needs) returns (λ c. search needs) returns-2 (λ c. search needs)
     returns-3)

@@ -47,12 +47,6 @@ returns c =
     let z′ = s .settle .last .1 .1 .1 .1 .1 .1 .1 .0 in
     subst (Settling (a .w) (a .d .now) (a .m .now) (a .f) (a .v) (a .l) (l .b) (l .b + 1) (l .z) z′) e (s .settle .ensures)
 
-add-b : tie.Need-add-b Inv-loop μ-loop
-add-b c = omega arith
-
-loop-less : tie.Need-loop-less Inv-loop μ-loop
-loop-less c = omega arith
-
 loop-again : tie.Need-loop-again Inv-loop μ-loop
 loop-again c =
     let s = c .before .before in
@@ -101,22 +95,5 @@ returns-3 c =
     swept-end (a .w) (a .f) (a .v) (a .l) (a .d .now) (a .m .now) (a .z .now) false (l .b) (l .z) (omega arith) s
 
 pub sweep-spec : {M : Type 1} → statement M
-sweep-spec =
-    tie.close
-    (tie.spec
-    Inv-loop
-    μ-loop
-    loop-holds
-    settle-requires
-    enum-told
-    enum-told-2
-    enum-told-3
-    same-length
-    returns
-    add-b
-    loop-less
-    loop-again
-    same-length-2
-    returns-2
-    same-length-3
-    returns-3)
+sweep-spec = tie.close (tie.spec Inv-loop μ-loop loop-holds settle-requires enum-told enum-told-2 enum-told-3 same-length returns (λ c. omega arith)
+    (λ c. omega arith) loop-again same-length-2 returns-2 same-length-3 returns-3)

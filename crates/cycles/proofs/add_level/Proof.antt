@@ -23,17 +23,8 @@ add-to c = omega (arith, inside c)
 mul-copy-row : tie.Need-mul-copy-row
 mul-copy-row c = omega (arith, inside c)
 
-sub-copy-row : tie.Need-sub-copy-row
-sub-copy-row c = search needs
-
-part-copy-row-start : tie.Need-part-copy-row-start
-part-copy-row-start c = search needs
-
 part-copy-row-end : tie.Need-part-copy-row-end
 part-copy-row-end c = omega (arith, inside (c .before))
-
-copy-row-requires : tie.Need-copy-row-requires
-copy-row-requires c κs = search needs
 
 copied : (c : tie.After-copy-row)
     → Copied (c .before .before .before .before .args .w) (c .before .before .before .before .args .k) (c .before .before .before .before .args .d .now)
@@ -49,20 +40,11 @@ copied c =
 add-end : tie.Need-add-end
 add-end c = omega (arith, inside (c .before .before .before .before .before))
 
-slice-reshare-prefix-make-level : tie.Need-slice-reshare-prefix-make-level
-slice-reshare-prefix-make-level c = search needs
-
 slice-aggregate-make-level : tie.Need-slice-aggregate-make-level
 slice-aggregate-make-level c = sym (copied (c .before .before) .long)
 
 mul-make-level : tie.Need-mul-make-level
 mul-make-level c = omega (arith, inside (c .before .before .before .before .before .before))
-
-sub-make-level : tie.Need-sub-make-level
-sub-make-level c = search needs
-
-part-make-level-start : tie.Need-part-make-level-start
-part-make-level-start c = search needs
 
 part-make-level-end : tie.Need-part-make-level-end
 part-make-level-end c = omega (arith, inside (c .before .before .before .before .before .before))
@@ -78,12 +60,6 @@ make-level-requires c κs =
     let e = part-length (k * w + w) m (st .args .levels .now) (omega (arith, inside st)) in
     (q .few, q .room, row .long, e ∙ (omega arith), copied-sums w k (st .args .d .now) _ row q (st .pre .2))
 
-same-length : tie.Need-same-length
-same-length c = search needs
-
-same-length-2 : tie.Need-same-length-2
-same-length-2 c = search needs
-
 returns : tie.Need-returns
 returns c =
     let st = c .before .before .before .before .before .before .before .before .before in
@@ -93,24 +69,6 @@ returns c =
     (c .before .make-level .last .1 .1 .1 .0) (st .pre .3) (omega arith) (omega (arith, inside st)) (c .before .make-level .ensures)
 
 pub add-level-spec : {M : Type 1} → statement M
-add-level-spec =
-    tie.close
-    (tie.spec
-    mul-from
-    add-to
-    mul-copy-row
-    sub-copy-row
-    part-copy-row-start
-    part-copy-row-end
-    copy-row-requires
-    add-end
-    slice-reshare-prefix-make-level
-    slice-aggregate-make-level
-    mul-make-level
-    sub-make-level
-    part-make-level-start
-    part-make-level-end
-    make-level-requires
-    same-length
-    same-length-2
-    returns)
+add-level-spec = tie.close (tie.spec mul-from add-to mul-copy-row (λ c. search needs) (λ c. search needs) part-copy-row-end (λ c κs. search needs)
+    add-end (λ c. search needs) slice-aggregate-make-level mul-make-level (λ c. search needs) (λ c. search needs) part-make-level-end
+    make-level-requires (λ c. search needs) (λ c. search needs) returns)

@@ -25,12 +25,6 @@ add-level-requires c κs =
     let l = c .before .before .before .loop in
     (st .pre .0, omega arith, c .before .before .loop-test .taken, l .inv .2, omega (arith, st .pre .0 .few))
 
-add-k : tie.Need-add-k Inv-loop μ-loop
-add-k c = omega arith
-
-loop-less : tie.Need-loop-less Inv-loop μ-loop
-loop-less c = omega arith
-
 loop-again : tie.Need-loop-again Inv-loop μ-loop
 loop-again c =
     let a = c .before .before .add-level in
@@ -48,16 +42,5 @@ returns c =
     subst (λ (n : ℕ). LevelsUpTo (st .args .w) (st .args .d .now) (l .levels) n) e (l .inv .2)
 
 pub fill-levels-spec : {M : Type 1} → statement M
-fill-levels-spec =
-    tie.close
-    (tie.spec
-    Inv-loop
-    μ-loop
-    loop-holds
-    slice-aggregate-add-level
-    add-level-requires
-    add-k
-    loop-less
-    loop-again
-    same-length
-    returns)
+fill-levels-spec = tie.close (tie.spec Inv-loop μ-loop loop-holds slice-aggregate-add-level add-level-requires (λ c. omega arith) (λ c. omega arith)
+    loop-again same-length returns)

@@ -32,21 +32,6 @@ loop-holds c =
     let low = c .args .low .now in
     (omega arith, refl, ap (λ (k : ℕ). firstFrom k 0 (below low (c .args .high .now))) (sub-zero (length low)))
 
-mul-less : tie.Need-mul-less Inv-loop μ-loop
-mul-less c = omega arith
-
-shared-slice-copy-out-less : tie.Need-shared-slice-copy-out-less Inv-loop μ-loop
-shared-slice-copy-out-less c = omega arith
-
-mul-less-2 : tie.Need-mul-less-2 Inv-loop μ-loop
-mul-less-2 c = omega arith
-
-shared-slice-copy-out-less-2 : tie.Need-shared-slice-copy-out-less-2 Inv-loop μ-loop
-shared-slice-copy-out-less-2 c = omega arith
-
-less-requires : tie.Need-less-requires Inv-loop μ-loop
-less-requires c κs = tt
-
 compared : (c : tie.After-less Inv-loop μ-loop)
     → below (c .before .before .before .before .before .args .low .now) (c .before .before .before .before .before .args .high .now)
     (c .before .before .before .before .loop .v) ≡ c .less .result
@@ -64,12 +49,6 @@ returns c =
     let e = first-passed (below (args .low .now) (args .high .now)) (length (args .low .now)) (l .v) (omega arith) (compared (c .before) ∙ c .if1 .taken) in
     sym e ∙ l .inv .2
 
-add-v : tie.Need-add-v Inv-loop μ-loop
-add-v c = omega arith
-
-loop-less : tie.Need-loop-less Inv-loop μ-loop
-loop-less c = omega arith
-
 loop-again : tie.Need-loop-again Inv-loop μ-loop
 loop-again c =
     let args = c .before .before .before .before .before .before .args in
@@ -84,19 +63,5 @@ returns-2 c =
     sym (first-none (below (args .low .now) (args .high .now)) (length (args .low .now)) (l .v) (omega arith)) ∙ l .inv .2
 
 pub first-below-spec : {M : Type 1} → statement M
-first-below-spec =
-    tie.close
-    (tie.spec
-    Inv-loop
-    μ-loop
-    loop-holds
-    mul-less
-    shared-slice-copy-out-less
-    mul-less-2
-    shared-slice-copy-out-less-2
-    less-requires
-    returns
-    add-v
-    loop-less
-    loop-again
-    returns-2)
+first-below-spec = tie.close (tie.spec Inv-loop μ-loop loop-holds (λ c. omega arith) (λ c. omega arith) (λ c. omega arith) (λ c. omega arith)
+    (λ c κs. tt) returns (λ c. omega arith) (λ c. omega arith) loop-again returns-2)

@@ -11,38 +11,8 @@ use borrow.Author.Needs.{needs}
 use Rattle.cycles.proofs.last_fallen.Statement.{statement}
 use Rattle.cycles.proofs.last_fallen.Tie as tie
 
-mul-last : tie.Need-mul-last
-mul-last c = search needs
-
-add-end : tie.Need-add-end
-add-end c = search needs
-
 sub-before : tie.Need-sub-before
 sub-before c = omega (arith, row-inside 0 (c .args .w) (omega arith))
-
-mul-first-below : tie.Need-mul-first-below
-mul-first-below c = search needs
-
-sub-first-below : tie.Need-sub-first-below
-sub-first-below c = search needs
-
-part-first-below-start : tie.Need-part-first-below-start
-part-first-below-start c = search needs
-
-part-first-below-end : tie.Need-part-first-below-end
-part-first-below-end c = search needs
-
-mul-first-below-2 : tie.Need-mul-first-below-2
-mul-first-below-2 c = search needs
-
-sub-first-below-2 : tie.Need-sub-first-below-2
-sub-first-below-2 c = search needs
-
-part-first-below-start-2 : tie.Need-part-first-below-start-2
-part-first-below-start-2 c = search needs
-
-part-first-below-end-2 : tie.Need-part-first-below-end-2
-part-first-below-end-2 c = search needs
 
 first-below-requires : tie.Need-first-below-requires
 first-below-requires c κs =
@@ -71,19 +41,5 @@ returns c =
     (c .first-below .ensures)
 
 pub last-fallen-spec : {M : Type 1} → statement M
-last-fallen-spec =
-    tie.close
-    (tie.spec
-    mul-last
-    add-end
-    sub-before
-    mul-first-below
-    sub-first-below
-    part-first-below-start
-    part-first-below-end
-    mul-first-below-2
-    sub-first-below-2
-    part-first-below-start-2
-    part-first-below-end-2
-    first-below-requires
-    returns)
+last-fallen-spec = tie.close (tie.spec (λ c. search needs) (λ c. search needs) sub-before (λ c. search needs) (λ c. search needs) (λ c. search needs)
+    (λ c. search needs) (λ c. search needs) (λ c. search needs) (λ c. search needs) (λ c. search needs) first-below-requires returns)

@@ -6,20 +6,11 @@ use borrow.Author.Needs.{needs}
 use Rattle.cycles.proofs.make_level.Statement.{statement}
 use Rattle.cycles.proofs.make_level.Tie as tie
 
-copy-row-requires : tie.Need-copy-row-requires
-copy-row-requires c κs = search needs
-
 next-level-requires : tie.Need-next-level-requires
 next-level-requires c κs =
     let st = c .before .before .before .before in
     let e = c .before .before .copy-row .ensures ∙ copied-whole (st .args .prev .now) (st .args .row .now) (omega arith) in
     (st .pre .0, st .pre .1, st .pre .2, e, st .pre .4)
 
-same-length : tie.Need-same-length
-same-length c = search needs
-
-returns : tie.Need-returns
-returns c = search needs
-
 pub make-level-spec : {M : Type 1} → statement M
-make-level-spec = tie.close (tie.spec copy-row-requires next-level-requires same-length returns)
+make-level-spec = tie.close (tie.spec (λ c κs. search needs) next-level-requires (λ c. search needs) (λ c. search needs))

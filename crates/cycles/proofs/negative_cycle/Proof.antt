@@ -9,22 +9,10 @@ use borrow.Author.Needs.{needs}
 use Rattle.cycles.proofs.negative_cycle.Statement.{statement}
 use Rattle.cycles.proofs.negative_cycle.Tie as tie
 
-slice-aggregate-fill-levels : tie.Need-slice-aggregate-fill-levels
-slice-aggregate-fill-levels c = search needs
-
 fill-levels-requires : tie.Need-fill-levels-requires
 fill-levels-requires c κs =
     let st = c .before .before in
     (st .pre .0, levels-fit (st .args .w) (st .pre .0 .few), first-level 2450 (st .args .w) (st .args .d .now))
-
-add-n : tie.Need-add-n
-add-n c = search needs
-
-slice-aggregate-find-cycle : tie.Need-slice-aggregate-find-cycle
-slice-aggregate-find-cycle c = search needs
-
-array-borrow-prefix-walk : tie.Need-array-borrow-prefix-walk
-array-borrow-prefix-walk c = search needs
 
 slice-aggregate-find-cycle-2 : tie.Need-slice-aggregate-find-cycle-2
 slice-aggregate-find-cycle-2 c =
@@ -44,22 +32,6 @@ find-cycle-requires c κs =
       st .pre .2,
     )
 
-same-length : tie.Need-same-length
-same-length c = search needs
-
-returns : tie.Need-returns
-returns c = search needs
-
 pub negative-cycle-spec : {M : Type 1} → statement M
-negative-cycle-spec =
-    tie.close
-    (tie.spec
-    slice-aggregate-fill-levels
-    fill-levels-requires
-    add-n
-    slice-aggregate-find-cycle
-    array-borrow-prefix-walk
-    slice-aggregate-find-cycle-2
-    find-cycle-requires
-    same-length
-    returns)
+negative-cycle-spec = tie.close (tie.spec (λ c. search needs) fill-levels-requires (λ c. search needs) (λ c. search needs) (λ c. search needs)
+    slice-aggregate-find-cycle-2 find-cycle-requires (λ c. search needs) (λ c. search needs))

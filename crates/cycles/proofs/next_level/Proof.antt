@@ -38,20 +38,8 @@ mul-from c = omega (arith, inside c)
 add-to : tie.Need-add-to Inv-loop μ-loop
 add-to c = omega (arith, inside c)
 
-mul-reached : tie.Need-mul-reached Inv-loop μ-loop
-mul-reached c = omega arith
-
-shared-slice-copy-out-reached : tie.Need-shared-slice-copy-out-reached Inv-loop μ-loop
-shared-slice-copy-out-reached c = omega arith
-
 mul-relax-row : tie.Need-mul-relax-row Inv-loop μ-loop
 mul-relax-row c = omega (arith, inside (c .before .before))
-
-sub-relax-row : tie.Need-sub-relax-row Inv-loop μ-loop
-sub-relax-row c = omega arith
-
-part-relax-row-start : tie.Need-part-relax-row-start Inv-loop μ-loop
-part-relax-row-start c = omega arith
 
 part-relax-row-end : tie.Need-part-relax-row-end Inv-loop μ-loop
 part-relax-row-end c = omega (arith, inside (c .before .before))
@@ -69,12 +57,6 @@ relax-row-requires c κs =
     let n = part-length (l .u * w) k d (omega (arith, inside (c .before .before .before))) in
     let f : SFits w16 (getD prev (l .u) (pos 0)) = search needs in
     (omega (arith, n, l .inv), row-sums w (l .u) k d prev (toZ w16 (ofZ w16 (getD prev (l .u) (pos 0)))) h ek (toZ-ofZ f) (st .pre .4))
-
-add-u : tie.Need-add-u Inv-loop μ-loop
-add-u c = omega arith
-
-loop-less : tie.Need-loop-less Inv-loop μ-loop
-loop-less c = omega arith
 
 loop-again : tie.Need-loop-again Inv-loop μ-loop
 loop-again c =
@@ -105,23 +87,5 @@ returns c =
     l .inv .2 ∙ ap (λ (n : ℕ). listOf w (reachedBy w (st .args .d .now) (st .args .prev .now) n)) e
 
 pub next-level-spec : {M : Type 1} → statement M
-next-level-spec =
-    tie.close
-    (tie.spec
-    Inv-loop
-    μ-loop
-    loop-holds
-    mul-from
-    add-to
-    mul-reached
-    shared-slice-copy-out-reached
-    mul-relax-row
-    sub-relax-row
-    part-relax-row-start
-    part-relax-row-end
-    relax-row-requires
-    add-u
-    loop-less
-    loop-again
-    same-length
-    returns)
+next-level-spec = tie.close (tie.spec Inv-loop μ-loop loop-holds mul-from add-to (λ c. omega arith) (λ c. omega arith) mul-relax-row
+    (λ c. omega arith) (λ c. omega arith) part-relax-row-end relax-row-requires (λ c. omega arith) (λ c. omega arith) loop-again same-length returns)

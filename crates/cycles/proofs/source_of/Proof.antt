@@ -24,9 +24,6 @@ test c =
     let st = c .before .before .before in
     leavesMore (st .args .w) (st .args .d .now) (st .args .levels .now) (st .args .k) (st .args .v) (c .before .loop .u)
 
-sub-above : tie.Need-sub-above Inv-loop μ-loop
-sub-above c = omega arith
-
 entry-at-requires : tie.Need-entry-at-requires Inv-loop μ-loop
 entry-at-requires c κs =
     level-inside (c .args .w) (c .args .d .now) (c .args .levels .now) (c .pre .0) (c .args .k) (c .args .v) (c .pre .2) (c .pre .3)
@@ -38,9 +35,6 @@ left-by-requires : tie.Need-left-by-requires Inv-loop μ-loop
 left-by-requires c κs =
     let pre = c .before .before .before .pre in
     (pre .0, omega arith, c .loop-test .taken, pre .3)
-
-less-requires : tie.Need-less-requires Inv-loop μ-loop
-less-requires c κs = tt
 
 compared : (c : tie.After-less Inv-loop μ-loop) → test (c .before .before) ≡ c .less .result
 compared c =
@@ -56,12 +50,6 @@ returns c =
     source-found (st .args .w) (st .args .d .now) (st .args .levels .now) (st .args .k) (st .args .v) (pre .0) (pre .1) (pre .2) (pre .3)
     (c .before .before .before .before .loop .u) (c .before .before .before .loop-test .taken) (compared (c .before) ∙ c .if1 .left)
 
-add-u : tie.Need-add-u Inv-loop μ-loop
-add-u c = omega arith
-
-loop-less : tie.Need-loop-less Inv-loop μ-loop
-loop-less c = omega arith
-
 loop-again : tie.Need-loop-again Inv-loop μ-loop
 loop-again c = (omega arith, below-more _ _ (c .before .before .before .before .loop .inv .1) (compared (c .before) ∙ c .if1 .taken))
 
@@ -73,18 +61,5 @@ returns-2 c =
     (λ u h. c .before .loop .inv .1 u (omega arith)))
 
 pub source-of-spec : {M : Type 1} → statement M
-source-of-spec =
-    tie.close
-    (tie.spec
-    Inv-loop
-    μ-loop
-    sub-above
-    entry-at-requires
-    loop-holds
-    left-by-requires
-    less-requires
-    returns
-    add-u
-    loop-less
-    loop-again
-    returns-2)
+source-of-spec = tie.close (tie.spec Inv-loop μ-loop (λ c. omega arith) entry-at-requires loop-holds left-by-requires (λ c κs. tt) returns
+    (λ c. omega arith) (λ c. omega arith) loop-again returns-2)

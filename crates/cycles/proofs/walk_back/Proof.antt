@@ -86,23 +86,5 @@ loop-again c =
     (st .pre .0 .weights) (l .inv) (s .source-of .ensures) (c .before .place-of .ensures) (c .if1 .left)
 
 pub walk-back-spec : {M : Type 1} → statement M
-walk-back-spec =
-    tie.close
-    (tie.spec
-    Inv-loop
-    μ-loop
-    cast-walk
-    mul-walk
-    slice-write-walk
-    loop-holds
-    source-of-requires
-    cast-x
-    place-of-requires
-    add-to
-    same-length
-    returns
-    sub-k
-    mul-walk-2
-    slice-write-walk-2
-    loop-less
-    loop-again)
+walk-back-spec = tie.close (tie.spec Inv-loop μ-loop cast-walk mul-walk slice-write-walk loop-holds source-of-requires cast-x place-of-requires add-to
+    same-length returns sub-k mul-walk-2 slice-write-walk-2 loop-less loop-again)

@@ -18,9 +18,6 @@ right b h = eqb→eq (getD classes b 0) (classOf b) (below 256 (λ k. eqb (getD 
 at : (table : List ℕ) (b : ℕ) → table ≡ classes → b < 256 → getD table b 0 ≡ classOf b
 at table b e h = ap (λ (k : List ℕ). getD k b 0) e ∙ right b h
 
-element-copy-out-c : tie.Need-element-copy-out-c
-element-copy-out-c c = search needs
-
 cast-result : tie.Need-cast-result
 cast-result c =
     let a = c .before .args in
@@ -33,4 +30,4 @@ returns c =
     (e, omega (arith, class-small (a .b)))
 
 pub class-of-spec : {M : Type 1} → statement M
-class-of-spec = tie.close (tie.spec element-copy-out-c cast-result returns)
+class-of-spec = tie.close (tie.spec (λ c. search needs) cast-result returns)

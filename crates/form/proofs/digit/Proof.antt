@@ -8,11 +8,8 @@ use Rattle.form.proofs.digit.Tie as tie
 sub-result : tie.Need-sub-result
 sub-result c = omega (arith, digit-bounds (c .args .b) (c .pre))
 
-cast-result : tie.Need-cast-result
-cast-result c = search needs
-
 returns : tie.Need-returns
 returns c = (refl, omega (arith, digit-bounds (c .args .b) (c .pre)))
 
 pub digit-spec : {M : Type 1} → statement M
-digit-spec = tie.close (tie.spec sub-result cast-result returns)
+digit-spec = tie.close (tie.spec sub-result (λ c. search needs) returns)

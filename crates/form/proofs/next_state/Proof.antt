@@ -18,15 +18,6 @@ entered g q c b e h k =
 class-of-requires : tie.Need-class-of-requires
 class-of-requires c κs = c .pre .0 .is-classes
 
-mul-next : tie.Need-mul-next
-mul-next c = search needs
-
-index-1-next : tie.Need-index-1-next
-index-1-next c = search needs
-
-index-2-next : tie.Need-index-2-next
-index-2-next c = search needs
-
 cast-result : tie.Need-cast-result
 cast-result c =
     let r = entered (c .before .before .args .grid .now) (c .before .before .args .state) (c .before .class-of .result) (c .before .before .args .b)
@@ -39,5 +30,4 @@ returns c =
     (c .before .before .pre .0 .is-grid) (c .before .before .pre .1) (c .before .class-of .ensures .0)
 
 pub next-state-spec : {M : Type 1} → statement M
-next-state-spec =
-    tie.close (tie.spec class-of-requires mul-next index-1-next index-2-next cast-result returns)
+next-state-spec = tie.close (tie.spec class-of-requires (λ c. search needs) (λ c. search needs) (λ c. search needs) cast-result returns)

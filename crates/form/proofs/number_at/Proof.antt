@@ -18,25 +18,13 @@ abbrev μ-loop : tie.MeasureT-loop
 returns : tie.Need-returns Inv-loop μ-loop
 returns c = let a = c .before .before .args in none-end (a .s .now) (a .at) (c .if1 .taken)
 
-shared-slice-read-is-digit : tie.Need-shared-slice-read-is-digit Inv-loop μ-loop
-shared-slice-read-is-digit c = omega arith
-
-is-digit-requires : tie.Need-is-digit-requires Inv-loop μ-loop
-is-digit-requires c κs = tt
-
 returns-2 : tie.Need-returns-2 Inv-loop μ-loop
 returns-2 c =
     let a = c .before .before .before .before .before .args in
     none-other (a .s .now) (a .at) (omega arith) (sym (c .before .is-digit .ensures) ∙ not-true _ (c .if2 .taken))
 
-shared-slice-read-digit : tie.Need-shared-slice-read-digit Inv-loop μ-loop
-shared-slice-read-digit c = omega arith
-
 digit-requires : tie.Need-digit-requires Inv-loop μ-loop
 digit-requires c κs = sym (c .before .before .is-digit .ensures) ∙ not-false _ (c .before .if2 .left)
-
-add-i : tie.Need-add-i Inv-loop μ-loop
-add-i c = omega arith
 
 loop-holds : tie.Need-loop-holds Inv-loop μ-loop
 loop-holds c =
@@ -45,12 +33,6 @@ loop-holds c =
       begins (a .s .now) (a .at) (c .digit .result) (omega arith)
           (sym (c .before .before .before .is-digit .ensures) ∙ not-false _ (c .before .before .if2 .left)) (c .digit .ensures .0),
     )
-
-shared-slice-read-is-digit-2 : tie.Need-shared-slice-read-is-digit-2 Inv-loop μ-loop
-shared-slice-read-is-digit-2 c = omega arith
-
-is-digit-requires-2 : tie.Need-is-digit-requires-2 Inv-loop μ-loop
-is-digit-requires-2 c κs = tt
 
 returns-3 : tie.Need-returns-3 Inv-loop μ-loop
 returns-3 c =
@@ -72,24 +54,9 @@ returns-5 c =
     bad-long (a .s .now) (l .i) (l .value) (omega arith) (sym (c .before .before .before .is-digit2 .ensures) ∙ not-false _ (c .before .before .if3 .left))
     (c .if5 .taken) ∙ l .inv .1
 
-mul-value : tie.Need-mul-value Inv-loop μ-loop
-mul-value c = omega arith
-
-shared-slice-read-digit-2 : tie.Need-shared-slice-read-digit-2 Inv-loop μ-loop
-shared-slice-read-digit-2 c = omega arith
-
 digit-requires-2 : tie.Need-digit-requires-2 Inv-loop μ-loop
 digit-requires-2 c κs =
     (sym (c .before .before .before .before .is-digit2 .ensures) ∙ not-false _ (c .before .before .before .if3 .left))
-
-add-value : tie.Need-add-value Inv-loop μ-loop
-add-value c = omega arith
-
-add-i-2 : tie.Need-add-i-2 Inv-loop μ-loop
-add-i-2 c = omega arith
-
-loop-less : tie.Need-loop-less Inv-loop μ-loop
-loop-less c = omega arith
 
 loop-again : tie.Need-loop-again Inv-loop μ-loop
 loop-again c =
@@ -108,29 +75,6 @@ returns-6 c =
     stops-end (a .s .now) (l .i) (l .value) (omega arith) ∙ l .inv .1
 
 pub number-at-spec : {M : Type 1} → statement M
-number-at-spec =
-    tie.close
-    (tie.spec
-    Inv-loop
-    μ-loop
-    returns
-    shared-slice-read-is-digit
-    is-digit-requires
-    returns-2
-    shared-slice-read-digit
-    digit-requires
-    add-i
-    loop-holds
-    shared-slice-read-is-digit-2
-    is-digit-requires-2
-    returns-3
-    returns-4
-    returns-5
-    mul-value
-    shared-slice-read-digit-2
-    digit-requires-2
-    add-value
-    add-i-2
-    loop-less
-    loop-again
-    returns-6)
+number-at-spec = tie.close (tie.spec Inv-loop μ-loop returns (λ c. omega arith) (λ c κs. tt) returns-2 (λ c. omega arith) digit-requires
+    (λ c. omega arith) loop-holds (λ c. omega arith) (λ c κs. tt) returns-3 returns-4 returns-5 (λ c. omega arith) (λ c. omega arith) digit-requires-2
+    (λ c. omega arith) (λ c. omega arith) (λ c. omega arith) loop-again returns-6)

@@ -15,8 +15,5 @@ add-result c =
     let a = c .before .before .args in
     omega (arith, row-inside (a .from .0) (a .w) (c .before .before .pre .0))
 
-returns : tie.Need-returns
-returns c = search needs
-
 pub place-spec : {M : Type 1} → statement M
-place-spec = tie.close (tie.spec mul-result add-result returns)
+place-spec = tie.close (tie.spec mul-result add-result (λ c. search needs))

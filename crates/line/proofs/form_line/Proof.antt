@@ -8,27 +8,6 @@ use Rattle.line.proofs.form_line.Tie as tie
 enum-told : tie.Need-enum-told
 enum-told c = search needs
 
-sheet-line-requires : tie.Need-sheet-line-requires
-sheet-line-requires c κs = search needs
-
-enum-told-2 : tie.Need-enum-told-2
-enum-told-2 c = search needs
-
-unit-line-requires : tie.Need-unit-line-requires
-unit-line-requires c κs = search needs
-
-enum-told-3 : tie.Need-enum-told-3
-enum-told-3 c = search needs
-
-rule-line-requires : tie.Need-rule-line-requires
-rule-line-requires c κs = search needs
-
-enum-told-4 : tie.Need-enum-told-4
-enum-told-4 c = search needs
-
-enum-told-5 : tie.Need-enum-told-5
-enum-told-5 c = search needs
-
 returns : tie.Need-returns
 returns c =
     let a = c .before .before .before .before .args in
@@ -57,19 +36,5 @@ returns-5 c =
     ap (λ (k : Kind). said (formContent k (a .s .now))) (sym (c .enum-told5 .given .1))
 
 pub form-line-spec : {M : Type 1} → statement M
-form-line-spec =
-    tie.close
-    (tie.spec
-    enum-told
-    sheet-line-requires
-    enum-told-2
-    unit-line-requires
-    enum-told-3
-    rule-line-requires
-    enum-told-4
-    enum-told-5
-    returns
-    returns-2
-    returns-3
-    returns-4
-    returns-5)
+form-line-spec = tie.close (tie.spec enum-told (λ c κs. search needs) (λ c. search needs) (λ c κs. search needs) (λ c. search needs)
+    (λ c κs. search needs) (λ c. search needs) (λ c. search needs) returns returns-2 returns-3 returns-4 returns-5)

@@ -8,15 +8,6 @@ use borrow.Author.Needs.{needs}
 use Rattle.line.proofs.line_at.Statement.{statement}
 use Rattle.line.proofs.line_at.Tie as tie
 
-scan-requires : tie.Need-scan-requires
-scan-requires c κs = search needs
-
-sub-part : tie.Need-sub-part
-sub-part c = search needs
-
-part-part-start : tie.Need-part-part-start
-part-part-start c = search needs
-
 part-part-end : tie.Need-part-part-end
 part-part-end c =
     let a = c .before .before .args in
@@ -44,13 +35,4 @@ returns c =
     )
 
 pub line-at-spec : {M : Type 1} → statement M
-line-at-spec =
-    tie.close
-    (tie.spec
-    scan-requires
-    sub-part
-    part-part-start
-    part-part-end
-    read-line-requires
-    add-t14
-    returns)
+line-at-spec = tie.close (tie.spec (λ c κs. search needs) (λ c. search needs) (λ c. search needs) part-part-end read-line-requires add-t14 returns)

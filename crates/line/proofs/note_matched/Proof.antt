@@ -5,12 +5,6 @@ use borrow.Author.Needs.{needs}
 use Rattle.line.proofs.note_matched.Statement.{statement}
 use Rattle.line.proofs.note_matched.Tie as tie
 
-list-end-requires : tie.Need-list-end-requires
-list-end-requires c κs = search needs
-
-enum-known-end : tie.Need-enum-known-end
-enum-known-end c = search needs
-
 enum-told : tie.Need-enum-told
 enum-told c = search needs
 
@@ -23,5 +17,4 @@ returns-2 : tie.Need-returns-2
 returns-2 c = note-open _ (sym (c .before .before .list-end .ensures) ∙ c .enum-told .given .1)
 
 pub note-matched-spec : {M : Type 1} → statement M
-note-matched-spec =
-    tie.close (tie.spec list-end-requires enum-known-end enum-told returns returns-2)
+note-matched-spec = tie.close (tie.spec (λ c κs. search needs) (λ c. search needs) enum-told returns returns-2)

@@ -21,16 +21,10 @@ no-note c = sym (c .before .is-note .ensures) ∙ c .if2 .left
 closed : (c : tie.Else3) → noteMatched (c .before .before .before .before .before .before .before .args .s .now) ≡ true
 closed c = sym (c .before .note-matched .ensures) ∙ not-false _ (c .if3 .left)
 
-is-printable-requires : tie.Need-is-printable-requires
-is-printable-requires c κs = search needs
-
 returns : tie.Need-returns
 returns c =
     let a = c .before .before .before .args in
     asks-bytes (a .s .now) (a .kind) (a .ended) (c .before .before .before .pre) (sym (c .before .is-printable .ensures) ∙ not-true _ (c .if1 .taken))
-
-is-note-requires : tie.Need-is-note-requires
-is-note-requires c κs = search needs
 
 note-matched-requires : tie.Need-note-matched-requires
 note-matched-requires c κs = note-some (c .before .before .before .before .before .args .s .now) (note c)
@@ -62,9 +56,6 @@ returns-5 c =
     asks-feed (a .s .now) (a .kind) (a .ended) (c .before .before .before .before .before .before .pre) (printable (c .before .before .before))
     (no-note (c .before)) (not-true _ (c .if5 .taken))
 
-form-line-requires : tie.Need-form-line-requires
-form-line-requires c κs = search needs
-
 returns-6 : tie.Need-returns-6
 returns-6 c =
     let a = c .before .before .before .before .before .before .before .args in
@@ -73,16 +64,5 @@ returns-6 c =
     (printable (c .before .before .before .before)) (no-note (c .before .before)) (not-false _ (c .before .if5 .left))
 
 pub read-line-spec : {M : Type 1} → statement M
-read-line-spec =
-    tie.close
-    (tie.spec
-    is-printable-requires
-    returns
-    is-note-requires
-    note-matched-requires
-    returns-2
-    returns-3
-    returns-4
-    returns-5
-    form-line-requires
-    returns-6)
+read-line-spec = tie.close (tie.spec (λ c κs. search needs) returns (λ c κs. search needs) note-matched-requires returns-2 returns-3 returns-4
+    returns-5 (λ c κs. search needs) returns-6)

@@ -16,17 +16,8 @@ abbrev μ-loop : tie.MeasureT-loop
 loop-holds : tie.Need-loop-holds Inv-loop μ-loop
 loop-holds c = record { place = omega arith; inside = omega arith; end = refl; kind = refl }
 
-shared-slice-read-b : tie.Need-shared-slice-read-b Inv-loop μ-loop
-shared-slice-read-b c = omega arith
-
 next-state-requires : tie.Need-next-state-requires Inv-loop μ-loop
 next-state-requires c κs = (c .before .before .before .before .before .pre .1, c .before .before .before .loop .inv .inside)
-
-add-i : tie.Need-add-i Inv-loop μ-loop
-add-i c = omega arith
-
-loop-less : tie.Need-loop-less Inv-loop μ-loop
-loop-less c = omega arith
 
 loop-again : tie.Need-loop-again Inv-loop μ-loop
 loop-again c =
@@ -34,9 +25,6 @@ loop-again c =
     let t = c .before .before .before .before .before .before .args .text .now in
     let s = scan-byte t (l .i) (l .state) (c .next-state .result) (omega arith) (c .before .if1 .left) (c .next-state .ensures .0) in
     record { place = omega arith; inside = c .next-state .ensures .1; end = sym (s .0) ∙ l .inv .end; kind = s .1 ∙ l .inv .kind }
-
-kind-at-requires : tie.Need-kind-at-requires Inv-loop μ-loop
-kind-at-requires c κs = tt
 
 returns : tie.Need-returns Inv-loop μ-loop
 returns c =
@@ -48,16 +36,5 @@ returns c =
     (c .kind-at .ensures)
 
 pub scan-spec : {M : Type 1} → statement M
-scan-spec =
-    tie.close
-    (tie.spec
-    Inv-loop
-    μ-loop
-    loop-holds
-    shared-slice-read-b
-    next-state-requires
-    add-i
-    loop-less
-    loop-again
-    kind-at-requires
-    returns)
+scan-spec = tie.close (tie.spec Inv-loop μ-loop loop-holds (λ c. omega arith) next-state-requires (λ c. omega arith) (λ c. omega arith) loop-again
+    (λ c κs. tt) returns)

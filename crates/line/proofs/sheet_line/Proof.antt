@@ -4,12 +4,6 @@ use borrow.Author.Needs.{needs}
 use Rattle.line.proofs.sheet_line.Statement.{statement}
 use Rattle.line.proofs.sheet_line.Tie as tie
 
-number-at-requires : tie.Need-number-at-requires
-number-at-requires c κs = search needs
-
-enum-known-span : tie.Need-enum-known-span
-enum-known-span c = search needs
-
 enum-told : tie.Need-enum-told
 enum-told c = search needs
 
@@ -20,5 +14,4 @@ returns-2 : tie.Need-returns-2
 returns-2 c = sheet-faulty _ (sym (c .before .before .number-at .ensures) ∙ c .enum-told .given .1)
 
 pub sheet-line-spec : {M : Type 1} → statement M
-sheet-line-spec =
-    tie.close (tie.spec number-at-requires enum-known-span enum-told returns returns-2)
+sheet-line-spec = tie.close (tie.spec (λ c κs. search needs) (λ c. search needs) enum-told returns returns-2)

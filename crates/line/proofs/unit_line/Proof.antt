@@ -4,12 +4,6 @@ use borrow.Author.Needs.{needs}
 use Rattle.line.proofs.unit_line.Statement.{statement}
 use Rattle.line.proofs.unit_line.Tie as tie
 
-pair-at-requires : tie.Need-pair-at-requires
-pair-at-requires c κs = search needs
-
-enum-known-window : tie.Need-enum-known-window
-enum-known-window c = search needs
-
 enum-told : tie.Need-enum-told
 enum-told c = search needs
 
@@ -20,5 +14,4 @@ returns-2 : tie.Need-returns-2
 returns-2 c = unit-faulty _ (sym (c .before .before .pair-at .ensures) ∙ c .enum-told .given .1)
 
 pub unit-line-spec : {M : Type 1} → statement M
-unit-line-spec =
-    tie.close (tie.spec pair-at-requires enum-known-window enum-told returns returns-2)
+unit-line-spec = tie.close (tie.spec (λ c κs. search needs) (λ c. search needs) enum-told returns returns-2)

@@ -52,12 +52,6 @@ arcs-row-requires c κs =
     let p = length-slice (l .b * w) (l .b * w + w) (l .out) (omega arith) in
     (omega arith, st .pre .0, omega arith, st .pre .2)
 
-add-b : tie.Need-add-b Inv-loop μ-loop
-add-b c = omega arith
-
-loop-less : tie.Need-loop-less Inv-loop μ-loop
-loop-less c = omega arith
-
 loop-again : tie.Need-loop-again Inv-loop μ-loop
 loop-again c =
     let st = c .before .before .before .before .before in
@@ -79,21 +73,5 @@ returns c =
     rows-all (g .w) (oneLess (entry (g .w) (g .inside .now))) (l .b) (g .out .now) (l .out) (omega arith) (l .inv .2)
 
 pub arcs-spec : {M : Type 1} → statement M
-arcs-spec =
-    tie.close
-    (tie.spec
-    Inv-loop
-    μ-loop
-    loop-holds
-    mul-from
-    add-to
-    mul-arcs-row
-    sub-arcs-row
-    part-arcs-row-start
-    part-arcs-row-end
-    arcs-row-requires
-    add-b
-    loop-less
-    loop-again
-    same-length
-    returns)
+arcs-spec = tie.close (tie.spec Inv-loop μ-loop loop-holds mul-from add-to mul-arcs-row sub-arcs-row part-arcs-row-start part-arcs-row-end
+    arcs-row-requires (λ c. omega arith) (λ c. omega arith) loop-again same-length returns)

@@ -53,21 +53,12 @@ sub-row c =
     let f : SFits w16 (getD (a .inside .now) i (pos 0)) = search needs in
     rw (toZ-ofZ f) (one-less-fits (getD (a .inside .now) i (pos 0)) (st .pre .3 (c .before .before .loop .a) (a .b) (omega arith) (st .pre .0)))
 
-mul-t13 : tie.Need-mul-t13 Inv-loop μ-loop
-mul-t13 c = omega arith
-
 slice-set-from-row : tie.Need-slice-set-from-row Inv-loop μ-loop
 slice-set-from-row c =
     let st = c .before .before .before in
     let a = st .args in
     let l = c .before .before .loop in
     omega (arith, filled-length (oneLess (entry (a .w) (a .inside .now)) (a .b)) (l .a) (a .row .now) (l .row) (l .inv .1) (omega arith))
-
-add-a : tie.Need-add-a Inv-loop μ-loop
-add-a c = omega arith
-
-loop-less : tie.Need-loop-less Inv-loop μ-loop
-loop-less c = omega arith
 
 loop-again : tie.Need-loop-again Inv-loop μ-loop
 loop-again c =
@@ -99,21 +90,5 @@ returns c =
     filled-all g (l .a) (a .row .now) (l .row) (l .inv .1) (omega arith) ∙ ap (λ (n : ℕ). listOf n g) e
 
 pub arcs-row-spec : {M : Type 1} → statement M
-arcs-row-spec =
-    tie.close
-    (tie.spec
-    Inv-loop
-    μ-loop
-    loop-holds
-    mul-row
-    add-row
-    mul-row-2
-    shared-slice-copy-out-row
-    sub-row
-    mul-t13
-    slice-set-from-row
-    add-a
-    loop-less
-    loop-again
-    same-length
-    returns)
+arcs-row-spec = tie.close (tie.spec Inv-loop μ-loop loop-holds mul-row add-row mul-row-2 shared-slice-copy-out-row sub-row (λ c. omega arith)
+    slice-set-from-row (λ c. omega arith) (λ c. omega arith) loop-again same-length returns)

@@ -19,17 +19,11 @@ place c =
     let n = st .pre .3 in
     omega (arith, last-inside (st .args .row .now) (c .last-marked .result) (omega (arith, n, st .pre .2)) (c .last-marked .ensures), n)
 
-last-marked-requires : tie.Need-last-marked-requires
-last-marked-requires c κs = search needs
-
 mul-larger : tie.Need-mul-larger
 mul-larger c = omega (arith, place c, c .before .before .before .pre .0 .most)
 
 shared-slice-read-larger : tie.Need-shared-slice-read-larger
 shared-slice-read-larger c = omega (arith, place (c .before), c .before .before .before .before .pre .4)
-
-larger-requires : tie.Need-larger-requires
-larger-requires c κs = search needs
 
 mul-known : tie.Need-mul-known
 mul-known c = omega (arith, place (c .before .before), c .before .before .before .before .before .pre .0 .most)
@@ -76,17 +70,5 @@ returns-3 c =
     common-none (a .w) (a .d .now) (a .m .now) (a .f) (a .row .now) (st .pre .2)
 
 pub common-cut-spec : {M : Type 1} → statement M
-common-cut-spec =
-    tie.close
-    (tie.spec
-    last-marked-requires
-    mul-larger
-    shared-slice-read-larger
-    larger-requires
-    mul-known
-    shared-slice-read-known
-    cast-known
-    returns
-    admits-requires
-    returns-2
-    returns-3)
+common-cut-spec = tie.close (tie.spec (λ c κs. search needs) mul-larger shared-slice-read-larger (λ c κs. search needs) mul-known
+    shared-slice-read-known cast-known returns admits-requires returns-2 returns-3)

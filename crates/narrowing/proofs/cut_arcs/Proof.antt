@@ -12,14 +12,8 @@ use borrow.Author.Needs.{needs}
 use Rattle.narrowing.proofs.cut_arcs.Statement.{statement}
 use Rattle.narrowing.proofs.cut_arcs.Tie as tie
 
-slice-aggregate-windows-inside : tie.Need-slice-aggregate-windows-inside
-slice-aggregate-windows-inside c = search needs
-
 windows-inside-requires : tie.Need-windows-inside-requires
 windows-inside-requires c κs = let st = c .before .before .before in (square-most (st .args .w) (st .pre .1), st .pre .0)
-
-slice-aggregate-arcs : tie.Need-slice-aggregate-arcs
-slice-aggregate-arcs c = search needs
 
 arcs-requires : tie.Need-arcs-requires
 arcs-requires c κs =
@@ -34,9 +28,6 @@ arcs-requires c κs =
           (omega (arith, st .pre .0 .few)) (i .ensures),
     )
 
-same-length : tie.Need-same-length
-same-length c = search needs
-
 returns : tie.Need-returns
 returns c =
     let i = c .before .before .before .before .before .windows-inside in
@@ -45,12 +36,4 @@ returns c =
     (c .before .arcs .last .1 .1 .0) (drop (a .w * a .w) (a .out .now)) (i .ensures) (c .before .arcs .ensures)
 
 pub cut-arcs-spec : {M : Type 1} → statement M
-cut-arcs-spec =
-    tie.close
-    (tie.spec
-    slice-aggregate-windows-inside
-    windows-inside-requires
-    slice-aggregate-arcs
-    arcs-requires
-    same-length
-    returns)
+cut-arcs-spec = tie.close (tie.spec (λ c. search needs) windows-inside-requires (λ c. search needs) arcs-requires (λ c. search needs) returns)

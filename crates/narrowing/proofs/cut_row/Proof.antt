@@ -35,9 +35,6 @@ mul-larger c = omega (arith, c .loop-test .taken, c .before .before .before .bef
 slice-read-larger : tie.Need-slice-read-larger Inv-loop μ-loop
 slice-read-larger c = omega (arith, c .before .before .loop .inv .0 .wide, c .before .loop-test .taken)
 
-larger-requires : tie.Need-larger-requires Inv-loop μ-loop
-larger-requires c κs = tt
-
 mul-known : tie.Need-mul-known Inv-loop μ-loop
 mul-known c = omega (arith, c .before .before .loop-test .taken, c .before .before .before .before .before .before .before .before .before .pre .0 .0 .most)
 
@@ -46,9 +43,6 @@ slice-read-known c = omega (arith, c .before .before .before .before .loop .inv 
 
 cast-known : tie.Need-cast-known Inv-loop μ-loop
 cast-known c = omega (arith, c .slice-known4 .given (c .before .before .before .before .loop .l))
-
-smaller-requires : tie.Need-smaller-requires Inv-loop μ-loop
-smaller-requires c κs = tt
 
 least-cut-requires : tie.Need-least-cut-requires Inv-loop μ-loop
 least-cut-requires c κs =
@@ -147,30 +141,6 @@ returns c =
     (λ k h. l .inv .0 .done k (omega arith), l .inv .0 .floored)
 
 pub cut-row-spec : {M : Type 1} → statement M
-cut-row-spec =
-    tie.close
-    (tie.spec
-    Inv-loop
-    μ-loop
-    common-cut-requires
-    loop-holds
-    mul-larger
-    slice-read-larger
-    larger-requires
-    mul-known
-    slice-read-known
-    cast-known
-    smaller-requires
-    least-cut-requires
-    cast-row
-    mul-row
-    slice-write-row
-    cast-floor
-    mul-floor
-    slice-write-floor
-    add-l
-    loop-less
-    loop-again
-    same-length
-    same-length-2
-    returns)
+cut-row-spec = tie.close (tie.spec Inv-loop μ-loop common-cut-requires loop-holds mul-larger slice-read-larger (λ c κs. tt) mul-known slice-read-known
+    cast-known (λ c κs. tt) least-cut-requires cast-row mul-row slice-write-row cast-floor mul-floor slice-write-floor add-l loop-less loop-again
+    same-length same-length-2 returns)

@@ -46,9 +46,6 @@ part-cut-row-start c = omega (arith, row-fits c, c .before .before .before .good
 part-cut-row-end : tie.Need-part-cut-row-end Inv-loop μ-loop
 part-cut-row-end c = omega (arith, row-fits c, c .before .before .before .good)
 
-slice-aggregate-cut-row : tie.Need-slice-aggregate-cut-row Inv-loop μ-loop
-slice-aggregate-cut-row c = search needs
-
 cut-row-requires : tie.Need-cut-row-requires Inv-loop μ-loop
 cut-row-requires c κs =
     let at = c .before .before .before in
@@ -101,22 +98,5 @@ returns c =
     λ f k hf hk. l .inv .done f k (omega arith) hk
 
 pub cut-windows-spec : {M : Type 1} → statement M
-cut-windows-spec =
-    tie.close
-    (tie.spec
-    Inv-loop
-    μ-loop
-    loop-holds
-    mul-from
-    add-to
-    mul-cut-row
-    sub-cut-row
-    part-cut-row-start
-    part-cut-row-end
-    slice-aggregate-cut-row
-    cut-row-requires
-    add-f
-    loop-less
-    loop-again
-    same-length
-    returns)
+cut-windows-spec = tie.close (tie.spec Inv-loop μ-loop loop-holds mul-from add-to mul-cut-row sub-cut-row part-cut-row-start part-cut-row-end
+    (λ c. search needs) cut-row-requires add-f loop-less loop-again same-length returns)

@@ -47,36 +47,21 @@ admitted c =
     late-turned (a .w) (a .d .now) (a .m .now) (table c) (added c) (zeros c) (zeros c) (st .pre .0 .0) (long c .0) (long c .1)
     (c .before .before .before .mirror .ensures) (c .mirror2 .ensures) (a .first .now) (a .last .now) (a .plan .now) (st .pre .0 .1) (st .pre .1 .1)
 
-slice-aggregate-mirror : tie.Need-slice-aggregate-mirror
-slice-aggregate-mirror c = search needs
-
 mirror-requires : tie.Need-mirror-requires
 mirror-requires c κs =
     let st = c .before .before .before .before .before in
     (st .pre .0 .0 .size, square-most (st .args .w) (st .pre .0 .0 .most))
-
-slice-aggregate-mirror-2 : tie.Need-slice-aggregate-mirror-2
-slice-aggregate-mirror-2 c = search needs
 
 mirror-requires-2 : tie.Need-mirror-requires-2
 mirror-requires-2 c κs =
     let st = c .before .before .before .before .before .before .before .before in
     (st .pre .0 .0 .sizeArcs, square-most (st .args .w) (st .pre .0 .0 .most))
 
-slice-aggregate-least-cuts-turned : tie.Need-slice-aggregate-least-cuts-turned
-slice-aggregate-least-cuts-turned c = search needs
-
-slice-aggregate-least-cuts-turned-2 : tie.Need-slice-aggregate-least-cuts-turned-2
-slice-aggregate-least-cuts-turned-2 c = search needs
-
 least-cuts-turned-requires : tie.Need-least-cuts-turned-requires
 least-cuts-turned-requires c κs =
     let r = c .before .before .before .before in
     let st = start r in
     ((network r, st .pre .0 .1, st .pre .0 .2), (st .pre .1 .0, admitted r))
-
-same-length : tie.Need-same-length
-same-length c = search needs
 
 returns : tie.Need-returns
 returns c =
@@ -89,15 +74,5 @@ returns c =
     (a .first .now) (a .last .now) (a .plan .now) (st .pre .0 .1) (a .out .now) (l .last .1 .1 .1 .1 .1 .1 .0) (l .ensures)
 
 pub greatest-cuts-spec : {M : Type 1} → statement M
-greatest-cuts-spec =
-    tie.close
-    (tie.spec
-    slice-aggregate-mirror
-    mirror-requires
-    slice-aggregate-mirror-2
-    mirror-requires-2
-    slice-aggregate-least-cuts-turned
-    slice-aggregate-least-cuts-turned-2
-    least-cuts-turned-requires
-    same-length
-    returns)
+greatest-cuts-spec = tie.close (tie.spec (λ c. search needs) mirror-requires (λ c. search needs) mirror-requires-2 (λ c. search needs)
+    (λ c. search needs) least-cuts-turned-requires (λ c. search needs) returns)

@@ -52,16 +52,4 @@ returns-2 c =
     record { inside = λ h. absurd (omega arith); marked = λ h. absurd (omega arith); last = λ j h. l .inv .1 j (omega (arith, c .loop-test .left)) }
 
 pub last-marked-spec : {M : Type 1} → statement M
-last-marked-spec =
-    tie.close
-    (tie.spec
-    Inv-loop
-    μ-loop
-    loop-holds
-    sub-last
-    mul-if1
-    shared-slice-read-if1
-    returns
-    loop-less
-    loop-again
-    returns-2)
+last-marked-spec = tie.close (tie.spec Inv-loop μ-loop loop-holds sub-last mul-if1 shared-slice-read-if1 returns loop-less loop-again returns-2)

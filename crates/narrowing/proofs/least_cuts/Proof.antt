@@ -8,16 +8,10 @@ use borrow.Author.Needs.{needs}
 use Rattle.narrowing.proofs.least_cuts.Statement.{statement}
 use Rattle.narrowing.proofs.least_cuts.Tie as tie
 
-slice-aggregate-mark : tie.Need-slice-aggregate-mark
-slice-aggregate-mark c = search needs
-
 mark-requires : tie.Need-mark-requires
 mark-requires c κs =
     let st = c .before .before .before .before .before in
     (st .pre .0 .1, square-most (st .args .w) (st .pre .0 .0 .most), zeros 2401)
-
-slice-aggregate-cut-windows : tie.Need-slice-aggregate-cut-windows
-slice-aggregate-cut-windows c = search needs
 
 cut-windows-requires : tie.Need-cut-windows-requires
 cut-windows-requires c κs =
@@ -31,9 +25,6 @@ cut-windows-requires c κs =
           (mk .mark .ensures),
     )
 
-slice-aggregate-read-marks : tie.Need-slice-aggregate-read-marks
-slice-aggregate-read-marks c = search needs
-
 read-marks-requires : tie.Need-read-marks-requires
 read-marks-requires c κs =
     let cut = c .before .before .before in
@@ -44,9 +35,6 @@ read-marks-requires c κs =
       (st .pre .0 .1 .lasts, st .pre .0 .2, omega (arith, square-most (a .w) (st .pre .0 .0 .most))),
       λ j h. let u = st .pre .0 .1 .inside j h in omega (arith, u),
     )
-
-same-length : tie.Need-same-length
-same-length c = search needs
 
 returns : tie.Need-returns
 returns c =
@@ -61,14 +49,5 @@ returns c =
     (rd .read-marks .ensures)
 
 pub least-cuts-spec : {M : Type 1} → statement M
-least-cuts-spec =
-    tie.close
-    (tie.spec
-    slice-aggregate-mark
-    mark-requires
-    slice-aggregate-cut-windows
-    cut-windows-requires
-    slice-aggregate-read-marks
-    read-marks-requires
-    same-length
-    returns)
+least-cuts-spec = tie.close (tie.spec (λ c. search needs) mark-requires (λ c. search needs) cut-windows-requires (λ c. search needs)
+    read-marks-requires (λ c. search needs) returns)

@@ -62,9 +62,6 @@ cuts-low c =
     cuts-below (a .w) (a .first .now) (a .last .now) (a .plan .now) (st .pre .0 .1) (opens r) (closes r) (seats r) (turned r) (a .d .now) (a .m .now)
     (replicate 300 0) (cuts c) (st .pre .1 .0) (c .least-cuts .ensures)
 
-slice-aggregate-reflect : tie.Need-slice-aggregate-reflect
-slice-aggregate-reflect c = search needs
-
 reflect-requires : tie.Need-reflect-requires
 reflect-requires c κs =
     let st = c .before .before .before .before .before in
@@ -75,9 +72,6 @@ reflect-requires c κs =
       λ j h. slots-below (a .w) (a .first .now) (a .last .now) (a .plan .now) (st .pre .0 .1) j
           (omega arith) .2,
     )
-
-slice-aggregate-reflect-2 : tie.Need-slice-aggregate-reflect-2
-slice-aggregate-reflect-2 c = search needs
 
 reflect-requires-2 : tie.Need-reflect-requires-2
 reflect-requires-2 c κs =
@@ -91,9 +85,6 @@ slice-aggregate-reflect-3 c =
     let a = st .args in
     sym (plan-length (a .w) (a .first .now) (a .last .now) (a .plan .now) (st .pre .0 .1))
 
-slice-aggregate-reflect-4 : tie.Need-slice-aggregate-reflect-4
-slice-aggregate-reflect-4 c = search needs
-
 reflect-requires-3 : tie.Need-reflect-requires-3
 reflect-requires-3 c κs =
     let st = c .before .before .before .before .before .before .before .before .before .before .before .before in
@@ -104,26 +95,14 @@ reflect-requires-3 c κs =
           (a .first .now) (a .last .now) (a .plan .now) (st .pre .0 .1),
     )
 
-array-share-prefix-opens : tie.Need-array-share-prefix-opens
-array-share-prefix-opens c = search needs
-
 slice-aggregate-least-cuts : tie.Need-slice-aggregate-least-cuts
 slice-aggregate-least-cuts c = sym (turned (c .before .before) .opensLong)
-
-array-share-prefix-closes : tie.Need-array-share-prefix-closes
-array-share-prefix-closes c = search needs
 
 slice-aggregate-least-cuts-2 : tie.Need-slice-aggregate-least-cuts-2
 slice-aggregate-least-cuts-2 c = sym (turned (c .before .before .before) .closesLong)
 
-array-share-prefix-seats : tie.Need-array-share-prefix-seats
-array-share-prefix-seats c = search needs
-
 slice-aggregate-least-cuts-3 : tie.Need-slice-aggregate-least-cuts-3
 slice-aggregate-least-cuts-3 c = sym (turned (c .before .before .before .before) .seatsLong)
-
-slice-aggregate-least-cuts-4 : tie.Need-slice-aggregate-least-cuts-4
-slice-aggregate-least-cuts-4 c = search needs
 
 least-cuts-requires : tie.Need-least-cuts-requires
 least-cuts-requires c κs =
@@ -141,9 +120,6 @@ least-cuts-requires c κs =
           (st .pre .1 .1),
     )
 
-array-share-prefix-cuts : tie.Need-array-share-prefix-cuts
-array-share-prefix-cuts c = search needs
-
 slice-aggregate-reflect-5 : tie.Need-slice-aggregate-reflect-5
 slice-aggregate-reflect-5 c = sym (cuts-long (c .before .before))
 
@@ -152,9 +128,6 @@ reflect-requires-4 c κs =
     let l = c .before .before .before in
     let st = start (lists l) in
     (st .pre .0 .0 .most, omega (arith, st .pre .0 .2, cuts-long l), cuts-low l)
-
-same-length : tie.Need-same-length
-same-length c = search needs
 
 returns : tie.Need-returns
 returns c =
@@ -167,26 +140,7 @@ returns c =
     (a .out .now) (c .before .before .reflect4 .last .1 .1 .0) (st .pre .0 .2) (c .before .before .reflect4 .ensures)
 
 pub least-cuts-turned-spec : {M : Type 1} → statement M
-least-cuts-turned-spec =
-    tie.close
-    (tie.spec
-    slice-aggregate-reflect
-    reflect-requires
-    slice-aggregate-reflect-2
-    reflect-requires-2
-    slice-aggregate-reflect-3
-    slice-aggregate-reflect-4
-    reflect-requires-3
-    array-share-prefix-opens
-    slice-aggregate-least-cuts
-    array-share-prefix-closes
-    slice-aggregate-least-cuts-2
-    array-share-prefix-seats
-    slice-aggregate-least-cuts-3
-    slice-aggregate-least-cuts-4
-    least-cuts-requires
-    array-share-prefix-cuts
-    slice-aggregate-reflect-5
-    reflect-requires-4
-    same-length
-    returns)
+least-cuts-turned-spec = tie.close (tie.spec (λ c. search needs) reflect-requires (λ c. search needs) reflect-requires-2 slice-aggregate-reflect-3
+    (λ c. search needs) reflect-requires-3 (λ c. search needs) slice-aggregate-least-cuts (λ c. search needs) slice-aggregate-least-cuts-2
+    (λ c. search needs) slice-aggregate-least-cuts-3 (λ c. search needs) least-cuts-requires (λ c. search needs) slice-aggregate-reflect-5
+    reflect-requires-4 (λ c. search needs) returns)

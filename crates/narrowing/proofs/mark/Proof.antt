@@ -19,12 +19,6 @@ loop-holds : tie.Need-loop-holds Inv-loop μ-loop
 loop-holds c = let a = c .args in
     (omega arith, refl, refl, marked-none (a .w) (a .first .now) (a .last .now) (a .plan .now) (c .pre .0) (a .marks .now) (c .pre .2))
 
-mul-f : tie.Need-mul-f Inv-loop μ-loop
-mul-f c = omega arith
-
-shared-slice-read-f : tie.Need-shared-slice-read-f Inv-loop μ-loop
-shared-slice-read-f c = omega arith
-
 cast-f : tie.Need-cast-f Inv-loop μ-loop
 cast-f c = omega (arith, c .shared-slice-known .given (c .before .before .loop .j))
 
@@ -77,12 +71,6 @@ slice-write-marks c =
       c .before .before .before .before .loop .inv .2,
     )
 
-add-j : tie.Need-add-j Inv-loop μ-loop
-add-j c = omega arith
-
-loop-less : tie.Need-loop-less Inv-loop μ-loop
-loop-less c = omega arith
-
 loop-again : tie.Need-loop-again Inv-loop μ-loop
 loop-again c =
     let st = c .before .before .before .before .before in
@@ -106,26 +94,5 @@ returns c =
     subst (λ (n : ℕ). Marked n (a .w) (a .first .now) (a .last .now) (a .plan .now) (l .marks)) e (l .inv .3)
 
 pub mark-spec : {M : Type 1} → statement M
-mark-spec =
-    tie.close
-    (tie.spec
-    Inv-loop
-    μ-loop
-    loop-holds
-    mul-f
-    shared-slice-read-f
-    cast-f
-    mul-l
-    shared-slice-read-l
-    cast-l
-    mul-at
-    add-at
-    mul-marks
-    shared-slice-read-marks
-    mul-marks-2
-    slice-write-marks
-    add-j
-    loop-less
-    loop-again
-    same-length
-    returns)
+mark-spec = tie.close (tie.spec Inv-loop μ-loop loop-holds (λ c. omega arith) (λ c. omega arith) cast-f mul-l shared-slice-read-l cast-l mul-at add-at
+    mul-marks shared-slice-read-marks mul-marks-2 slice-write-marks (λ c. omega arith) (λ c. omega arith) loop-again same-length returns)

@@ -52,12 +52,6 @@ mirror-row-requires c κs =
     let p = length-slice (l .a * w) (l .a * w + w) (l .out) (omega arith) in
     (omega arith, st .pre .0, omega arith)
 
-add-a : tie.Need-add-a Inv-loop μ-loop
-add-a c = omega arith
-
-loop-less : tie.Need-loop-less Inv-loop μ-loop
-loop-less c = omega arith
-
 loop-again : tie.Need-loop-again Inv-loop μ-loop
 loop-again c =
     let st = c .before .before .before .before .before in
@@ -79,21 +73,5 @@ returns c =
     rows-all (g .w) (mirrored (g .w - 1) (entry (g .w) (g .t .now))) (l .a) (g .out .now) (l .out) (omega arith) (l .inv .2)
 
 pub mirror-spec : {M : Type 1} → statement M
-mirror-spec =
-    tie.close
-    (tie.spec
-    Inv-loop
-    μ-loop
-    loop-holds
-    mul-from
-    add-to
-    mul-mirror-row
-    sub-mirror-row
-    part-mirror-row-start
-    part-mirror-row-end
-    mirror-row-requires
-    add-a
-    loop-less
-    loop-again
-    same-length
-    returns)
+mirror-spec = tie.close (tie.spec Inv-loop μ-loop loop-holds mul-from add-to mul-mirror-row sub-mirror-row part-mirror-row-start part-mirror-row-end
+    mirror-row-requires (λ c. omega arith) (λ c. omega arith) loop-again same-length returns)

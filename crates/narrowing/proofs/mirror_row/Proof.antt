@@ -21,20 +21,8 @@ Inv-loop t w a row₀ column b₀ row b = (b ≤ w) × (column ≡ w - 1 - a) ×
 abbrev μ-loop : tie.MeasureT-loop
 μ-loop t w a row₀ column b₀ row b = w - b
 
-sub-column : tie.Need-sub-column Inv-loop μ-loop
-sub-column c = omega arith
-
-sub-column-2 : tie.Need-sub-column-2 Inv-loop μ-loop
-sub-column-2 c = omega arith
-
 loop-holds : tie.Need-loop-holds Inv-loop μ-loop
 loop-holds c = (omega arith, refl, refl)
-
-sub-row : tie.Need-sub-row Inv-loop μ-loop
-sub-row c = omega arith
-
-sub-row-2 : tie.Need-sub-row-2 Inv-loop μ-loop
-sub-row-2 c = omega arith
 
 mul-row : tie.Need-mul-row Inv-loop μ-loop
 mul-row c =
@@ -56,21 +44,12 @@ shared-slice-copy-out-row c =
     let st = c .before .before in
     omega (arith, row-inside (st .args .w - 1 - c .before .loop .b) (st .args .w) (omega arith))
 
-mul-t16 : tie.Need-mul-t16 Inv-loop μ-loop
-mul-t16 c = omega arith
-
 slice-set-from-row : tie.Need-slice-set-from-row Inv-loop μ-loop
 slice-set-from-row c =
     let st = c .before .before .before in
     let a = st .args in
     let l = c .before .before .loop in
     omega (arith, filled-length (mirrored (a .w - 1) (entry (a .w) (a .t .now)) (a .a)) (l .b) (a .row .now) (l .row) (l .inv .2) (omega arith))
-
-add-b : tie.Need-add-b Inv-loop μ-loop
-add-b c = omega arith
-
-loop-less : tie.Need-loop-less Inv-loop μ-loop
-loop-less c = omega arith
 
 loop-again : tie.Need-loop-again Inv-loop μ-loop
 loop-again c =
@@ -101,24 +80,6 @@ returns c =
     filled-all g (l .b) (a .row .now) (l .row) (l .inv .2) (omega arith) ∙ ap (λ (n : ℕ). listOf n g) e
 
 pub mirror-row-spec : {M : Type 1} → statement M
-mirror-row-spec =
-    tie.close
-    (tie.spec
-    Inv-loop
-    μ-loop
-    sub-column
-    sub-column-2
-    loop-holds
-    sub-row
-    sub-row-2
-    mul-row
-    add-row
-    mul-row-2
-    shared-slice-copy-out-row
-    mul-t16
-    slice-set-from-row
-    add-b
-    loop-less
-    loop-again
-    same-length
+mirror-row-spec = tie.close (tie.spec Inv-loop μ-loop (λ c. omega arith) (λ c. omega arith) loop-holds (λ c. omega arith) (λ c. omega arith) mul-row
+    add-row mul-row-2 shared-slice-copy-out-row (λ c. omega arith) slice-set-from-row (λ c. omega arith) (λ c. omega arith) loop-again same-length
     returns)

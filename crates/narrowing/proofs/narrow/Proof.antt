@@ -50,9 +50,6 @@ late c =
     admitted-late-of (st .pre .0 .0) (a .first .now) (a .last .now) (a .plan .now) (a .table .now) (a .w) (st .pre .0 .1) (added c) (zeros c) (long c)
     (c .cut-arcs .ensures)
 
-slice-aggregate-cut-arcs : tie.Need-slice-aggregate-cut-arcs
-slice-aggregate-cut-arcs c = search needs
-
 cut-arcs-requires : tie.Need-cut-arcs-requires
 cut-arcs-requires c κs =
     let st = c .before .before .before .before .before .before in
@@ -60,18 +57,12 @@ cut-arcs-requires c κs =
     let h = st .pre .0 .1 in
     (windows-fit (st .pre .0 .0) (a .first .now) (a .last .now) (a .plan .now) (a .table .now) (a .w) h, h .most, square-most (a .w) (h .most))
 
-slice-aggregate-least-cuts : tie.Need-slice-aggregate-least-cuts
-slice-aggregate-least-cuts c = search needs
-
 least-cuts-requires : tie.Need-least-cuts-requires
 least-cuts-requires c κs =
     let r = c .before .before .before in
     let st = start r in
     let a = st .args in
     ((network r, units-of (st .pre .0 .0) (a .first .now) (a .last .now) (a .plan .now) (a .table .now) (a .w) (st .pre .0 .1), st .pre .1 .0), early r)
-
-slice-aggregate-greatest-cuts : tie.Need-slice-aggregate-greatest-cuts
-slice-aggregate-greatest-cuts c = search needs
 
 greatest-cuts-requires : tie.Need-greatest-cuts-requires
 greatest-cuts-requires c κs =
@@ -81,12 +72,6 @@ greatest-cuts-requires c κs =
       (network r, units-of (st .pre .0 .0) (a .first .now) (a .last .now) (a .plan .now) (a .table .now) (a .w) (st .pre .0 .1), st .pre .1 .1),
       (st .pre .0 .1 .few, late r),
     )
-
-same-length : tie.Need-same-length
-same-length c = search needs
-
-same-length-2 : tie.Need-same-length-2
-same-length-2 c = search needs
 
 returns : tie.Need-returns
 returns c =
@@ -102,15 +87,5 @@ returns c =
     )
 
 pub narrow-spec : {M : Type 1} → statement M
-narrow-spec =
-    tie.close
-    (tie.spec
-    slice-aggregate-cut-arcs
-    cut-arcs-requires
-    slice-aggregate-least-cuts
-    least-cuts-requires
-    slice-aggregate-greatest-cuts
-    greatest-cuts-requires
-    same-length
-    same-length-2
-    returns)
+narrow-spec = tie.close (tie.spec (λ c. search needs) cut-arcs-requires (λ c. search needs) least-cuts-requires (λ c. search needs)
+    greatest-cuts-requires (λ c. search needs) (λ c. search needs) returns)

@@ -19,12 +19,6 @@ abbrev μ-loop : tie.MeasureT-loop
 loop-holds : tie.Need-loop-holds Inv-loop μ-loop
 loop-holds c = (omega arith, refl, refl)
 
-mul-f : tie.Need-mul-f Inv-loop μ-loop
-mul-f c = omega arith
-
-shared-slice-read-f : tie.Need-shared-slice-read-f Inv-loop μ-loop
-shared-slice-read-f c = omega arith
-
 cast-f : tie.Need-cast-f Inv-loop μ-loop
 cast-f c = omega (arith, c .shared-slice-known .given (c .before .before .loop .j))
 
@@ -84,12 +78,6 @@ slice-write-out c =
       st .pre .0,
     )
 
-add-j : tie.Need-add-j Inv-loop μ-loop
-add-j c = omega arith
-
-loop-less : tie.Need-loop-less Inv-loop μ-loop
-loop-less c = omega arith
-
 loop-again : tie.Need-loop-again Inv-loop μ-loop
 loop-again c =
     let st = c .before .before .before .before .before in
@@ -113,26 +101,5 @@ returns c =
     subst (λ (n : ℕ). Filled (λ i. slot (a .w) (a .marks .now) (getD (a .first .now) i 0) (getD (a .last .now) i 0)) n (a .out .now) (l .out)) e (l .inv .2)
 
 pub read-marks-spec : {M : Type 1} → statement M
-read-marks-spec =
-    tie.close
-    (tie.spec
-    Inv-loop
-    μ-loop
-    loop-holds
-    mul-f
-    shared-slice-read-f
-    cast-f
-    mul-l
-    shared-slice-read-l
-    cast-l
-    mul-at
-    add-at
-    mul-out
-    shared-slice-read-out
-    mul-out-2
-    slice-write-out
-    add-j
-    loop-less
-    loop-again
-    same-length
-    returns)
+read-marks-spec = tie.close (tie.spec Inv-loop μ-loop loop-holds (λ c. omega arith) (λ c. omega arith) cast-f mul-l shared-slice-read-l cast-l mul-at
+    add-at mul-out shared-slice-read-out mul-out-2 slice-write-out (λ c. omega arith) (λ c. omega arith) loop-again same-length returns)

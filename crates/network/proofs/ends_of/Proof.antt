@@ -23,35 +23,11 @@ Inv-loop row least₀ greatest₀ b₀ b-end least greatest b =
 abbrev μ-loop : tie.MeasureT-loop
 μ-loop row least₀ greatest₀ b₀ b-end least greatest b = length row - b
 
-shared-slice-copy-out-least : tie.Need-shared-slice-copy-out-least Inv-loop μ-loop
-shared-slice-copy-out-least c = omega arith
-
-shared-slice-copy-out-greatest : tie.Need-shared-slice-copy-out-greatest Inv-loop μ-loop
-shared-slice-copy-out-greatest c = omega arith
-
 loop-holds : tie.Need-loop-holds Inv-loop μ-loop
 loop-holds c =
     let row = c .before .before .args .row .now in
     let f : SFits w16 (getD row 0 (pos 0)) = search needs in
     (omega arith, refl, ap (λ (z : ℤ). foldFrom minℤ z row) (toZ-ofZ f), ap (λ (z : ℤ). foldFrom maxℤ z row) (toZ-ofZ f))
-
-mul-x : tie.Need-mul-x Inv-loop μ-loop
-mul-x c = omega arith
-
-shared-slice-copy-out-x : tie.Need-shared-slice-copy-out-x Inv-loop μ-loop
-shared-slice-copy-out-x c = omega arith
-
-lesser-requires : tie.Need-lesser-requires Inv-loop μ-loop
-lesser-requires c κs = tt
-
-greater-requires : tie.Need-greater-requires Inv-loop μ-loop
-greater-requires c κs = tt
-
-add-b : tie.Need-add-b Inv-loop μ-loop
-add-b c = omega arith
-
-loop-less : tie.Need-loop-less Inv-loop μ-loop
-loop-less c = omega arith
 
 loop-again : tie.Need-loop-again Inv-loop μ-loop
 loop-again c =
@@ -80,19 +56,5 @@ returns c =
     )
 
 pub ends-of-spec : {M : Type 1} → statement M
-ends-of-spec =
-    tie.close
-    (tie.spec
-    Inv-loop
-    μ-loop
-    shared-slice-copy-out-least
-    shared-slice-copy-out-greatest
-    loop-holds
-    mul-x
-    shared-slice-copy-out-x
-    lesser-requires
-    greater-requires
-    add-b
-    loop-less
-    loop-again
-    returns)
+ends-of-spec = tie.close (tie.spec Inv-loop μ-loop (λ c. omega arith) (λ c. omega arith) loop-holds (λ c. omega arith) (λ c. omega arith) (λ c κs. tt)
+    (λ c κs. tt) (λ c. omega arith) (λ c. omega arith) loop-again returns)

@@ -17,39 +17,18 @@ add-last c = omega (arith, row-inside (c .args .m) (c .args .w) (c .pre .0))
 mul-copy-row : tie.Need-mul-copy-row
 mul-copy-row c = omega (arith, row-inside (c .args .m) (c .args .w) (c .pre .0))
 
-sub-copy-row : tie.Need-sub-copy-row
-sub-copy-row c = search needs
-
-part-copy-row-start : tie.Need-part-copy-row-start
-part-copy-row-start c = search needs
-
 part-copy-row-end : tie.Need-part-copy-row-end
 part-copy-row-end c = omega (arith, row-inside (c .args .m) (c .args .w) (c .pre .0))
-
-copy-row-requires : tie.Need-copy-row-requires
-copy-row-requires c κs = search needs
 
 mul-ends-of : tie.Need-mul-ends-of
 mul-ends-of c =
     let s = c .before .before .before .before in
     omega (arith, row-inside (s .args .m) (s .args .w) (s .pre .0))
 
-sub-ends-of : tie.Need-sub-ends-of
-sub-ends-of c = search needs
-
-part-ends-of-start : tie.Need-part-ends-of-start
-part-ends-of-start c = search needs
-
 part-ends-of-end : tie.Need-part-ends-of-end
 part-ends-of-end c =
     let s = c .before .before .before .before in
     omega (arith, row-inside (s .args .m) (s .args .w) (s .pre .0))
-
-ends-of-requires : tie.Need-ends-of-requires
-ends-of-requires c κs = search needs
-
-same-length : tie.Need-same-length
-same-length c = search needs
 
 returns : tie.Need-returns
 returns c =
@@ -62,20 +41,5 @@ returns c =
     k (c .before .before .before .copy-row .ensures) (c .ends-of .ensures .0) (c .ends-of .ensures .1)
 
 pub load-row-spec : {M : Type 1} → statement M
-load-row-spec =
-    tie.close
-    (tie.spec
-    mul-first
-    add-last
-    mul-copy-row
-    sub-copy-row
-    part-copy-row-start
-    part-copy-row-end
-    copy-row-requires
-    mul-ends-of
-    sub-ends-of
-    part-ends-of-start
-    part-ends-of-end
-    ends-of-requires
-    same-length
-    returns)
+load-row-spec = tie.close (tie.spec mul-first add-last mul-copy-row (λ c. search needs) (λ c. search needs) part-copy-row-end (λ c κs. search needs)
+    mul-ends-of (λ c. search needs) (λ c. search needs) part-ends-of-end (λ c κs. search needs) (λ c. search needs) returns)

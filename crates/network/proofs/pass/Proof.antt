@@ -4,14 +4,8 @@ use borrow.Author.Needs.{needs}
 use Rattle.network.proofs.pass.Statement.{statement}
 use Rattle.network.proofs.pass.Tie as tie
 
-pass-middles-requires : tie.Need-pass-middles-requires
-pass-middles-requires c κs = search needs
-
-same-length : tie.Need-same-length
-same-length c = search needs
-
 returns : tie.Need-returns
 returns c = rw (sub-zero (c .before .before .before .args .w)) at (c .before .pass-middles .ensures)
 
 pub pass-spec : {M : Type 1} → statement M
-pass-spec = tie.close (tie.spec pass-middles-requires same-length returns)
+pass-spec = tie.close (tie.spec (λ c κs. search needs) (λ c. search needs) returns)

@@ -21,35 +21,11 @@ ran-here c =
     subst (λ (w : ℕ). Ran w (a .t .now) (passFrom (a .to - a .from) (a .from) w (a .t .now)) (c .run-middles .result) (c .run-middles .last .0))
     (c .before .capped .ensures) (c .run-middles .ensures)
 
-capped-requires : tie.Need-capped-requires
-capped-requires c κs = search needs
-
 run-middles-requires : tie.Need-run-middles-requires
 run-middles-requires c κs = let e = c .capped .ensures in let pre = c .before .before .pre in rw e pre
 
 enum-told : tie.Need-enum-told
 enum-told c = search needs
-
-enum-told-2 : tie.Need-enum-told-2
-enum-told-2 c = search needs
-
-mul-clear : tie.Need-mul-clear
-mul-clear c = search needs
-
-clear-requires : tie.Need-clear-requires
-clear-requires c κs = search needs
-
-enum-told-3 : tie.Need-enum-told-3
-enum-told-3 c = search needs
-
-mul-clear-2 : tie.Need-mul-clear-2
-mul-clear-2 c = search needs
-
-clear-requires-2 : tie.Need-clear-requires-2
-clear-requires-2 c κs = search needs
-
-same-length : tie.Need-same-length
-same-length c = search needs
 
 returns : tie.Need-returns
 returns c =
@@ -58,9 +34,6 @@ returns c =
     let ran = c .before .before .before in
     after-finished (st .args .w) (st .args .t .now) p (ran .run-middles .result) (ran .run-middles .last .0) (ran-here ran) (c .enum-told .given .1)
 
-same-length-2 : tie.Need-same-length-2
-same-length-2 c = search needs
-
 returns-2 : tie.Need-returns-2
 returns-2 c =
     let st = c .before .before .before .before .before .before .before .before .before in
@@ -68,9 +41,6 @@ returns-2 c =
     let ran = c .before .before .before .before .before .before in
     after-cleared (st .args .w) (st .args .t .now) p (ran .run-middles .result) (ran .run-middles .last .0) (c .before .clear .last .1 .0) (ran-here ran)
     (λ e. let o = c .before .before .before .enum-told2 .given in let z : _≡_ {A = ℕ} 0 1 = cc in omega arith) (c .before .clear .ensures)
-
-same-length-3 : tie.Need-same-length-3
-same-length-3 c = search needs
 
 returns-3 : tie.Need-returns-3
 returns-3 c =
@@ -81,21 +51,6 @@ returns-3 c =
     (λ e. let o = c .before .before .before .enum-told3 .given in let z : _≡_ {A = ℕ} 0 1 = cc in omega arith) (c .before .clear2 .ensures)
 
 pub pass-middles-spec : {M : Type 1} → statement M
-pass-middles-spec =
-    tie.close
-    (tie.spec
-    capped-requires
-    run-middles-requires
-    enum-told
-    enum-told-2
-    mul-clear
-    clear-requires
-    enum-told-3
-    mul-clear-2
-    clear-requires-2
-    same-length
-    returns
-    same-length-2
-    returns-2
-    same-length-3
-    returns-3)
+pass-middles-spec = tie.close (tie.spec (λ c κs. search needs) run-middles-requires enum-told (λ c. search needs) (λ c. search needs)
+    (λ c κs. search needs) (λ c. search needs) (λ c. search needs) (λ c κs. search needs) (λ c. search needs) returns (λ c. search needs) returns-2
+    (λ c. search needs) returns-3)

@@ -25,18 +25,6 @@ abbrev μ-loop : tie.MeasureT-loop
 loop-holds : tie.Need-loop-holds Inv-loop μ-loop
 loop-holds c = (omega arith, refl, refl, refl)
 
-mul-lesser : tie.Need-mul-lesser Inv-loop μ-loop
-mul-lesser c = omega arith
-
-slice-copy-out-lesser : tie.Need-slice-copy-out-lesser Inv-loop μ-loop
-slice-copy-out-lesser c = omega arith
-
-mul-lesser-2 : tie.Need-mul-lesser-2 Inv-loop μ-loop
-mul-lesser-2 c = omega arith
-
-shared-slice-copy-out-lesser : tie.Need-shared-slice-copy-out-lesser Inv-loop μ-loop
-shared-slice-copy-out-lesser c = omega arith
-
 add-lesser : tie.Need-add-lesser Inv-loop μ-loop
 add-lesser c =
     let st = c .before .before .before .before in
@@ -45,21 +33,6 @@ add-lesser c =
     let h : b < length mid = omega arith in
     let f : SFits w16 (getD mid b (pos 0)) = search needs in
     rw (toZ-ofZ (st .fits .am), toZ-ofZ f) (range-fits (st .args .am +ℤ getD mid b (pos 0)) (st .pre .1 b h))
-
-lesser-requires : tie.Need-lesser-requires Inv-loop μ-loop
-lesser-requires c κs = tt
-
-mul-t15 : tie.Need-mul-t15 Inv-loop μ-loop
-mul-t15 c = omega arith
-
-slice-set-from-row : tie.Need-slice-set-from-row Inv-loop μ-loop
-slice-set-from-row c = omega arith
-
-add-b : tie.Need-add-b Inv-loop μ-loop
-add-b c = omega arith
-
-loop-less : tie.Need-loop-less Inv-loop μ-loop
-loop-less c = omega arith
 
 loop-again : tie.Need-loop-again Inv-loop μ-loop
 loop-again c =
@@ -87,9 +60,6 @@ loop-again c =
       filled-store g (l .b) row₀ (l .row) (l .inv .3) (toZ w16 (ofZ w16 (c .lesser .result))) h v,
     )
 
-same-length : tie.Need-same-length Inv-loop μ-loop
-same-length c = omega arith
-
 returns : tie.Need-returns Inv-loop μ-loop
 returns c =
     let st = c .before .before in
@@ -104,22 +74,5 @@ returns c =
     ∙ ap (λ (x : ℤ). listOf (length row₀) (λ (j : ℕ). minℤ (getD row₀ j (pos 0)) (x +ℤ getD mid j (pos 0)))) a
 
 pub relax-row-spec : {M : Type 1} → statement M
-relax-row-spec =
-    tie.close
-    (tie.spec
-    Inv-loop
-    μ-loop
-    loop-holds
-    mul-lesser
-    slice-copy-out-lesser
-    mul-lesser-2
-    shared-slice-copy-out-lesser
-    add-lesser
-    lesser-requires
-    mul-t15
-    slice-set-from-row
-    add-b
-    loop-less
-    loop-again
-    same-length
-    returns)
+relax-row-spec = tie.close (tie.spec Inv-loop μ-loop loop-holds (λ c. omega arith) (λ c. omega arith) (λ c. omega arith) (λ c. omega arith) add-lesser
+    (λ c κs. tt) (λ c. omega arith) (λ c. omega arith) (λ c. omega arith) (λ c. omega arith) loop-again (λ c. omega arith) returns)

@@ -227,12 +227,6 @@ add-end c = omega (arith, row-room c)
 mul-row : tie.Need-mul-row Inv-loop2 μ-loop2 Inv-loop μ-loop Inv-pass μ-pass
 mul-row c = omega (arith, row-room c)
 
-sub-row : tie.Need-sub-row Inv-loop2 μ-loop2 Inv-loop μ-loop Inv-pass μ-pass
-sub-row c = omega arith
-
-part-row-start : tie.Need-part-row-start Inv-loop2 μ-loop2 Inv-loop μ-loop Inv-pass μ-pass
-part-row-start c = omega arith
-
 part-row-end : tie.Need-part-row-end Inv-loop2 μ-loop2 Inv-loop μ-loop Inv-pass μ-pass
 part-row-end c = row-room c
 
@@ -241,9 +235,6 @@ mul-am c = omega (arith, middle-below (c .before .before .before .before), c .be
 
 slice-copy-out-am : tie.Need-slice-copy-out-am Inv-loop2 μ-loop2 Inv-loop μ-loop Inv-pass μ-pass
 slice-copy-out-am c = omega (arith, row-here (c .before) .long, middle-below (c .before .before .before .before))
-
-sums-fit-requires : tie.Need-sums-fit-requires Inv-loop2 μ-loop2 Inv-loop μ-loop Inv-pass μ-pass
-sums-fit-requires c κs = tt
 
 stretches-requires : tie.Need-stretches-requires Inv-loop2 μ-loop2 Inv-loop μ-loop Inv-pass μ-pass
 stretches-requires c κs = omega (arith, c .before .before .before .before .before .before .before .before .before .before .before .before .pre)
@@ -332,9 +323,6 @@ slice-copy-out-less c =
     let long = cols-long (am r) (copy m) (part r) (width m) (rowAt r) (q .outcome) (q .row) b e (e - b) ys i refl (s .0) (s .1)
     (c .before .relax-row .ensures) in
     omega (arith, long, r .loop-test .taken)
-
-less-requires : tie.Need-less-requires Inv-loop2 μ-loop2 Inv-loop μ-loop Inv-pass μ-pass
-less-requires c κs = tt
 
 add-k : tie.Need-add-k Inv-loop2 μ-loop2 Inv-loop μ-loop Inv-pass μ-pass
 add-k c = let at : InStretch = c .before .before .before .before .before .before .before .before in omega (arith, first-below at, stretchStart at .pre)
@@ -493,56 +481,8 @@ returns-3 c =
     refl long past
 
 pub run-middles-spec : {M : Type 1} → statement M
-run-middles-spec =
-    tie.close
-    (tie.spec
-    Inv-loop2
-    μ-loop2
-    Inv-loop
-    μ-loop
-    Inv-pass
-    μ-pass
-    pass-holds
-    slice-aggregate-load-row
-    load-row-requires
-    loop-holds
-    mul-start
-    add-end
-    mul-row
-    sub-row
-    part-row-start
-    part-row-end
-    mul-am
-    slice-copy-out-am
-    sums-fit-requires
-    stretches-requires
-    loop2-holds
-    mul-b
-    stretch-end-requires
-    mul-relax-row
-    sub-relax-row
-    part-relax-row-start
-    part-relax-row-end
-    mul-relax-row-2
-    sub-relax-row-2
-    part-relax-row-start-2
-    part-relax-row-end-2
-    relax-row-requires
-    mul-less
-    slice-copy-out-less
-    less-requires
-    add-k
-    loop2-less
-    loop2-again
-    add-a
-    loop-less
-    loop-again
-    add-m
-    pass-less
-    pass-again
-    same-length
-    returns
-    same-length-2
-    returns-2
-    same-length-3
-    returns-3)
+run-middles-spec = tie.close (tie.spec Inv-loop2 μ-loop2 Inv-loop μ-loop Inv-pass μ-pass pass-holds slice-aggregate-load-row load-row-requires
+    loop-holds mul-start add-end mul-row (λ c. omega arith) (λ c. omega arith) part-row-end mul-am slice-copy-out-am (λ c κs. tt) stretches-requires
+    loop2-holds mul-b stretch-end-requires mul-relax-row sub-relax-row part-relax-row-start part-relax-row-end mul-relax-row-2 sub-relax-row-2
+    part-relax-row-start-2 part-relax-row-end-2 relax-row-requires mul-less slice-copy-out-less (λ c κs. tt) add-k loop2-less loop2-again add-a
+    loop-less loop-again add-m pass-less pass-again same-length returns same-length-2 returns-2 same-length-3 returns-3)

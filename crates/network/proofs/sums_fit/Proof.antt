@@ -90,15 +90,4 @@ returns-3 c =
     sym (ap (λ (b : Bool). b && leZ (s .args .am +ℤ s .args .ends .1) (pos 30000)) u ∙ x)
 
 pub sums-fit-spec : {M : Type 1} → statement M
-sums-fit-spec =
-    tie.close
-    (tie.spec
-    cast-low
-    cast-low-2
-    add-low
-    cast-high
-    cast-high-2
-    add-high
-    returns
-    returns-2
-    returns-3)
+sums-fit-spec = tie.close (tie.spec cast-low cast-low-2 add-low cast-high cast-high-2 add-high returns returns-2 returns-3)

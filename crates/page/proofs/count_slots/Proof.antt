@@ -19,20 +19,8 @@ abbrev μ-loop : tie.MeasureT-loop
 loop-holds : tie.Need-loop-holds Inv-loop μ-loop
 loop-holds c = (omega arith, counted-none (now (c .args .plan)) (now (c .args .counts)) (c .pre .0))
 
-mul-slot : tie.Need-mul-slot Inv-loop μ-loop
-mul-slot c = omega arith
-
-shared-slice-read-slot : tie.Need-shared-slice-read-slot Inv-loop μ-loop
-shared-slice-read-slot c = omega arith
-
 cast-slot : tie.Need-cast-slot Inv-loop μ-loop
 cast-slot c = omega (arith, c .shared-slice-known .given (c .before .before .loop .j))
-
-mul-counts : tie.Need-mul-counts Inv-loop μ-loop
-mul-counts c = omega arith
-
-slice-read-counts : tie.Need-slice-read-counts Inv-loop μ-loop
-slice-read-counts c = omega arith
 
 add-counts : tie.Need-add-counts Inv-loop μ-loop
 add-counts c =
@@ -40,15 +28,6 @@ add-counts c =
     let counted = l .inv .1 in
     let slot = getD (now (c .before .before .before .before .before .args .plan)) (l .j) 0 in
     omega (arith, counted-small counted slot (omega (arith, c .before .if1 .taken, counted .long)), l .inv .0)
-
-slice-write-counts : tie.Need-slice-write-counts Inv-loop μ-loop
-slice-write-counts c = omega arith
-
-add-j : tie.Need-add-j Inv-loop μ-loop
-add-j c = omega arith
-
-loop-less : tie.Need-loop-less Inv-loop μ-loop
-loop-less c = omega arith
 
 loop-again : tie.Need-loop-again Inv-loop μ-loop
 loop-again c =
@@ -70,21 +49,5 @@ returns : tie.Need-returns Inv-loop μ-loop
 returns c = counted-all (c .loop-test .left) (c .before .loop .inv .1)
 
 pub count-slots-spec : {M : Type 1} → statement M
-count-slots-spec =
-    tie.close
-    (tie.spec
-    Inv-loop
-    μ-loop
-    loop-holds
-    mul-slot
-    shared-slice-read-slot
-    cast-slot
-    mul-counts
-    slice-read-counts
-    add-counts
-    slice-write-counts
-    add-j
-    loop-less
-    loop-again
-    same-length
-    returns)
+count-slots-spec = tie.close (tie.spec Inv-loop μ-loop loop-holds (λ c. omega arith) (λ c. omega arith) cast-slot (λ c. omega arith)
+    (λ c. omega arith) add-counts (λ c. omega arith) (λ c. omega arith) (λ c. omega arith) loop-again same-length returns)

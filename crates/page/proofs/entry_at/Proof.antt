@@ -21,9 +21,5 @@ mul-result-2 c = omega (arith, inside c)
 shared-slice-copy-out-result : tie.Need-shared-slice-copy-out-result
 shared-slice-copy-out-result c = omega (arith, inside c)
 
-returns : tie.Need-returns
-returns c = search needs
-
 pub entry-at-spec : {M : Type 1} → statement M
-entry-at-spec =
-    tie.close (tie.spec mul-result add-result mul-result-2 shared-slice-copy-out-result returns)
+entry-at-spec = tie.close (tie.spec mul-result add-result mul-result-2 shared-slice-copy-out-result (λ c. search needs))

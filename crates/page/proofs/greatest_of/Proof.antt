@@ -7,21 +7,8 @@ use Rattle.integers.specs.Parts.{up}
 use Rattle.page.proofs.greatest_of.Statement.{statement}
 use Rattle.page.proofs.greatest_of.Tie as tie
 
-add-entry-at : tie.Need-add-entry-at
-add-entry-at c = omega arith
-
-sub-entry-at : tie.Need-sub-entry-at
-sub-entry-at c = omega arith
-
-entry-at-requires : tie.Need-entry-at-requires
-entry-at-requires c κs = omega arith
-
-above-requires : tie.Need-above-requires
-above-requires c κs = tt
-
 returns : tie.Need-returns
 returns c = c .above .ensures ∙ ap up (toZ-ofZ {w = w16} (record { sfits = c .before .entry-at .ok }) ∙ c .before .entry-at .ensures)
 
 pub greatest-of-spec : {M : Type 1} → statement M
-greatest-of-spec =
-    tie.close (tie.spec add-entry-at sub-entry-at entry-at-requires above-requires returns)
+greatest-of-spec = tie.close (tie.spec (λ c. omega arith) (λ c. omega arith) (λ c κs. omega arith) (λ c κs. tt) returns)

@@ -15,18 +15,6 @@ steps-length-requires c κs = c .before .pre
 shortfall-requires : tie.Need-shortfall-requires
 shortfall-requires c κs = c .before .before .pre
 
-digit-count-requires : tie.Need-digit-count-requires
-digit-count-requires c κs = tt
-
-add-result : tie.Need-add-result
-add-result c = omega arith
-
-add-result-2 : tie.Need-add-result-2
-add-result-2 c = omega arith
-
-add-result-3 : tie.Need-add-result-3
-add-result-3 c = omega arith
-
 returns : tie.Need-returns
 returns c =
     let a = c .before .before .before .before .args in
@@ -39,13 +27,5 @@ returns c =
     )
 
 pub none-length-spec : {M : Type 1} → statement M
-none-length-spec =
-    tie.close
-    (tie.spec
-    steps-length-requires
-    shortfall-requires
-    digit-count-requires
-    add-result
-    add-result-2
-    add-result-3
+none-length-spec = tie.close (tie.spec steps-length-requires shortfall-requires (λ c κs. tt) (λ c. omega arith) (λ c. omega arith) (λ c. omega arith)
     returns)

@@ -11,15 +11,6 @@ use Rattle.page.specs.PageLaws.{tally-length, page-counted-length}
 use Rattle.page.proofs.plan_length.Statement.{statement}
 use Rattle.page.proofs.plan_length.Tie as tie
 
-cast-digit-count : tie.Need-cast-digit-count
-cast-digit-count c = omega arith
-
-digit-count-requires : tie.Need-digit-count-requires
-digit-count-requires c κs = tt
-
-add-head : tie.Need-add-head
-add-head c = omega arith
-
 units-length-requires : tie.Need-units-length-requires
 units-length-requires c κs = let p = c .before .before .before .before .before .pre .0 in (p .earliest, p .latest, p .units)
 
@@ -27,12 +18,6 @@ slots-length-requires : tie.Need-slots-length-requires
 slots-length-requires c κs =
     let s = c .before .before .before .before .before .before in
     (s .pre .0 .slots, s .pre .0 .entries, ap length (s .pre .1) ∙ tally-length (now (s .args .plan)))
-
-add-result : tie.Need-add-result
-add-result c = omega arith
-
-add-result-2 : tie.Need-add-result-2
-add-result-2 c = omega arith
 
 head-length : (n : ℕ) → length (planHead n) ≡ 15 + length (digits n)
 unfolding planHead oneNumber text
@@ -54,14 +39,5 @@ returns c =
     )
 
 pub plan-length-spec : {M : Type 1} → statement M
-plan-length-spec =
-    tie.close
-    (tie.spec
-    cast-digit-count
-    digit-count-requires
-    add-head
-    units-length-requires
-    slots-length-requires
-    add-result
-    add-result-2
-    returns)
+plan-length-spec = tie.close (tie.spec (λ c. omega arith) (λ c κs. tt) (λ c. omega arith) units-length-requires slots-length-requires
+    (λ c. omega arith) (λ c. omega arith) returns)

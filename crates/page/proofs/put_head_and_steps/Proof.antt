@@ -16,9 +16,6 @@ begun : (c : tie.Start) →
     (text "(answer none)\n" ∷ joined (ringLines (entry (a .w) (now (a .limits))) (now (a .ring))) ∷ [])
 begun c = pending-two _ _ (c .pre .1)
 
-slice-aggregate-put-word : tie.Need-slice-aggregate-put-word
-slice-aggregate-put-word c = refl
-
 put-word-requires : tie.Need-put-word-requires
 unfolding text
 put-word-requires c κs = pending-room (begun (c .before .before .before .before))
@@ -41,6 +38,4 @@ returns c =
     (c .before .before .put-steps .ensures))
 
 pub put-head-and-steps-spec : {M : Type 1} → statement M
-put-head-and-steps-spec =
-    tie.close
-    (tie.spec slice-aggregate-put-word put-word-requires put-steps-requires same-length returns)
+put-head-and-steps-spec = tie.close (tie.spec (λ c. refl) put-word-requires put-steps-requires same-length returns)

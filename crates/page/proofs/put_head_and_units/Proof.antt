@@ -16,12 +16,6 @@ begun : (c : tie.Start) →
     (planHead (length (now (a .plan))) ∷ unitLines (now (a .plan)) (now (a .earliest)) (now (a .latest)) ∷ [])
 begun c = pending-two _ _ (c .pre .1)
 
-slice-aggregate-put-one-number : tie.Need-slice-aggregate-put-one-number
-slice-aggregate-put-one-number c = refl
-
-cast-put-one-number : tie.Need-cast-put-one-number
-cast-put-one-number c = omega arith
-
 put-one-number-requires : tie.Need-put-one-number-requires
 unfolding planHead oneNumber text
 put-one-number-requires c κs = pending-room (begun (c .before .before .before .before .before .before))
@@ -45,12 +39,4 @@ returns c =
     (c .before .before .put-units .ensures))
 
 pub put-head-and-units-spec : {M : Type 1} → statement M
-put-head-and-units-spec =
-    tie.close
-    (tie.spec
-    slice-aggregate-put-one-number
-    cast-put-one-number
-    put-one-number-requires
-    put-units-requires
-    same-length
-    returns)
+put-head-and-units-spec = tie.close (tie.spec (λ c. refl) (λ c. omega arith) put-one-number-requires put-units-requires same-length returns)

@@ -13,9 +13,6 @@ same : (c : tie.After-shortfall) →
 unfolding oneNumber shortfallLine
 same c = ap shortfallLine (c .shortfall .ensures)
 
-slice-aggregate-put-one-number : tie.Need-slice-aggregate-put-one-number
-slice-aggregate-put-one-number c = refl
-
 shortfall-requires : tie.Need-shortfall-requires
 shortfall-requires c κs = c .before .before .before .before .pre .0
 
@@ -37,11 +34,4 @@ returns c =
     (c .before .before .put-one-number .ensures)
 
 pub put-shortfall-spec : {M : Type 1} → statement M
-put-shortfall-spec =
-    tie.close
-    (tie.spec
-    slice-aggregate-put-one-number
-    shortfall-requires
-    put-one-number-requires
-    same-length
-    returns)
+put-shortfall-spec = tie.close (tie.spec (λ c. refl) shortfall-requires put-one-number-requires same-length returns)

@@ -43,21 +43,6 @@ loop-holds c =
     let s = c .before .before in
     (omega arith, omega arith, pending-whole (map (line s) (fromTo 1 (s .args .span))) refl (s .pre .1))
 
-cast-put-slot : tie.Need-cast-put-slot Inv-loop μ-loop
-cast-put-slot c = omega arith
-
-mul-put-slot : tie.Need-mul-put-slot Inv-loop μ-loop
-mul-put-slot c = omega arith
-
-shared-slice-read-put-slot : tie.Need-shared-slice-read-put-slot Inv-loop μ-loop
-shared-slice-read-put-slot c = omega arith
-
-least-of-requires : tie.Need-least-of-requires Inv-loop μ-loop
-least-of-requires c κs = omega arith
-
-greatest-of-requires : tie.Need-greatest-of-requires Inv-loop μ-loop
-greatest-of-requires c κs = omega arith
-
 -- back to the start of the loop's turn, and of the call
 abbrev turn : tie.After-greatest-of Inv-loop μ-loop → tie.In-loop Inv-loop μ-loop
 turn c = c .before .before .before .before
@@ -85,12 +70,6 @@ put-slot-requires c κs =
     let l = turn c .before .loop in
     subst (Room (l .page) (l .next)) (sym (same c)) (pending-room (next (turn c)))
 
-add-t : tie.Need-add-t Inv-loop μ-loop
-add-t c = omega arith
-
-loop-less : tie.Need-loop-less Inv-loop μ-loop
-loop-less c = omega arith
-
 loop-again : tie.Need-loop-again Inv-loop μ-loop
 loop-again c =
     let g : tie.After-greatest-of Inv-loop μ-loop = c .before .before .before in
@@ -101,29 +80,11 @@ loop-again c =
       pending-after (next (turn g)) (subst (λ line. Written (l .page) (l .next) line (put .last .0) (put .result)) (same g) (put .ensures)),
     )
 
-same-length : tie.Need-same-length Inv-loop μ-loop
-same-length c = omega arith
-
 returns : tie.Need-returns Inv-loop μ-loop
 returns c =
     let s : tie.Start Inv-loop μ-loop = c .before .before .before .before in
     lines-end (line s) (c .before .loop .t) (suc (s .args .span)) (omega arith) (c .before .loop .inv .2)
 
 pub put-slots-spec : {M : Type 1} → statement M
-put-slots-spec =
-    tie.close
-    (tie.spec
-    Inv-loop
-    μ-loop
-    loop-holds
-    cast-put-slot
-    mul-put-slot
-    shared-slice-read-put-slot
-    least-of-requires
-    greatest-of-requires
-    put-slot-requires
-    add-t
-    loop-less
-    loop-again
-    same-length
-    returns)
+put-slots-spec = tie.close (tie.spec Inv-loop μ-loop loop-holds (λ c. omega arith) (λ c. omega arith) (λ c. omega arith) (λ c κs. omega arith)
+    (λ c κs. omega arith) put-slot-requires (λ c. omega arith) (λ c. omega arith) loop-again (λ c. omega arith) returns)

@@ -47,15 +47,6 @@ backward c =
     ap₂ (λ k f. boundLine (text "(at-least ") k f (s .args .a)) limit (add-one (s .args .b))
     ∙ sym (step-backward (limits s) (s .args .a) (s .args .b) (c .before .before .before .if1 .left))
 
-slice-aggregate-put-bound : tie.Need-slice-aggregate-put-bound
-slice-aggregate-put-bound c = refl
-
-above-requires : tie.Need-above-requires
-above-requires c κs = tt
-
-add-put-bound : tie.Need-add-put-bound
-add-put-bound c = omega arith
-
 put-bound-requires : tie.Need-put-bound-requires
 unfolding text
 put-bound-requires c κs =
@@ -71,15 +62,6 @@ returns c =
     let a = forward-start (c .before .before .before) .args in
     let put = c .before .before .put-bound in
     subst (λ l. Written (now (a .page)) (a .at) l (put .last .0) (put .result)) (forward (c .before .before .before)) (put .ensures)
-
-slice-aggregate-put-bound-2 : tie.Need-slice-aggregate-put-bound-2
-slice-aggregate-put-bound-2 c = refl
-
-below-requires : tie.Need-below-requires
-below-requires c κs = tt
-
-add-put-bound-2 : tie.Need-add-put-bound-2
-add-put-bound-2 c = omega arith
 
 put-bound-requires-2 : tie.Need-put-bound-requires-2
 unfolding text
@@ -98,19 +80,5 @@ returns-2 c =
     subst (λ l. Written (now (a .page)) (a .at) l (put .last .0) (put .result)) (backward (c .before .before .before)) (put .ensures)
 
 pub put-step-spec : {M : Type 1} → statement M
-put-step-spec =
-    tie.close
-    (tie.spec
-    entry-at-requires
-    slice-aggregate-put-bound
-    above-requires
-    add-put-bound
-    put-bound-requires
-    same-length
-    returns
-    slice-aggregate-put-bound-2
-    below-requires
-    add-put-bound-2
-    put-bound-requires-2
-    same-length-2
-    returns-2)
+put-step-spec = tie.close (tie.spec entry-at-requires (λ c. refl) (λ c κs. tt) (λ c. omega arith) put-bound-requires same-length returns (λ c. refl)
+    (λ c κs. tt) (λ c. omega arith) put-bound-requires-2 same-length-2 returns-2)

@@ -22,9 +22,6 @@ Inv-loop page₀ at limits w ring last next₀ i₀ page next i =
 abbrev μ-loop : tie.MeasureT-loop
 μ-loop page₀ at limits w ring last next₀ i₀ page next i = last - i
 
-sub-last : tie.Need-sub-last Inv-loop μ-loop
-sub-last c = omega arith
-
 loop-holds : tie.Need-loop-holds Inv-loop μ-loop
 loop-holds c =
     let s = c .before .before in
@@ -67,21 +64,6 @@ last c =
     subst (λ k. PendingOf s (l .page) (l .next) (stepLine (limits s) (boundary s k) (boundary s 0) ∷ [])) e
     (subst (PendingOf s (l .page) (l .next)) end (l .inv .1))
 
-mul-put-step : tie.Need-mul-put-step Inv-loop μ-loop
-mul-put-step c = omega arith
-
-shared-slice-read-put-step : tie.Need-shared-slice-read-put-step Inv-loop μ-loop
-shared-slice-read-put-step c = omega arith
-
-add-put-step : tie.Need-add-put-step Inv-loop μ-loop
-add-put-step c = omega arith
-
-mul-put-step-2 : tie.Need-mul-put-step-2 Inv-loop μ-loop
-mul-put-step-2 c = omega arith
-
-shared-slice-read-put-step-2 : tie.Need-shared-slice-read-put-step-2 Inv-loop μ-loop
-shared-slice-read-put-step-2 c = omega arith
-
 put-step-requires : tie.Need-put-step-requires Inv-loop μ-loop
 put-step-requires c κs =
     let s = c .before .before .before .before .before .before .before in
@@ -91,23 +73,8 @@ put-step-requires c κs =
       pending-room (next (c .before .before .before)),
     )
 
-add-i : tie.Need-add-i Inv-loop μ-loop
-add-i c = omega arith
-
-loop-less : tie.Need-loop-less Inv-loop μ-loop
-loop-less c = omega arith
-
 loop-again : tie.Need-loop-again Inv-loop μ-loop
 loop-again c = (omega arith, pending-after (next (c .before .before .before .before .before .before)) (c .before .before .put-step .ensures))
-
-mul-put-step-3 : tie.Need-mul-put-step-3 Inv-loop μ-loop
-mul-put-step-3 c = omega arith
-
-shared-slice-read-put-step-3 : tie.Need-shared-slice-read-put-step-3 Inv-loop μ-loop
-shared-slice-read-put-step-3 c = omega arith
-
-shared-slice-read-put-step-4 : tie.Need-shared-slice-read-put-step-4 Inv-loop μ-loop
-shared-slice-read-put-step-4 c = omega arith
 
 put-step-requires-2 : tie.Need-put-step-requires-2 Inv-loop μ-loop
 put-step-requires-2 c κs =
@@ -117,32 +84,10 @@ put-step-requires-2 c κs =
       pending-room (last (c .before .before .before)),
     )
 
-same-length : tie.Need-same-length Inv-loop μ-loop
-same-length c = omega arith
-
 returns : tie.Need-returns Inv-loop μ-loop
 returns c = pending-nothing (pending-after (last (c .before .before .before .before .before .before)) (c .before .before .put-step2 .ensures))
 
 pub put-steps-spec : {M : Type 1} → statement M
-put-steps-spec =
-    tie.close
-    (tie.spec
-    Inv-loop
-    μ-loop
-    sub-last
-    loop-holds
-    mul-put-step
-    shared-slice-read-put-step
-    add-put-step
-    mul-put-step-2
-    shared-slice-read-put-step-2
-    put-step-requires
-    add-i
-    loop-less
-    loop-again
-    mul-put-step-3
-    shared-slice-read-put-step-3
-    shared-slice-read-put-step-4
-    put-step-requires-2
-    same-length
-    returns)
+put-steps-spec = tie.close (tie.spec Inv-loop μ-loop (λ c. omega arith) loop-holds (λ c. omega arith) (λ c. omega arith) (λ c. omega arith)
+    (λ c. omega arith) (λ c. omega arith) put-step-requires (λ c. omega arith) (λ c. omega arith) loop-again (λ c. omega arith) (λ c. omega arith)
+    (λ c. omega arith) put-step-requires-2 (λ c. omega arith) returns)

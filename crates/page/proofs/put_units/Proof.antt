@@ -31,30 +31,6 @@ loop-holds c =
     let e : n ≡ n - 0 = omega arith in
     (omega arith, pending-whole (map (line s) (run 0 (n - 0))) (ap (λ k. joined (map (line s) (run 0 k))) e) (s .pre .1))
 
-add-put-unit : tie.Need-add-put-unit Inv-loop μ-loop
-add-put-unit c = omega arith
-
-cast-put-unit : tie.Need-cast-put-unit Inv-loop μ-loop
-cast-put-unit c = omega arith
-
-mul-put-unit : tie.Need-mul-put-unit Inv-loop μ-loop
-mul-put-unit c = omega arith
-
-shared-slice-read-put-unit : tie.Need-shared-slice-read-put-unit Inv-loop μ-loop
-shared-slice-read-put-unit c = omega arith
-
-mul-put-unit-2 : tie.Need-mul-put-unit-2 Inv-loop μ-loop
-mul-put-unit-2 c = omega arith
-
-shared-slice-read-put-unit-2 : tie.Need-shared-slice-read-put-unit-2 Inv-loop μ-loop
-shared-slice-read-put-unit-2 c = omega arith
-
-mul-put-unit-3 : tie.Need-mul-put-unit-3 Inv-loop μ-loop
-mul-put-unit-3 c = omega arith
-
-shared-slice-read-put-unit-3 : tie.Need-shared-slice-read-put-unit-3 Inv-loop μ-loop
-shared-slice-read-put-unit-3 c = omega arith
-
 -- back to the start, from a turn of the loop
 abbrev start : tie.In-loop Inv-loop μ-loop → tie.Start Inv-loop μ-loop
 start c = c .before .before .before .before .before .before
@@ -72,20 +48,11 @@ put-unit-requires : tie.Need-put-unit-requires Inv-loop μ-loop
 unfolding unitLineAt
 put-unit-requires c κs = rw (add-one (c .before .before .before .before .before .loop .j)) (pending-room (next (c .before .before .before .before)))
 
-add-j : tie.Need-add-j Inv-loop μ-loop
-add-j c = omega arith
-
-loop-less : tie.Need-loop-less Inv-loop μ-loop
-loop-less c = omega arith
-
 loop-again : tie.Need-loop-again Inv-loop μ-loop
 unfolding unitLineAt
 loop-again c =
     let i : tie.In-loop Inv-loop μ-loop = c .before .before .before .before .before .before .before in
     (omega arith, pending-after (next i) (rw (add-one (i .before .loop .j)) at (c .before .before .put-unit .ensures)))
-
-same-length : tie.Need-same-length Inv-loop μ-loop
-same-length c = omega arith
 
 returns : tie.Need-returns Inv-loop μ-loop
 returns c =
@@ -93,23 +60,6 @@ returns c =
     lines-end (line s) (c .before .loop .j) (length (now (s .args .plan))) (c .loop-test .left) (c .before .loop .inv .1)
 
 pub put-units-spec : {M : Type 1} → statement M
-put-units-spec =
-    tie.close
-    (tie.spec
-    Inv-loop
-    μ-loop
-    loop-holds
-    add-put-unit
-    cast-put-unit
-    mul-put-unit
-    shared-slice-read-put-unit
-    mul-put-unit-2
-    shared-slice-read-put-unit-2
-    mul-put-unit-3
-    shared-slice-read-put-unit-3
-    put-unit-requires
-    add-j
-    loop-less
-    loop-again
-    same-length
-    returns)
+put-units-spec = tie.close (tie.spec Inv-loop μ-loop loop-holds (λ c. omega arith) (λ c. omega arith) (λ c. omega arith) (λ c. omega arith)
+    (λ c. omega arith) (λ c. omega arith) (λ c. omega arith) (λ c. omega arith) put-unit-requires (λ c. omega arith) (λ c. omega arith) loop-again
+    (λ c. omega arith) returns)

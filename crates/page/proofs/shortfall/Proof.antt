@@ -62,29 +62,11 @@ closing-small c =
     let last = length (now (s .args .ring)) - 1 in
     f .small (boundary s last) (boundary s 0) (f .inside last (omega (arith, f .some))) (f .inside 0 (f .some))
 
-sub-last : tie.Need-sub-last Inv-loop μ-loop
-sub-last c = omega arith
-
 loop-holds : tie.Need-loop-holds Inv-loop μ-loop
 loop-holds c = (omega arith, omega arith, omega arith, walked-none (limits (c .before)) (now (c .before .args .ring)) (c .before .pre .some))
 
-mul-entry-at : tie.Need-mul-entry-at Inv-loop μ-loop
-mul-entry-at c = omega arith
-
-shared-slice-read-entry-at : tie.Need-shared-slice-read-entry-at Inv-loop μ-loop
-shared-slice-read-entry-at c = omega arith
-
 cast-entry-at : tie.Need-cast-entry-at Inv-loop μ-loop
 cast-entry-at c = omega (arith, c .shared-slice-known2 .given (c .before .before .loop .i))
-
-add-entry-at : tie.Need-add-entry-at Inv-loop μ-loop
-add-entry-at c = omega arith
-
-mul-entry-at-2 : tie.Need-mul-entry-at-2 Inv-loop μ-loop
-mul-entry-at-2 c = omega arith
-
-shared-slice-read-entry-at-2 : tie.Need-shared-slice-read-entry-at-2 Inv-loop μ-loop
-shared-slice-read-entry-at-2 c = omega arith
 
 cast-entry-at-2 : tie.Need-cast-entry-at-2 Inv-loop μ-loop
 cast-entry-at-2 c = omega (arith, c .shared-slice-known3 .given (c .before .before .before .loop .i + 1))
@@ -96,29 +78,17 @@ entry-at-requires c κs =
     let f = s .pre in
     (f .inside i (omega (arith, f .some)), f .inside (i + 1) (omega (arith, f .some)), f .boundaries, f .entries)
 
-above-requires : tie.Need-above-requires Inv-loop μ-loop
-above-requires c κs = tt
-
 add-rise : tie.Need-add-rise Inv-loop μ-loop
 add-rise c =
     let l = c .before .before .before .before .before .loop in
     let at = c .before in
     omega (arith, l .inv .0, l .inv .1, c .above .ensures, ap up (step-is at), step-small at .0, at .before .before .before .before .before .before .pre .few)
 
-below-requires : tie.Need-below-requires Inv-loop μ-loop
-below-requires c κs = tt
-
 add-fall : tie.Need-add-fall Inv-loop μ-loop
 add-fall c =
     let l = c .before .before .before .before .before .before .loop in
     let at = c .before .before in
     omega (arith, l .inv .0, l .inv .2, c .below .ensures, ap dn (step-is at), step-small at .1, at .before .before .before .before .before .before .pre .few)
-
-add-i : tie.Need-add-i Inv-loop μ-loop
-add-i c = omega arith
-
-loop-less : tie.Need-loop-less Inv-loop μ-loop
-loop-less c = omega arith
 
 loop-again : tie.Need-loop-again Inv-loop μ-loop
 loop-again c =
@@ -133,17 +103,8 @@ loop-again c =
       rw (rise, fall) (walked-next (limits s) (now (s .args .ring)) (l .i) (l .rise) (l .fall) (omega (arith, s .pre .some)) (l .inv .3)),
     )
 
-mul-entry-at-3 : tie.Need-mul-entry-at-3 Inv-loop μ-loop
-mul-entry-at-3 c = omega arith
-
-shared-slice-read-entry-at-3 : tie.Need-shared-slice-read-entry-at-3 Inv-loop μ-loop
-shared-slice-read-entry-at-3 c = omega arith
-
 cast-entry-at-3 : tie.Need-cast-entry-at-3 Inv-loop μ-loop
 cast-entry-at-3 c = omega (arith, c .shared-slice-known4 .given (length (now (c .before .before .before .before .args .ring)) - 1))
-
-shared-slice-read-entry-at-4 : tie.Need-shared-slice-read-entry-at-4 Inv-loop μ-loop
-shared-slice-read-entry-at-4 c = omega arith
 
 cast-entry-at-4 : tie.Need-cast-entry-at-4 Inv-loop μ-loop
 cast-entry-at-4 c = omega (arith, c .shared-slice-known5 .given 0)
@@ -154,9 +115,6 @@ entry-at-requires-2 c κs =
     let f = s .pre in
     (f .inside (length (now (s .args .ring)) - 1) (omega (arith, f .some)), f .inside 0 (f .some), f .boundaries, f .entries)
 
-below-requires-2 : tie.Need-below-requires-2 Inv-loop μ-loop
-below-requires-2 c κs = tt
-
 add-excess : tie.Need-add-excess Inv-loop μ-loop
 add-excess c =
     let l = c .before .before .before .before .before .loop in
@@ -164,18 +122,12 @@ add-excess c =
     let few = at .before .before .before .before .before .before .pre .few in
     omega (arith, l .inv .0, l .inv .2, c .below2 .ensures, ap dn (closing-is at), closing-small at .1, few)
 
-above-requires-2 : tie.Need-above-requires-2 Inv-loop μ-loop
-above-requires-2 c κs = tt
-
 add-excess-2 : tie.Need-add-excess-2 Inv-loop μ-loop
 add-excess-2 c =
     let l = c .before .before .before .before .before .before .loop in
     let at = c .before .before in
     let few = at .before .before .before .before .before .before .pre .few in
     omega (arith, l .inv .0, l .inv .1, c .above2 .ensures, ap up (closing-is at), closing-small at .0, few)
-
-excess-requires : tie.Need-excess-requires Inv-loop μ-loop
-excess-requires c κs = tt
 
 returns : tie.Need-returns Inv-loop μ-loop
 returns c =
@@ -188,37 +140,7 @@ returns c =
     ∙ rw (rise, fall) (rw e at (walked-all (limits s) (now (s .args .ring)) (l .i) (l .rise) (l .fall) (omega (arith, s .pre .some)) (l .inv .3)))
 
 pub shortfall-spec : {M : Type 1} → statement M
-shortfall-spec =
-    tie.close
-    (tie.spec
-    Inv-loop
-    μ-loop
-    sub-last
-    loop-holds
-    mul-entry-at
-    shared-slice-read-entry-at
-    cast-entry-at
-    add-entry-at
-    mul-entry-at-2
-    shared-slice-read-entry-at-2
-    cast-entry-at-2
-    entry-at-requires
-    above-requires
-    add-rise
-    below-requires
-    add-fall
-    add-i
-    loop-less
-    loop-again
-    mul-entry-at-3
-    shared-slice-read-entry-at-3
-    cast-entry-at-3
-    shared-slice-read-entry-at-4
-    cast-entry-at-4
-    entry-at-requires-2
-    below-requires-2
-    add-excess
-    above-requires-2
-    add-excess-2
-    excess-requires
-    returns)
+shortfall-spec = tie.close (tie.spec Inv-loop μ-loop (λ c. omega arith) loop-holds (λ c. omega arith) (λ c. omega arith) cast-entry-at
+    (λ c. omega arith) (λ c. omega arith) (λ c. omega arith) cast-entry-at-2 entry-at-requires (λ c κs. tt) add-rise (λ c κs. tt) add-fall
+    (λ c. omega arith) (λ c. omega arith) loop-again (λ c. omega arith) (λ c. omega arith) cast-entry-at-3 (λ c. omega arith) cast-entry-at-4
+    entry-at-requires-2 (λ c κs. tt) add-excess (λ c κs. tt) add-excess-2 (λ c κs. tt) returns)

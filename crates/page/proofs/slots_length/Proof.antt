@@ -23,33 +23,6 @@ loop-holds : tie.Need-loop-holds Inv-loop μ-loop
 unfolding slotLines
 loop-holds c = (omega arith, omega arith, omega arith, record { rest = omega arith })
 
-cast-slot-length : tie.Need-cast-slot-length Inv-loop μ-loop
-cast-slot-length c = omega arith
-
-mul-slot-length : tie.Need-mul-slot-length Inv-loop μ-loop
-mul-slot-length c = omega arith
-
-shared-slice-read-slot-length : tie.Need-shared-slice-read-slot-length Inv-loop μ-loop
-shared-slice-read-slot-length c = omega arith
-
-least-of-requires : tie.Need-least-of-requires Inv-loop μ-loop
-least-of-requires c κs = omega arith
-
-greatest-of-requires : tie.Need-greatest-of-requires Inv-loop μ-loop
-greatest-of-requires c κs = omega arith
-
-slot-length-requires : tie.Need-slot-length-requires Inv-loop μ-loop
-slot-length-requires c κs = tt
-
-add-total : tie.Need-add-total Inv-loop μ-loop
-add-total c = omega arith
-
-add-t : tie.Need-add-t Inv-loop μ-loop
-add-t c = omega arith
-
-loop-less : tie.Need-loop-less Inv-loop μ-loop
-loop-less c = omega arith
-
 loop-again : tie.Need-loop-again Inv-loop μ-loop
 unfolding slotLineAt
 loop-again c =
@@ -63,20 +36,5 @@ returns : tie.Need-returns Inv-loop μ-loop
 returns c = (measured-end (omega arith) (c .before .loop .inv .3), omega arith)
 
 pub slots-length-spec : {M : Type 1} → statement M
-slots-length-spec =
-    tie.close
-    (tie.spec
-    Inv-loop
-    μ-loop
-    loop-holds
-    cast-slot-length
-    mul-slot-length
-    shared-slice-read-slot-length
-    least-of-requires
-    greatest-of-requires
-    slot-length-requires
-    add-total
-    add-t
-    loop-less
-    loop-again
-    returns)
+slots-length-spec = tie.close (tie.spec Inv-loop μ-loop loop-holds (λ c. omega arith) (λ c. omega arith) (λ c. omega arith) (λ c κs. omega arith)
+    (λ c κs. omega arith) (λ c κs. tt) (λ c. omega arith) (λ c. omega arith) (λ c. omega arith) loop-again returns)

@@ -18,15 +18,6 @@ use Rattle.page.proofs.step_length.Tie as tie
 entry-at-requires : tie.Need-entry-at-requires
 entry-at-requires c κs = c .pre
 
-above-requires : tie.Need-above-requires
-above-requires c κs = tt
-
-add-bound-length : tie.Need-add-bound-length
-add-bound-length c = omega arith
-
-bound-length-requires : tie.Need-bound-length-requires
-bound-length-requires c κs = omega arith
-
 returns : tie.Need-returns
 unfolding text
 returns c =
@@ -44,15 +35,6 @@ returns c =
       ),
       c .bound-length .ensures .1,
     )
-
-below-requires : tie.Need-below-requires
-below-requires c κs = tt
-
-add-bound-length-2 : tie.Need-add-bound-length-2
-add-bound-length-2 c = omega arith
-
-bound-length-requires-2 : tie.Need-bound-length-requires-2
-bound-length-requires-2 c κs = omega arith
 
 returns-2 : tie.Need-returns-2
 unfolding text
@@ -73,15 +55,5 @@ returns-2 c =
     )
 
 pub step-length-spec : {M : Type 1} → statement M
-step-length-spec =
-    tie.close
-    (tie.spec
-    entry-at-requires
-    above-requires
-    add-bound-length
-    bound-length-requires
-    returns
-    below-requires
-    add-bound-length-2
-    bound-length-requires-2
-    returns-2)
+step-length-spec = tie.close (tie.spec entry-at-requires (λ c κs. tt) (λ c. omega arith) (λ c κs. omega arith) returns (λ c κs. tt) (λ c. omega arith)
+    (λ c κs. omega arith) returns-2)

@@ -17,28 +17,10 @@ Inv-loop limits w ring last total₀ i₀ total i =
 abbrev μ-loop : tie.MeasureT-loop
 μ-loop limits w ring last total₀ i₀ total i = last - i
 
-sub-last : tie.Need-sub-last Inv-loop μ-loop
-sub-last c = omega arith
-
 loop-holds : tie.Need-loop-holds Inv-loop μ-loop
 loop-holds c =
     let a = c .before .args in
     (omega arith, omega arith, steps-none (entry (a .w) (now (a .limits))) (now (a .ring)) (c .before .pre .some))
-
-mul-step-length : tie.Need-mul-step-length Inv-loop μ-loop
-mul-step-length c = omega arith
-
-shared-slice-read-step-length : tie.Need-shared-slice-read-step-length Inv-loop μ-loop
-shared-slice-read-step-length c = omega arith
-
-add-step-length : tie.Need-add-step-length Inv-loop μ-loop
-add-step-length c = omega arith
-
-mul-step-length-2 : tie.Need-mul-step-length-2 Inv-loop μ-loop
-mul-step-length-2 c = omega arith
-
-shared-slice-read-step-length-2 : tie.Need-shared-slice-read-step-length-2 Inv-loop μ-loop
-shared-slice-read-step-length-2 c = omega arith
 
 step-length-requires : tie.Need-step-length-requires Inv-loop μ-loop
 step-length-requires c κs =
@@ -50,12 +32,6 @@ step-length-requires c κs =
 add-total : tie.Need-add-total Inv-loop μ-loop
 add-total c = omega (arith, c .before .before .before .before .before .before .pre .few)
 
-add-i : tie.Need-add-i Inv-loop μ-loop
-add-i c = omega arith
-
-loop-less : tie.Need-loop-less Inv-loop μ-loop
-loop-less c = omega arith
-
 loop-again : tie.Need-loop-again Inv-loop μ-loop
 loop-again c =
     let l = c .before .before .before .before .loop in
@@ -65,15 +41,6 @@ loop-again c =
       rw (c .step-length .ensures .0)
           (steps-next (entry (s .args .w) (now (s .args .limits))) (now (s .args .ring)) (l .i) (l .total) (omega (arith, s .pre .some)) (l .inv .2)),
     )
-
-mul-step-length-3 : tie.Need-mul-step-length-3 Inv-loop μ-loop
-mul-step-length-3 c = omega arith
-
-shared-slice-read-step-length-3 : tie.Need-shared-slice-read-step-length-3 Inv-loop μ-loop
-shared-slice-read-step-length-3 c = omega arith
-
-shared-slice-read-step-length-4 : tie.Need-shared-slice-read-step-length-4 Inv-loop μ-loop
-shared-slice-read-step-length-4 c = omega arith
 
 step-length-requires-2 : tie.Need-step-length-requires-2 Inv-loop μ-loop
 step-length-requires-2 c κs =
@@ -95,26 +62,6 @@ returns c =
     )
 
 pub steps-length-spec : {M : Type 1} → statement M
-steps-length-spec =
-    tie.close
-    (tie.spec
-    Inv-loop
-    μ-loop
-    sub-last
-    loop-holds
-    mul-step-length
-    shared-slice-read-step-length
-    add-step-length
-    mul-step-length-2
-    shared-slice-read-step-length-2
-    step-length-requires
-    add-total
-    add-i
-    loop-less
-    loop-again
-    mul-step-length-3
-    shared-slice-read-step-length-3
-    shared-slice-read-step-length-4
-    step-length-requires-2
-    add-result
-    returns)
+steps-length-spec = tie.close (tie.spec Inv-loop μ-loop (λ c. omega arith) loop-holds (λ c. omega arith) (λ c. omega arith) (λ c. omega arith)
+    (λ c. omega arith) (λ c. omega arith) step-length-requires add-total (λ c. omega arith) (λ c. omega arith) loop-again (λ c. omega arith)
+    (λ c. omega arith) (λ c. omega arith) step-length-requires-2 add-result returns)

@@ -30,42 +30,6 @@ loop-holds c =
       record { rest = omega (arith, ap (λ k. length (joined (map (unitLineAt (now (a .plan)) (now (a .earliest)) (now (a .latest))) (run 0 k)))) e) },
     )
 
-add-unit-length : tie.Need-add-unit-length Inv-loop μ-loop
-add-unit-length c = omega arith
-
-cast-unit-length : tie.Need-cast-unit-length Inv-loop μ-loop
-cast-unit-length c = omega arith
-
-mul-unit-length : tie.Need-mul-unit-length Inv-loop μ-loop
-mul-unit-length c = omega arith
-
-shared-slice-read-unit-length : tie.Need-shared-slice-read-unit-length Inv-loop μ-loop
-shared-slice-read-unit-length c = omega arith
-
-mul-unit-length-2 : tie.Need-mul-unit-length-2 Inv-loop μ-loop
-mul-unit-length-2 c = omega arith
-
-shared-slice-read-unit-length-2 : tie.Need-shared-slice-read-unit-length-2 Inv-loop μ-loop
-shared-slice-read-unit-length-2 c = omega arith
-
-mul-unit-length-3 : tie.Need-mul-unit-length-3 Inv-loop μ-loop
-mul-unit-length-3 c = omega arith
-
-shared-slice-read-unit-length-3 : tie.Need-shared-slice-read-unit-length-3 Inv-loop μ-loop
-shared-slice-read-unit-length-3 c = omega arith
-
-unit-length-requires : tie.Need-unit-length-requires Inv-loop μ-loop
-unit-length-requires c κs = tt
-
-add-total : tie.Need-add-total Inv-loop μ-loop
-add-total c = omega arith
-
-add-j : tie.Need-add-j Inv-loop μ-loop
-add-j c = omega arith
-
-loop-less : tie.Need-loop-less Inv-loop μ-loop
-loop-less c = omega arith
-
 loop-again : tie.Need-loop-again Inv-loop μ-loop
 unfolding unitLineAt
 loop-again c =
@@ -79,23 +43,6 @@ returns : tie.Need-returns Inv-loop μ-loop
 returns c = (measured-end (c .loop-test .left) (c .before .loop .inv .2), omega arith)
 
 pub units-length-spec : {M : Type 1} → statement M
-units-length-spec =
-    tie.close
-    (tie.spec
-    Inv-loop
-    μ-loop
-    loop-holds
-    add-unit-length
-    cast-unit-length
-    mul-unit-length
-    shared-slice-read-unit-length
-    mul-unit-length-2
-    shared-slice-read-unit-length-2
-    mul-unit-length-3
-    shared-slice-read-unit-length-3
-    unit-length-requires
-    add-total
-    add-j
-    loop-less
-    loop-again
-    returns)
+units-length-spec = tie.close (tie.spec Inv-loop μ-loop loop-holds (λ c. omega arith) (λ c. omega arith) (λ c. omega arith) (λ c. omega arith)
+    (λ c. omega arith) (λ c. omega arith) (λ c. omega arith) (λ c. omega arith) (λ c κs. tt) (λ c. omega arith) (λ c. omega arith) (λ c. omega arith)
+    loop-again returns)

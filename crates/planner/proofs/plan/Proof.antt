@@ -20,28 +20,10 @@ before c =
 abbrev start : tie.Then1 → tie.Start
 start c = c .before .before .before .before .before .before .before .before .before .before .before .before
 
-ask-requires : tie.Need-ask-requires
-ask-requires c κs = search needs
-
 solve-requires : tie.Need-solve-requires
 solve-requires c κs =
     let p : tie.Then1 = c .before .before .before .before .before in
     entry-solvable (lists (start p)) (before (start p)) (sym (p .if1 .taken) ∙ p .before .ask .ensures)
-
-same-length : tie.Need-same-length
-same-length c = search needs
-
-same-length-2 : tie.Need-same-length-2
-same-length-2 c = search needs
-
-same-length-3 : tie.Need-same-length-3
-same-length-3 c = search needs
-
-same-length-4 : tie.Need-same-length-4
-same-length-4 c = search needs
-
-same-length-5 : tie.Need-same-length-5
-same-length-5 c = search needs
 
 returns : tie.Need-returns
 returns c =
@@ -55,15 +37,5 @@ returns-2 c =
     entry-refused (lists s) (before s) (c .before .ask .result) (c .before .ask .ensures) (c .if1 .left)
 
 pub plan-spec : {M : Type 1} → statement M
-plan-spec =
-    tie.close
-    (tie.spec
-    ask-requires
-    solve-requires
-    same-length
-    same-length-2
-    same-length-3
-    same-length-4
-    same-length-5
-    returns
-    returns-2)
+plan-spec = tie.close (tie.spec (λ c κs. search needs) solve-requires (λ c. search needs) (λ c. search needs) (λ c. search needs) (λ c. search needs)
+    (λ c. search needs) returns returns-2)

@@ -21,9 +21,6 @@ before c =
 abbrev start : tie.Then1 → tie.Start
 start c = c .before .before .before .before .before .before .before .before .before .before .before .before .before
 
-ask-requires : tie.Need-ask-requires
-ask-requires c κs = tt
-
 print-solved-requires : tie.Need-print-solved-requires
 print-solved-requires c κs =
     let p : tie.Then1 = c .before .before .before .before .before .before in
@@ -73,16 +70,5 @@ returns-2 c =
     refused-printed (lists s) (before s) (now (s .args .page)) (s .args .at) (c .before .ask .result) (c .before .ask .ensures) (c .if1 .left)
 
 pub print-spec : {M : Type 1} → statement M
-print-spec =
-    tie.close
-    (tie.spec
-    ask-requires
-    print-solved-requires
-    same-length
-    same-length-2
-    same-length-3
-    same-length-4
-    same-length-5
-    same-length-6
-    returns
-    returns-2)
+print-spec = tie.close (tie.spec (λ c κs. tt) print-solved-requires same-length same-length-2 same-length-3 same-length-4 same-length-5 same-length-6
+    returns returns-2)

@@ -115,21 +115,6 @@ ring-fits c =
 
 -- ---- the needs, in order
 
-slice-aggregate-solve : tie.Need-slice-aggregate-solve
-slice-aggregate-solve c = refl
-
-slice-aggregate-solve-2 : tie.Need-slice-aggregate-solve-2
-slice-aggregate-solve-2 c = refl
-
-slice-aggregate-solve-3 : tie.Need-slice-aggregate-solve-3
-slice-aggregate-solve-3 c = refl
-
-slice-aggregate-solve-4 : tie.Need-slice-aggregate-solve-4
-slice-aggregate-solve-4 c = refl
-
-slice-aggregate-solve-5 : tie.Need-slice-aggregate-solve-5
-slice-aggregate-solve-5 c = refl
-
 solve-requires : tie.Need-solve-requires
 solve-requires c κs =
     let s : tie.Start = c .before .before .before .before .before .before .before .before .before .before .before .before .before .before .before .before in
@@ -140,9 +125,6 @@ add-w c = let s : tie.Start = start (c .before .before .before .before .before) 
 
 mul-cells : tie.Need-mul-cells
 mul-cells c = let s : tie.Start = start (c .before .before .before .before .before) in omega (arith, cells-few (lists s) (before s) (s .pre))
-
-enum-known-answer : tie.Need-enum-known-answer
-enum-known-answer c = search needs
 
 clear-requires : tie.Need-clear-requires
 clear-requires c κs =
@@ -184,9 +166,6 @@ print-plan-requires c κs =
     let f = plan-found told in
     plan-asked (lists s) (before s) (s .pre) ownRooms (after p) (f .0) (f .1) (f .2)
 
-enum-known-answer-2 : tie.Need-enum-known-answer-2
-enum-known-answer-2 c = search needs
-
 slice-aggregate-fill-limits : tie.Need-slice-aggregate-fill-limits
 slice-aggregate-fill-limits c = sym (where-ring (c .before .before) .solve .kept .1 .1 .1 .1 .1 .1 .1 .0)
 
@@ -197,9 +176,6 @@ fill-limits-requires c κs =
     let s = start p in
     let f = ring-found told in
     limits-fillable (lists s) (before s) (s .pre) ownRooms (after p) (f .0) (f .1) (f .3) (f .4) (steps told) (f .2) (after p .table) (own-cells p)
-
-slice-aggregate-print-ring : tie.Need-slice-aggregate-print-ring
-slice-aggregate-print-ring c = search needs
 
 array-share-prefix-found : tie.Need-array-share-prefix-found
 array-share-prefix-found c = ring-fits (c .before .before .before .before .before)
@@ -274,45 +250,9 @@ returns-3 c =
     (c .before .before .before .before .before .print-ring .ensures)
 
 pub print-solved-spec : {M : Type 1} → statement M
-print-solved-spec =
-    tie.close
-    (tie.spec
-    slice-aggregate-solve
-    slice-aggregate-solve-2
-    slice-aggregate-solve-3
-    slice-aggregate-solve-4
-    slice-aggregate-solve-5
-    solve-requires
-    add-w
-    mul-cells
-    enum-known-answer
-    clear-requires
-    enum-told
-    array-share-prefix-closed
-    slice-aggregate-print-plan
-    array-share-prefix-seats
-    slice-aggregate-print-plan-2
-    array-share-prefix-firsts
-    slice-aggregate-print-plan-3
-    array-share-prefix-lasts
-    slice-aggregate-print-plan-4
-    print-plan-requires
-    enum-known-answer-2
-    slice-aggregate-fill-limits
-    fill-limits-requires
-    slice-aggregate-print-ring
-    array-share-prefix-found
-    slice-aggregate-print-ring-2
-    print-ring-requires
-    same-length
-    returns
-    same-length-2
-    same-length-3
-    same-length-4
-    same-length-5
-    same-length-6
-    returns-2
-    same-length-7
-    same-length-8
-    same-length-9
-    returns-3)
+print-solved-spec = tie.close (tie.spec (λ c. refl) (λ c. refl) (λ c. refl) (λ c. refl) (λ c. refl) solve-requires add-w mul-cells (λ c. search needs)
+    clear-requires enum-told array-share-prefix-closed slice-aggregate-print-plan array-share-prefix-seats slice-aggregate-print-plan-2
+    array-share-prefix-firsts slice-aggregate-print-plan-3 array-share-prefix-lasts slice-aggregate-print-plan-4 print-plan-requires
+    (λ c. search needs) slice-aggregate-fill-limits fill-limits-requires (λ c. search needs) array-share-prefix-found slice-aggregate-print-ring-2
+    print-ring-requires same-length returns same-length-2 same-length-3 same-length-4 same-length-5 same-length-6 returns-2 same-length-7
+    same-length-8 same-length-9 returns-3)

@@ -20,9 +20,6 @@ counted c = c .before .before .before .before .before
 abbrev start : tie.Then1 → tie.Start
 start c = counted c .before .before .before .before .before .before .before .before .before
 
-slice-aggregate-count-slots : tie.Need-slice-aggregate-count-slots
-slice-aggregate-count-slots c = refl
-
 count-slots-requires : tie.Need-count-slots-requires
 count-slots-requires c κs = (refl, c .before .before .before .before .before .before .before .before .pre .0 .units)
 
@@ -33,9 +30,6 @@ plan-length-requires : tie.Need-plan-length-requires
 plan-length-requires c κs =
     let s : tie.Start = c .before .before .before .before .before .before .before .before .before .before .before in
     (s .pre .0, c .before .before .count-slots .ensures)
-
-holds-requires : tie.Need-holds-requires
-holds-requires c κs = tt
 
 keep-plan-requires : tie.Need-keep-plan-requires
 keep-plan-requires c κs = start (c .before .before .before .before) .pre .1
@@ -89,21 +83,6 @@ returns-2 c =
     (c .before .holds .result) (c .before .holds .ensures) _ _ _ _ _ _ (c .if1 .left) refl refl refl
 
 pub print-plan-spec : {M : Type 1} → statement M
-print-plan-spec =
-    tie.close
-    (tie.spec
-    slice-aggregate-count-slots
-    count-slots-requires
-    slice-aggregate-plan-length
-    plan-length-requires
-    holds-requires
-    keep-plan-requires
-    slice-aggregate-put-plan
-    put-plan-requires
-    same-length
-    same-length-2
-    same-length-3
-    same-length-4
-    same-length-5
-    returns
+print-plan-spec = tie.close (tie.spec (λ c. refl) count-slots-requires slice-aggregate-plan-length plan-length-requires (λ c κs. tt)
+    keep-plan-requires slice-aggregate-put-plan put-plan-requires same-length same-length-2 same-length-3 same-length-4 same-length-5 returns
     returns-2)

@@ -20,12 +20,6 @@ start c = c .before .before .before .before .before .before
 none-length-requires : tie.Need-none-length-requires
 none-length-requires c κs = c .before .before .before .pre .0
 
-holds-requires : tie.Need-holds-requires
-holds-requires c κs = tt
-
-mul-clear : tie.Need-mul-clear
-mul-clear c = search needs
-
 clear-requires : tie.Need-clear-requires
 clear-requires c κs = c .before .before .before .before .before .before .before .pre .1 .0
 
@@ -67,17 +61,5 @@ returns-2 c =
     (c .before .holds .result) (c .before .holds .ensures) _ _ _ _ _ _ (c .if1 .left) refl refl refl
 
 pub print-ring-spec : {M : Type 1} → statement M
-print-ring-spec =
-    tie.close
-    (tie.spec
-    none-length-requires
-    holds-requires
-    mul-clear
-    clear-requires
-    copy-list-requires
-    put-none-requires
-    same-length
-    same-length-2
-    same-length-3
-    returns
-    returns-2)
+print-ring-spec = tie.close (tie.spec none-length-requires (λ c κs. tt) (λ c. search needs) clear-requires copy-list-requires put-none-requires
+    same-length same-length-2 same-length-3 returns returns-2)

@@ -28,15 +28,6 @@ at-head c = in-turn c .before
 abbrev start : tie.At-loop Inv-loop μ-loop → tie.Start Inv-loop μ-loop
 start c = c .before .before .before .before .before .before .before
 
-grid-table-requires : tie.Need-grid-table-requires Inv-loop μ-loop
-grid-table-requires c κs = tt
-
-class-table-requires : tie.Need-class-table-requires Inv-loop μ-loop
-class-table-requires c κs = tt
-
-empty-requires : tie.Need-empty-requires Inv-loop μ-loop
-empty-requires c κs = tt
-
 loop-holds : tie.Need-loop-holds Inv-loop μ-loop
 loop-holds c =
     let a = c .before .before .before .before .before .before .args in
@@ -139,28 +130,6 @@ returns-3 c =
     )
 
 pub ask-spec : {M : Type 1} → statement M
-ask-spec =
-    tie.close
-    (tie.spec
-    Inv-loop
-    μ-loop
-    grid-table-requires
-    class-table-requires
-    empty-requires
-    loop-holds
-    line-at-requires
-    line-step-requires
-    enum-known-step
-    same-length
-    same-length-2
-    returns
-    enum-known-step-2
-    add-n
-    loop-less
-    loop-again
-    same-length-3
-    same-length-4
-    returns-2
-    same-length-5
-    same-length-6
+ask-spec = tie.close (tie.spec Inv-loop μ-loop (λ c κs. tt) (λ c κs. tt) (λ c κs. tt) loop-holds line-at-requires line-step-requires enum-known-step
+    same-length same-length-2 returns enum-known-step-2 add-n loop-less loop-again same-length-3 same-length-4 returns-2 same-length-5 same-length-6
     returns-3)

@@ -6,11 +6,8 @@ use Rattle.questions.proofs.is_count.Tie as tie
 returns : tie.Need-returns
 returns c = simp (lt-leb _ _ (c .if1 .taken))
 
-wide-requires : tie.Need-wide-requires
-wide-requires c κs = search needs
-
 returns-2 : tie.Need-returns-2
 returns-2 c = simp (le-leb _ _ (c .before .if1 .left), c .wide .ensures)
 
 pub is-count-spec : {M : Type 1} → statement M
-is-count-spec = tie.close (tie.spec returns wide-requires returns-2)
+is-count-spec = tie.close (tie.spec returns (λ c κs. search needs) returns-2)

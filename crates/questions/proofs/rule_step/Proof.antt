@@ -21,15 +21,9 @@ returns : tie.Need-returns
 unfolding stepOf
 returns c = (simp (eq-eqb _ _ (c .if1 .taken)), refl)
 
-is-stretch-requires : tie.Need-is-stretch-requires
-is-stretch-requires c κs = search needs
-
 returns-2 : tie.Need-returns-2
 unfolding stepOf
 returns-2 c = (simp (ne-eqb _ _ (c .before .before .if1 .left), sym (c .before .is-stretch .ensures) ∙ not-true _ (c .if2 .taken)), refl)
-
-is-count-requires : tie.Need-is-count-requires
-is-count-requires c κs = search needs
 
 returns-3 : tie.Need-returns-3
 unfolding stepOf
@@ -43,47 +37,14 @@ returns-3 c = (
   refl,
 )
 
-mul-at : tie.Need-mul-at
-mul-at c = search needs
-
-mul-rules : tie.Need-mul-rules
-mul-rules c = search needs
-
-slice-write-rules : tie.Need-slice-write-rules
-slice-write-rules c = search needs
-
-add-rules : tie.Need-add-rules
-add-rules c = search needs
-
-mul-rules-2 : tie.Need-mul-rules-2
-mul-rules-2 c = search needs
-
 slice-write-rules-2 : tie.Need-slice-write-rules-2
 slice-write-rules-2 c = simp length-set (omega arith)
-
-add-rules-2 : tie.Need-add-rules-2
-add-rules-2 c = search needs
-
-mul-rules-3 : tie.Need-mul-rules-3
-mul-rules-3 c = search needs
 
 slice-write-rules-3 : tie.Need-slice-write-rules-3
 slice-write-rules-3 c = simp length-set (omega arith)
 
-add-rules-3 : tie.Need-add-rules-3
-add-rules-3 c = search needs
-
-mul-rules-4 : tie.Need-mul-rules-4
-mul-rules-4 c = search needs
-
 slice-write-rules-4 : tie.Need-slice-write-rules-4
 slice-write-rules-4 c = simp length-set (omega arith)
-
-add-t11 : tie.Need-add-t11
-add-t11 c = search needs
-
-same-length : tie.Need-same-length
-same-length c = search needs
 
 returns-4 : tie.Need-returns-4
 unfolding stepOf
@@ -113,27 +74,6 @@ returns-5 c = (
 )
 
 pub rule-step-spec : {M : Type 1} → statement M
-rule-step-spec =
-    tie.close
-    (tie.spec
-    returns
-    is-stretch-requires
-    returns-2
-    is-count-requires
-    returns-3
-    mul-at
-    mul-rules
-    slice-write-rules
-    add-rules
-    mul-rules-2
-    slice-write-rules-2
-    add-rules-2
-    mul-rules-3
-    slice-write-rules-3
-    add-rules-3
-    mul-rules-4
-    slice-write-rules-4
-    add-t11
-    same-length
-    returns-4
-    returns-5)
+rule-step-spec = tie.close (tie.spec returns (λ c κs. search needs) returns-2 (λ c κs. search needs) returns-3 (λ c. search needs) (λ c. search needs)
+    (λ c. search needs) (λ c. search needs) (λ c. search needs) slice-write-rules-2 (λ c. search needs) (λ c. search needs) slice-write-rules-3
+    (λ c. search needs) (λ c. search needs) slice-write-rules-4 (λ c. search needs) (λ c. search needs) returns-4 returns-5)

@@ -8,9 +8,6 @@ returns : tie.Need-returns
 unfolding stepOf
 returns c = simp (ne-eqb _ _ (c .if1 .taken))
 
-wide-requires : tie.Need-wide-requires
-wide-requires c κs = search needs
-
 returns-2 : tie.Need-returns-2
 unfolding stepOf
 returns-2 c = simp (eq-eqb _ _ (c .before .before .if1 .left), ← c .before .wide .ensures, lt-leb _ _ (c .if2 .taken))
@@ -36,4 +33,4 @@ returns-4 c = simp (
 )
 
 pub sheet-step-spec : {M : Type 1} → statement M
-sheet-step-spec = tie.close (tie.spec returns wide-requires returns-2 returns-3 returns-4)
+sheet-step-spec = tie.close (tie.spec returns (λ c κs. search needs) returns-2 returns-3 returns-4)

@@ -18,36 +18,12 @@ returns : tie.Need-returns
 unfolding stepOf
 returns c = (simp (eq-eqb _ _ (c .if1 .taken)), refl)
 
-is-stretch-requires : tie.Need-is-stretch-requires
-is-stretch-requires c κs = search needs
-
 returns-2 : tie.Need-returns-2
 unfolding stepOf
 returns-2 c = (simp (ne-eqb _ _ (c .before .before .if1 .left), sym (c .before .is-stretch .ensures) ∙ not-true _ (c .if2 .taken)), refl)
 
-mul-at : tie.Need-mul-at
-mul-at c = search needs
-
-mul-units : tie.Need-mul-units
-mul-units c = search needs
-
-slice-write-units : tie.Need-slice-write-units
-slice-write-units c = search needs
-
-add-units : tie.Need-add-units
-add-units c = search needs
-
-mul-units-2 : tie.Need-mul-units-2
-mul-units-2 c = search needs
-
 slice-write-units-2 : tie.Need-slice-write-units-2
 slice-write-units-2 c = simp length-set (omega arith)
-
-add-t9 : tie.Need-add-t9
-add-t9 c = search needs
-
-same-length : tie.Need-same-length
-same-length c = search needs
 
 returns-3 : tie.Need-returns-3
 unfolding stepOf
@@ -62,19 +38,5 @@ unfolding stepOf
 returns-4 c = (simp (ne-eqb _ _ (c .before .before .before .if1 .left), stretch (c .before), le-ltb _ _ (c .if3 .left)), refl)
 
 pub unit-step-spec : {M : Type 1} → statement M
-unit-step-spec =
-    tie.close
-    (tie.spec
-    returns
-    is-stretch-requires
-    returns-2
-    mul-at
-    mul-units
-    slice-write-units
-    add-units
-    mul-units-2
-    slice-write-units-2
-    add-t9
-    same-length
-    returns-3
-    returns-4)
+unit-step-spec = tie.close (tie.spec returns (λ c κs. search needs) returns-2 (λ c. search needs) (λ c. search needs) (λ c. search needs)
+    (λ c. search needs) (λ c. search needs) slice-write-units-2 (λ c. search needs) (λ c. search needs) returns-3 returns-4)

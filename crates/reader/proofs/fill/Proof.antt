@@ -60,24 +60,6 @@ spread-requires-6 c κs =
     let p = start (call-1 (call-2 (call-3 (call-4 (call-5 c))))) .pre in
     (reaches (a .s .rules) 4 3 (length (a .rules .now)) (omega (arith, p .in-rules)), omega arith, p .in-high)
 
-same-length : tie.Need-same-length
-same-length c = search needs
-
-same-length-2 : tie.Need-same-length-2
-same-length-2 c = search needs
-
-same-length-3 : tie.Need-same-length-3
-same-length-3 c = search needs
-
-same-length-4 : tie.Need-same-length-4
-same-length-4 c = search needs
-
-same-length-5 : tie.Need-same-length-5
-same-length-5 c = search needs
-
-same-length-6 : tie.Need-same-length-6
-same-length-6 c = search needs
-
 returns : tie.Need-returns
 returns c =
     let s₆ = c .before .before in
@@ -89,19 +71,5 @@ returns c =
     rooms-same (s₁ .spread .ensures) (s₂ .spread2 .ensures) (s₃ .spread3 .ensures) (s₄ .spread4 .ensures) (s₅ .spread5 .ensures) (s₆ .spread6 .ensures)
 
 pub fill-spec : {M : Type 1} → statement M
-fill-spec =
-    tie.close
-    (tie.spec
-    spread-requires
-    spread-requires-2
-    spread-requires-3
-    spread-requires-4
-    spread-requires-5
-    spread-requires-6
-    same-length
-    same-length-2
-    same-length-3
-    same-length-4
-    same-length-5
-    same-length-6
-    returns)
+fill-spec = tie.close (tie.spec spread-requires spread-requires-2 spread-requires-3 spread-requires-4 spread-requires-5 spread-requires-6
+    (λ c. search needs) (λ c. search needs) (λ c. search needs) (λ c. search needs) (λ c. search needs) (λ c. search needs) returns)

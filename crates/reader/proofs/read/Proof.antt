@@ -56,24 +56,6 @@ returns c =
     let e = answer-long (a .text .now) (sizesOf m) (c .if1 .taken) in
     (e, rooms-kept (a .text .now) m 1 0 e)
 
-slice-aggregate-ask : tie.Need-slice-aggregate-ask
-slice-aggregate-ask c = search needs
-
-slice-aggregate-ask-2 : tie.Need-slice-aggregate-ask-2
-slice-aggregate-ask-2 c = search needs
-
-ask-requires : tie.Need-ask-requires
-ask-requires c κs = search needs
-
-enum-known-asked : tie.Need-enum-known-asked
-enum-known-asked c = search needs
-
-enum-known-asked-2 : tie.Need-enum-known-asked-2
-enum-known-asked-2 c = search needs
-
-rooms-fit-requires : tie.Need-rooms-fit-requires
-rooms-fit-requires c κs = search needs
-
 returns-2 : tie.Need-returns-2
 returns-2 c =
     let a = start (told-short (c .before .before)) .args in
@@ -81,12 +63,6 @@ returns-2 c =
     let e = answer-rooms (a .text .now) (sizesOf m) (short (told-short (c .before .before))) _ _ _
     (answered (c .before .before)) (sym (c .before .rooms-fit .ensures) ∙ not-true _ (c .if2 .taken)) in
     (e, rooms-kept (a .text .now) m 12 0 e)
-
-slice-aggregate-fill : tie.Need-slice-aggregate-fill
-slice-aggregate-fill c = search needs
-
-slice-aggregate-fill-2 : tie.Need-slice-aggregate-fill-2
-slice-aggregate-fill-2 c = search needs
 
 fill-requires : tie.Need-fill-requires
 fill-requires c κs = fills _ _ _ _ _ _ _ (lit≤ tt) (lit≤ tt) (kept (fits-told (c .before .before .before .before .before .before .before .before)))
@@ -100,24 +76,6 @@ returns-3 c =
     (sym (ap answerOf (c .before .asked .given .1)) ∙ c .before .before .before .before .before .ask .ensures .0) in
     (e, rooms-kept (a .text .now) m _ _ e)
 
-same-length : tie.Need-same-length
-same-length c = search needs
-
-same-length-2 : tie.Need-same-length-2
-same-length-2 c = search needs
-
-same-length-3 : tie.Need-same-length-3
-same-length-3 c = search needs
-
-same-length-4 : tie.Need-same-length-4
-same-length-4 c = search needs
-
-same-length-5 : tie.Need-same-length-5
-same-length-5 c = search needs
-
-same-length-6 : tie.Need-same-length-6
-same-length-6 c = search needs
-
 returns-4 : tie.Need-returns-4
 returns-4 c =
     let f = filled-fits c in
@@ -130,25 +88,6 @@ returns-4 c =
     )
 
 pub read-spec : {M : Type 1} → statement M
-read-spec =
-    tie.close
-    (tie.spec
-    returns
-    slice-aggregate-ask
-    slice-aggregate-ask-2
-    ask-requires
-    enum-known-asked
-    enum-known-asked-2
-    rooms-fit-requires
-    returns-2
-    slice-aggregate-fill
-    slice-aggregate-fill-2
-    fill-requires
-    returns-3
-    same-length
-    same-length-2
-    same-length-3
-    same-length-4
-    same-length-5
-    same-length-6
-    returns-4)
+read-spec = tie.close (tie.spec returns (λ c. search needs) (λ c. search needs) (λ c κs. search needs) (λ c. search needs) (λ c. search needs)
+    (λ c κs. search needs) returns-2 (λ c. search needs) (λ c. search needs) fill-requires returns-3 (λ c. search needs) (λ c. search needs)
+    (λ c. search needs) (λ c. search needs) (λ c. search needs) (λ c. search needs) returns-4)

@@ -34,12 +34,6 @@ add-from c = omega (
   c .before .before .before .good .0 .1,
 )
 
-add-i : tie.Need-add-i Inv-loop μ-loop
-add-i c = omega arith
-
-loop-less : tie.Need-loop-less Inv-loop μ-loop
-loop-less c = omega arith
-
 loop-again : tie.Need-loop-again Inv-loop μ-loop
 loop-again c = spreading-step _ _ _ _ _ _ _ _ (c .before .before .loop .inv) (c .before .loop-test .taken)
 
@@ -50,19 +44,5 @@ returns : tie.Need-returns Inv-loop μ-loop
 returns c = spreading-end _ _ _ _ _ _ _ _ (c .before .loop .inv) (c .loop-test .left) (c .before .before .pre .2)
 
 pub spread-spec : {M : Type 1} → statement M
-spread-spec =
-    tie.close
-    (tie.spec
-    Inv-loop
-    μ-loop
-    loop-holds
-    mul-room
-    shared-slice-read-room
-    mul-room-2
-    slice-write-room
-    add-from
-    add-i
-    loop-less
-    loop-again
-    same-length
-    returns)
+spread-spec = tie.close (tie.spec Inv-loop μ-loop loop-holds mul-room shared-slice-read-room mul-room-2 slice-write-room add-from (λ c. omega arith)
+    (λ c. omega arith) loop-again same-length returns)

@@ -17,18 +17,6 @@ abbrev μ-loop : tie.MeasureT-loop
 loop-holds : tie.Need-loop-holds Inv-loop μ-loop
 loop-holds c = (omega arith, refl, refl, fill-none (c .args .plan .now) 0)
 
-mul-plan : tie.Need-mul-plan Inv-loop μ-loop
-mul-plan c = omega arith
-
-slice-write-plan : tie.Need-slice-write-plan Inv-loop μ-loop
-slice-write-plan c = omega arith
-
-add-j : tie.Need-add-j Inv-loop μ-loop
-add-j c = omega arith
-
-loop-less : tie.Need-loop-less Inv-loop μ-loop
-loop-less c = omega arith
-
 loop-again : tie.Need-loop-again Inv-loop μ-loop
 loop-again c =
     let plan₀ = c .before .before .args .plan .now in
@@ -38,9 +26,6 @@ loop-again c =
       length-set (l .plan) (l .j) 0 ∙ l .inv .2,
       ap (λ (xs : List ℕ). set xs (l .j) 0) (l .inv .3) ∙ fill-more (l .j) 0 plan₀ (omega arith),
     )
-
-same-length : tie.Need-same-length Inv-loop μ-loop
-same-length c = omega arith
 
 returns : tie.Need-returns Inv-loop μ-loop
 returns c =
@@ -52,16 +37,5 @@ returns c =
     ∙ append-nil (replicate (length plan₀) 0)
 
 pub clear-spec : {M : Type 1} → statement M
-clear-spec =
-    tie.close
-    (tie.spec
-    Inv-loop
-    μ-loop
-    loop-holds
-    mul-plan
-    slice-write-plan
-    add-j
-    loop-less
-    loop-again
-    same-length
-    returns)
+clear-spec = tie.close (tie.spec Inv-loop μ-loop loop-holds (λ c. omega arith) (λ c. omega arith) (λ c. omega arith) (λ c. omega arith) loop-again
+    (λ c. omega arith) returns)

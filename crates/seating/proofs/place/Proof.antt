@@ -24,12 +24,6 @@ loop-holds c =
     let last = c .args .last .now in
     (omega arith, refl, refl, refl, λ b h. omega (arith, c .pre .1 b h, closing-most (at last) 0 b), refl)
 
-mul-slot : tie.Need-mul-slot Inv-loop μ-loop
-mul-slot c = omega arith
-
-shared-slice-read-slot : tie.Need-shared-slice-read-slot Inv-loop μ-loop
-shared-slice-read-slot c = omega arith
-
 slot-inside : (c : tie.In-loop Inv-loop μ-loop) → at (c .before .before .args .last .now) (c .before .loop .j) < length (c .before .loop .starts)
 slot-inside c = let l = c .before .loop in omega (arith, l .inv .2, c .before .before .pre .0 .1 (l .j) (omega arith))
 
@@ -78,12 +72,6 @@ mul-starts c = omega (arith, slot-inside (c .before .before))
 slice-write-starts : tie.Need-slice-write-starts Inv-loop μ-loop
 slice-write-starts c = omega (arith, slot-inside (c .before .before))
 
-add-j : tie.Need-add-j Inv-loop μ-loop
-add-j c = omega arith
-
-loop-less : tie.Need-loop-less Inv-loop μ-loop
-loop-less c = omega arith
-
 loop-again : tie.Need-loop-again Inv-loop μ-loop
 loop-again c =
     let st = c .before .before .before .before in
@@ -99,12 +87,6 @@ loop-again c =
       byRank-next (at last) n (l .j) (at (l .starts) slot) (l .order) (st .args .order .now) (rank-read (c .before .before)) (l .inv .5),
     )
 
-same-length : tie.Need-same-length Inv-loop μ-loop
-same-length c = omega arith
-
-same-length-2 : tie.Need-same-length-2 Inv-loop μ-loop
-same-length-2 c = omega arith
-
 returns : tie.Need-returns Inv-loop μ-loop
 returns c =
     let last = c .before .before .args .last .now in
@@ -115,27 +97,6 @@ returns c =
     )
 
 pub place-spec : {M : Type 1} → statement M
-place-spec =
-    tie.close
-    (tie.spec
-    Inv-loop
-    μ-loop
-    loop-holds
-    mul-slot
-    shared-slice-read-slot
-    cast-slot
-    mul-at
-    slice-read-at
-    cast-order
-    cast-order-2
-    mul-order
-    slice-write-order
-    add-starts
-    mul-starts
-    slice-write-starts
-    add-j
-    loop-less
-    loop-again
-    same-length
-    same-length-2
-    returns)
+place-spec = tie.close (tie.spec Inv-loop μ-loop loop-holds (λ c. omega arith) (λ c. omega arith) cast-slot mul-at slice-read-at cast-order
+    cast-order-2 mul-order slice-write-order add-starts mul-starts slice-write-starts (λ c. omega arith) (λ c. omega arith) loop-again
+    (λ c. omega arith) (λ c. omega arith) returns)

@@ -38,21 +38,6 @@ known c =
       high-fits = search needs;
     }
 
-mul-result : tie.Need-mul-result
-mul-result c = search needs
-
-shared-slice-copy-out-result : tie.Need-shared-slice-copy-out-result
-shared-slice-copy-out-result c = search needs
-
-sub-result : tie.Need-sub-result
-sub-result c = search needs
-
-mul-result-2 : tie.Need-mul-result-2
-mul-result-2 c = search needs
-
-shared-slice-copy-out-result-2 : tie.Need-shared-slice-copy-out-result-2
-shared-slice-copy-out-result-2 c = search needs
-
 sub-result-2 : tie.Need-sub-result-2
 sub-result-2 c =
     let k = known c in
@@ -71,14 +56,5 @@ returns c =
     (rise-is (high c) (low c) (k .nonneg) (k .rises) (k .high-fits))
 
 pub rise-spec : {M : Type 1} → statement M
-rise-spec =
-    tie.close
-    (tie.spec
-    mul-result
-    shared-slice-copy-out-result
-    sub-result
-    mul-result-2
-    shared-slice-copy-out-result-2
-    sub-result-2
-    cast-result
-    returns)
+rise-spec = tie.close (tie.spec (λ c. search needs) (λ c. search needs) (λ c. search needs) (λ c. search needs) (λ c. search needs) sub-result-2
+    cast-result returns)

@@ -11,24 +11,6 @@ use borrow.Author.Needs.{needs}
 use Rattle.seating.proofs.seat.Statement.{statement}
 use Rattle.seating.proofs.seat.Tie as tie
 
-sub-seat-in-order : tie.Need-sub-seat-in-order
-sub-seat-in-order c = search needs
-
-part-order-start : tie.Need-part-order-start
-part-order-start c = search needs
-
-part-order-end : tie.Need-part-order-end
-part-order-end c = search needs
-
-sub-seat-in-order-2 : tie.Need-sub-seat-in-order-2
-sub-seat-in-order-2 c = search needs
-
-part-seat-in-order-start : tie.Need-part-seat-in-order-start
-part-seat-in-order-start c = search needs
-
-part-seat-in-order-end : tie.Need-part-seat-in-order-end
-part-seat-in-order-end c = search needs
-
 seat-in-order-requires : tie.Need-seat-in-order-requires
 seat-in-order-requires c κs =
     let st = c .before .before .before .before .before in
@@ -39,9 +21,6 @@ seat-in-order-requires c κs =
       record { lists = p .lists; units = p .units; room = omega (arith, size); slots = p .slots; closes = p .closes; rising = p .rising },
       (length-take-le {A = ℕ} (n - 0) (replicate 300 0) (omega (arith, p .units)) ∙ omega arith, size ∙ omega arith),
     )
-
-same-length : tie.Need-same-length
-same-length c = search needs
 
 returns : tie.Need-returns
 returns c =
@@ -59,15 +38,5 @@ returns c =
     (all, λ s D R. all ∙ ap (λ (xs : List ℕ). xs ++ drop n plan) (row-printed s D first last counts R (st .pre .lists)))
 
 pub seat-spec : {M : Type 1} → statement M
-seat-spec =
-    tie.close
-    (tie.spec
-    sub-seat-in-order
-    part-order-start
-    part-order-end
-    sub-seat-in-order-2
-    part-seat-in-order-start
-    part-seat-in-order-end
-    seat-in-order-requires
-    same-length
-    returns)
+seat-spec = tie.close (tie.spec (λ c. search needs) (λ c. search needs) (λ c. search needs) (λ c. search needs) (λ c. search needs)
+    (λ c. search needs) seat-in-order-requires (λ c. search needs) returns)

@@ -17,9 +17,6 @@ order-units-requires c κs =
     let p = c .before .before .before .before .before .pre in
     (omega (arith, p .0 .units, p .0 .lists), λ j h. omega (arith, p .0 .closes j h), omega (arith, p .0 .lists, p .1 .0))
 
-clear-requires : tie.Need-clear-requires
-clear-requires c κs = search needs
-
 seat-slots-requires : tie.Need-seat-slots-requires
 seat-slots-requires c κs =
     let st = c .before .before .before .before .before .before .before .before .before .before .before .before .before .before in
@@ -39,12 +36,6 @@ seat-slots-requires c κs =
       (p .0 .slots .0, p .0 .slots .1, p .0 .rising),
     )
 
-same-length : tie.Need-same-length
-same-length c = search needs
-
-same-length-2 : tie.Need-same-length-2
-same-length-2 c = search needs
-
 returns : tie.Need-returns
 returns c =
     let st = c .before .before .before .before .before .before .before .before .before .before .before .before .before .before .before .before .before in
@@ -59,12 +50,5 @@ returns c =
     )
 
 pub seat-in-order-spec : {M : Type 1} → statement M
-seat-in-order-spec =
-    tie.close
-    (tie.spec
-    order-units-requires
-    clear-requires
-    seat-slots-requires
-    same-length
-    same-length-2
+seat-in-order-spec = tie.close (tie.spec order-units-requires (λ c κs. search needs) seat-slots-requires (λ c. search needs) (λ c. search needs)
     returns)

@@ -11,9 +11,6 @@ use borrow.Author.Needs.{needs}
 use Rattle.seating.proofs.seat_past.Statement.{statement}
 use Rattle.seating.proofs.seat_past.Tie as tie
 
-skip-seated-requires : tie.Need-skip-seated-requires
-skip-seated-requires c κs = search needs
-
 front-within : (c : tie.After-skip-seated) → c .skip-seated .result ≤ length (c .before .before .before .before .before .args .order .now)
 front-within c =
     let st = c .before .before .before .before .before in
@@ -28,9 +25,6 @@ sub-seat-slot c = front-within c
 
 part-seat-slot-start : tie.Need-part-seat-slot-start
 part-seat-slot-start c = front-within c
-
-part-seat-slot-end : tie.Need-part-seat-slot-end
-part-seat-slot-end c = search needs
 
 seat-slot-requires : tie.Need-seat-slot-requires
 seat-slot-requires c κs =
@@ -47,9 +41,6 @@ seat-slot-requires c κs =
         st .pre .0 .1 (front + j) (omega (arith, h, within, ap length rest, length-drop front order)),
       ),
     )
-
-same-length : tie.Need-same-length
-same-length c = search needs
 
 returns : tie.Need-returns
 returns c =
@@ -68,14 +59,5 @@ returns c =
     )
 
 pub seat-past-spec : {M : Type 1} → statement M
-seat-past-spec =
-    tie.close
-    (tie.spec
-    skip-seated-requires
-    mul-seat-slot
-    sub-seat-slot
-    part-seat-slot-start
-    part-seat-slot-end
-    seat-slot-requires
-    same-length
-    returns)
+seat-past-spec = tie.close (tie.spec (λ c κs. search needs) mul-seat-slot sub-seat-slot part-seat-slot-start (λ c. search needs) seat-slot-requires
+    (λ c. search needs) returns)

@@ -21,9 +21,6 @@ abbrev μ-loop : tie.MeasureT-loop
 loop-holds : tie.Need-loop-holds Inv-loop μ-loop
 loop-holds c = (omega arith, refl, refl, refl)
 
-same-length : tie.Need-same-length Inv-loop μ-loop
-same-length c = omega arith
-
 returns : tie.Need-returns Inv-loop μ-loop
 returns c =
     let a = c .before .before .before .before .before .before .args in
@@ -37,12 +34,6 @@ unit-inside c =
     let st = c .before .before .before .before .before .before in
     let l = c .before .before .loop in
     omega (arith, l .inv .2, st .pre .1 (l .p) (omega arith))
-
-mul-unit : tie.Need-mul-unit Inv-loop μ-loop
-mul-unit c = omega arith
-
-shared-slice-read-unit : tie.Need-shared-slice-read-unit Inv-loop μ-loop
-shared-slice-read-unit c = omega arith
 
 cast-unit : tie.Need-cast-unit Inv-loop μ-loop
 cast-unit c = omega (arith, c .shared-slice-known3 .given (c .before .before .before .loop .p))
@@ -59,9 +50,6 @@ mul-is-open-2 c = omega (arith, unit-inside (c .before .before))
 shared-slice-read-is-open : tie.Need-shared-slice-read-is-open Inv-loop μ-loop
 shared-slice-read-is-open c = omega (arith, unit-inside (c .before .before .before))
 
-is-open-requires : tie.Need-is-open-requires Inv-loop μ-loop
-is-open-requires c κs = tt
-
 mul-plan : tie.Need-mul-plan Inv-loop μ-loop
 mul-plan c = omega (arith, unit-inside (c .before .before .before .before .before))
 
@@ -72,12 +60,6 @@ sub-left : tie.Need-sub-left Inv-loop μ-loop
 sub-left c =
     let h = c .before .before .before .before .before .if1 .left in
     omega arith
-
-add-p : tie.Need-add-p Inv-loop μ-loop
-add-p c = omega arith
-
-loop-less : tie.Need-loop-less Inv-loop μ-loop
-loop-less c = omega arith
 
 loop-again : tie.Need-loop-again Inv-loop μ-loop
 loop-again c =
@@ -107,9 +89,6 @@ loop-again c =
     ))
     (c .if2 .came)
 
-same-length-2 : tie.Need-same-length-2 Inv-loop μ-loop
-same-length-2 c = omega arith
-
 returns-2 : tie.Need-returns-2 Inv-loop μ-loop
 returns-2 c =
     let a = c .before .before .before .before .before .args in
@@ -117,27 +96,6 @@ returns-2 c =
     sym (seat-end (at (a .first .now)) (a .slot) (a .order .now) (l .p) (l .left) (l .plan) (omega arith)) ∙ l .inv .3
 
 pub seat-slot-spec : {M : Type 1} → statement M
-seat-slot-spec =
-    tie.close
-    (tie.spec
-    Inv-loop
-    μ-loop
-    loop-holds
-    same-length
-    returns
-    mul-unit
-    shared-slice-read-unit
-    cast-unit
-    mul-is-open
-    slice-read-is-open
-    mul-is-open-2
-    shared-slice-read-is-open
-    is-open-requires
-    mul-plan
-    slice-write-plan
-    sub-left
-    add-p
-    loop-less
-    loop-again
-    same-length-2
-    returns-2)
+seat-slot-spec = tie.close (tie.spec Inv-loop μ-loop loop-holds (λ c. omega arith) returns (λ c. omega arith) (λ c. omega arith) cast-unit mul-is-open
+    slice-read-is-open mul-is-open-2 shared-slice-read-is-open (λ c κs. tt) mul-plan slice-write-plan sub-left (λ c. omega arith) (λ c. omega arith)
+    loop-again (λ c. omega arith) returns-2)

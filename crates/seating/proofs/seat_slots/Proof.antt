@@ -35,12 +35,6 @@ seat-past-requires c κs =
     let l = c .before .before .before .before .loop in
     ((omega (arith, st .pre .0 .0, l .inv .3), λ j h. omega (arith, st .pre .0 .1 j h, l .inv .3)), (l .inv .5, l .inv .6))
 
-add-slot : tie.Need-add-slot Inv-loop μ-loop
-add-slot c = omega arith
-
-loop-less : tie.Need-loop-less Inv-loop μ-loop
-loop-less c = omega arith
-
 loop-again : tie.Need-loop-again Inv-loop μ-loop
 loop-again c =
     let a = c .before .before .before .before .before .before .before .args in
@@ -79,9 +73,6 @@ loop-again c =
     ))
     (c .if1 .came)
 
-same-length : tie.Need-same-length Inv-loop μ-loop
-same-length c = omega arith
-
 returns : tie.Need-returns Inv-loop μ-loop
 returns c =
     let a = c .before .before .before .before .before .args in
@@ -90,17 +81,5 @@ returns c =
     ∙ l .inv .4
 
 pub seat-slots-spec : {M : Type 1} → statement M
-seat-slots-spec =
-    tie.close
-    (tie.spec
-    Inv-loop
-    μ-loop
-    loop-holds
-    rise-requires
-    cast-seat-past
-    seat-past-requires
-    add-slot
-    loop-less
-    loop-again
-    same-length
-    returns)
+seat-slots-spec = tie.close (tie.spec Inv-loop μ-loop loop-holds rise-requires cast-seat-past seat-past-requires (λ c. omega arith) (λ c. omega arith)
+    loop-again (λ c. omega arith) returns)

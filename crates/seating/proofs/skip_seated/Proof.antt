@@ -22,12 +22,6 @@ loop-holds c = (c .pre .0, refl, refl)
 unit-inside : (c : tie.In-loop Inv-loop μ-loop) → at (c .before .before .args .order .now) (c .before .loop .p) < length (c .before .before .args .plan .now)
 unit-inside c = let l = c .before .loop in c .before .before .pre .1 (l .p) (omega arith)
 
-mul-unit : tie.Need-mul-unit Inv-loop μ-loop
-mul-unit c = omega arith
-
-shared-slice-read-unit : tie.Need-shared-slice-read-unit Inv-loop μ-loop
-shared-slice-read-unit c = omega arith
-
 cast-unit : tie.Need-cast-unit Inv-loop μ-loop
 cast-unit c = omega (arith, c .shared-slice-known .given (c .before .before .loop .p))
 
@@ -43,12 +37,6 @@ returns c =
     let l = c .before .before .before .before .loop in
     sym (leading-free (at (a .plan .now)) (a .order .now) (l .p) (omega arith) (c .if1 .taken)) ∙ l .inv .2
 
-add-p : tie.Need-add-p Inv-loop μ-loop
-add-p c = omega arith
-
-loop-less : tie.Need-loop-less Inv-loop μ-loop
-loop-less c = omega arith
-
 loop-again : tie.Need-loop-again Inv-loop μ-loop
 loop-again c =
     let a = c .before .before .before .before .before .args in
@@ -63,19 +51,5 @@ returns-2 c =
     sym e ∙ sym (leading-end (at (a .plan .now)) (a .order .now) (l .p) (omega arith)) ∙ l .inv .2
 
 pub skip-seated-spec : {M : Type 1} → statement M
-skip-seated-spec =
-    tie.close
-    (tie.spec
-    Inv-loop
-    μ-loop
-    loop-holds
-    mul-unit
-    shared-slice-read-unit
-    cast-unit
-    mul-if1
-    shared-slice-read-if1
-    returns
-    add-p
-    loop-less
-    loop-again
-    returns-2)
+skip-seated-spec = tie.close (tie.spec Inv-loop μ-loop loop-holds (λ c. omega arith) (λ c. omega arith) cast-unit mul-if1 shared-slice-read-if1
+    returns (λ c. omega arith) (λ c. omega arith) loop-again returns-2)

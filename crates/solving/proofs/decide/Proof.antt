@@ -29,9 +29,6 @@ few c =
     let a = c .args in
     fillable-few (a .span) (a .first .now) (a .last .now) (a .from .now) (a .to .now) (a .low .now) (a .high .now) _ (c .pre)
 
-fill-limits-requires : tie.Need-fill-limits-requires
-fill-limits-requires c κs = search needs
-
 add-pass : tie.Need-add-pass
 add-pass c = omega (arith, few (start (c .before .before)))
 
@@ -42,9 +39,6 @@ pass-requires c κs =
     let room = filled-room (sheet st) (st .args .table .now) _ (st .args .span + 1) (size st) (st .pre .fits) (filled .fill-limits .ensures) in
     (omega arith, few st, room)
 
-same-length : tie.Need-same-length
-same-length c = search needs
-
 returns : tie.Need-returns
 returns c =
     let filled = c .before .before .before .before in
@@ -53,4 +47,4 @@ returns c =
     (filled .fill-limits .ensures) (c .before .pass .ensures)
 
 pub decide-spec : {M : Type 1} → statement M
-decide-spec = tie.close (tie.spec fill-limits-requires add-pass pass-requires same-length returns)
+decide-spec = tie.close (tie.spec (λ c κs. search needs) add-pass pass-requires (λ c. search needs) returns)

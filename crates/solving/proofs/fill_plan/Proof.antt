@@ -4,9 +4,6 @@ use Rattle.solving.specs.FillingLaws.{narrowable, seats-are}
 use Rattle.solving.proofs.fill_plan.Statement.{statement}
 use Rattle.solving.proofs.fill_plan.Tie as tie
 
-seat-units-requires : tie.Need-seat-units-requires
-seat-units-requires c κs = search needs
-
 narrow-requires : tie.Need-narrow-requires
 narrow-requires c κs =
     let a = c .before .before .before .before .before .before .before .before .before .before .before .before .args in
@@ -15,15 +12,6 @@ narrow-requires c κs =
     let s = p .0 .0 in
     let N = narrowable s (a .w) (a .first .now) (a .last .now) (a .table .now) (p .0 .1) (a .plan .now) (u .last .1 .1 .1 .1 .0) (u .ensures s (p .0 .1)) in
     ((s, N), (p .1 .1, p .1 .2))
-
-same-length : tie.Need-same-length
-same-length c = search needs
-
-same-length-2 : tie.Need-same-length-2
-same-length-2 c = search needs
-
-same-length-3 : tie.Need-same-length-3
-same-length-3 c = search needs
 
 returns : tie.Need-returns
 returns c s R =
@@ -38,4 +26,4 @@ returns c s R =
     }
 
 pub fill-plan-spec : {M : Type 1} → statement M
-fill-plan-spec = tie.close (tie.spec seat-units-requires narrow-requires same-length same-length-2 same-length-3 returns)
+fill-plan-spec = tie.close (tie.spec (λ c κs. search needs) narrow-requires (λ c. search needs) (λ c. search needs) (λ c. search needs) returns)

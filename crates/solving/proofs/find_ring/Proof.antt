@@ -34,9 +34,6 @@ few c =
 add-w : tie.Need-add-w
 add-w c = omega (arith, few (c .before .before .before .before .before .before .before))
 
-fill-limits-requires : tie.Need-fill-limits-requires
-fill-limits-requires c κs = search needs
-
 negative-cycle-requires : tie.Need-negative-cycle-requires
 negative-cycle-requires c κs =
     let filled = c .before .before .before in
@@ -62,12 +59,6 @@ clear-requires c κs =
     let room = filled-room (sheet st) (st .args .table .now) _ (st .args .span + 1) (size st) (st .pre .0 .fits) (filled .fill-limits .ensures) in
     omega arith
 
-same-length : tie.Need-same-length
-same-length c = search needs
-
-same-length-2 : tie.Need-same-length-2
-same-length-2 c = search needs
-
 returns : tie.Need-returns
 returns c =
     let filled = c .before .before .before .before .before .before .before .before .before in
@@ -78,14 +69,5 @@ returns c =
     (n .result) (n .last .1 .1 .0) (c .before .clear .last .1 .0) (omega (arith, n .kept, st .pre .1, size st)) (n .ensures) (c .before .clear .ensures)
 
 pub find-ring-spec : {M : Type 1} → statement M
-find-ring-spec =
-    tie.close
-    (tie.spec
-    add-w
-    fill-limits-requires
-    negative-cycle-requires
-    mul-clear
-    clear-requires
-    same-length
-    same-length-2
-    returns)
+find-ring-spec = tie.close (tie.spec add-w (λ c κs. search needs) negative-cycle-requires mul-clear clear-requires (λ c. search needs)
+    (λ c. search needs) returns)

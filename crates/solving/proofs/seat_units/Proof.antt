@@ -7,12 +7,6 @@ use Rattle.network.specs.Table.{entry}
 use Rattle.solving.proofs.seat_units.Statement.{statement}
 use Rattle.solving.proofs.seat_units.Tie as tie
 
-sub-seat : tie.Need-sub-seat
-sub-seat c = search needs
-
-part-seat-start : tie.Need-part-seat-start
-part-seat-start c = search needs
-
 part-seat-end : tie.Need-part-seat-end
 part-seat-end c =
     let a = c .before .before .before .args in
@@ -25,9 +19,6 @@ seat-requires c κs =
     let p = c .before .before .before .before .before .pre in
     seatable (p .0 .0) (a .w) (a .first .now) (a .last .now) (a .table .now) (p .0 .1) (a .w - 0) (omega arith) (a .plan .now) (p .1)
 
-same-length : tie.Need-same-length
-same-length c = search needs
-
 returns : tie.Need-returns
 returns c s R =
     let a = c .before .before .before .before .before .before .before .before .args in
@@ -35,4 +26,4 @@ returns c s R =
     (row-of s (a .w) (a .first .now) (a .last .now) (a .table .now) R (a .w - 0) (omega arith))
 
 pub seat-units-spec : {M : Type 1} → statement M
-seat-units-spec = tie.close (tie.spec sub-seat part-seat-start part-seat-end seat-requires same-length returns)
+seat-units-spec = tie.close (tie.spec (λ c. search needs) (λ c. search needs) part-seat-end seat-requires (λ c. search needs) returns)

@@ -33,17 +33,11 @@ decide-requires c κs =
 enum-told : tie.Need-enum-told
 enum-told c = search needs
 
-enum-told-2 : tie.Need-enum-told-2
-enum-told-2 c = search needs
-
 find-ring-requires : tie.Need-find-ring-requires
 find-ring-requires c κs =
     let d = c .before .before .before .before .before in
     let st = start d in
     ring-asked (lists st) (rooms st) (st .pre) (d .decide .result) (table d) (d .decide .ensures) (c .before .before .enum-told2 .given .1)
-
-enum-told-3 : tie.Need-enum-told-3
-enum-told-3 c = search needs
 
 add-fill-plan : tie.Need-add-fill-plan
 add-fill-plan c =
@@ -58,20 +52,11 @@ fill-plan-requires c κs =
     let asked = plan-asked (lists st) (rooms st) (st .pre) (d .decide .result) (table d) (d .decide .ensures) e in
     ((given (lists st), asked), plan-rooms (lists st) (rooms st) (st .pre) (d .decide .result) (table d) (d .decide .ensures) e)
 
-same-length : tie.Need-same-length
-same-length c = search needs
-
 returns : tie.Need-returns
 returns c =
     let d = c .before .before .before in
     let st = start d in
     range-left (lists st) (rooms st) (st .pre) (d .decide .result) (table d) (d .decide .ensures) (c .enum-told .given .1)
-
-same-length-2 : tie.Need-same-length-2
-same-length-2 c = search needs
-
-same-length-3 : tie.Need-same-length-3
-same-length-3 c = search needs
 
 returns-2 : tie.Need-returns-2
 returns-2 c =
@@ -81,18 +66,6 @@ returns-2 c =
     let f = c .before .before .before .find-ring in
     ring-left (lists st) (rooms st) (st .pre) (d .decide .result) (table d) (d .decide .ensures) e
     (f .result) (f .last .1 .1 .1 .1 .1 .1 .1 .0) (f .last .1 .1 .1 .1 .1 .1 .1 .1 .0) (f .ensures)
-
-same-length-4 : tie.Need-same-length-4
-same-length-4 c = search needs
-
-same-length-5 : tie.Need-same-length-5
-same-length-5 c = search needs
-
-same-length-6 : tie.Need-same-length-6
-same-length-6 c = search needs
-
-same-length-7 : tie.Need-same-length-7
-same-length-7 c = search needs
 
 returns-3 : tie.Need-returns-3
 returns-3 c =
@@ -105,23 +78,6 @@ returns-3 c =
     (f .last .1 .1 .1 .1 .0) (f .last .1 .1 .1 .1 .1 .0) (f .last .1 .1 .1 .1 .1 .1 .0) (f .ensures (given (lists st)) asked)
 
 pub solve-spec : {M : Type 1} → statement M
-solve-spec =
-    tie.close
-    (tie.spec
-    decide-requires
-    enum-told
-    enum-told-2
-    find-ring-requires
-    enum-told-3
-    add-fill-plan
-    fill-plan-requires
-    same-length
-    returns
-    same-length-2
-    same-length-3
-    returns-2
-    same-length-4
-    same-length-5
-    same-length-6
-    same-length-7
-    returns-3)
+solve-spec = tie.close (tie.spec decide-requires enum-told (λ c. search needs) find-ring-requires (λ c. search needs) add-fill-plan fill-plan-requires
+    (λ c. search needs) returns (λ c. search needs) (λ c. search needs) returns-2 (λ c. search needs) (λ c. search needs) (λ c. search needs)
+    (λ c. search needs) returns-3)

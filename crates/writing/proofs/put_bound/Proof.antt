@@ -50,22 +50,13 @@ after-three c = pending-after (pending-pair (after-two (before-three c))) (c .pu
 put-pair-requires : tie.Need-put-pair-requires
 put-pair-requires c κs = pending-room (pending-pair (after-none (c .before .before .before)))
 
-slice-aggregate-put-pair : tie.Need-slice-aggregate-put-pair
-slice-aggregate-put-pair c = refl
-
 put-pair-requires-2 : tie.Need-put-pair-requires-2
 unfolding text
 put-pair-requires-2 c κs = pending-room (pending-pair (after-one (c .before .before .before .before)))
 
-slice-aggregate-put-pair-2 : tie.Need-slice-aggregate-put-pair-2
-slice-aggregate-put-pair-2 c = refl
-
 put-pair-requires-3 : tie.Need-put-pair-requires-3
 unfolding text
 put-pair-requires-3 c κs = pending-room (pending-pair (after-two (c .before .before .before .before)))
-
-slice-aggregate-put-word : tie.Need-slice-aggregate-put-word
-slice-aggregate-put-word c = refl
 
 put-word-requires : tie.Need-put-word-requires
 unfolding text
@@ -79,15 +70,5 @@ unfolding text
 returns c = pending-nothing (pending-after (after-three (c .before .before .before .before .before .before .before)) (c .before .before .put-word .ensures))
 
 pub put-bound-spec : {M : Type 1} → statement M
-put-bound-spec =
-    tie.close
-    (tie.spec
-    put-pair-requires
-    slice-aggregate-put-pair
-    put-pair-requires-2
-    slice-aggregate-put-pair-2
-    put-pair-requires-3
-    slice-aggregate-put-word
-    put-word-requires
-    same-length
-    returns)
+put-bound-spec = tie.close (tie.spec put-pair-requires (λ c. refl) put-pair-requires-2 (λ c. refl) put-pair-requires-3 (λ c. refl) put-word-requires
+    same-length returns)

@@ -65,15 +65,9 @@ put-pair-requires-2 c κs = pending-room (pending-pair (after-one (c .before .be
 put-pair-requires-3 : tie.Need-put-pair-requires-3
 put-pair-requires-3 c κs = pending-room (pending-pair (after-two (c .before .before .before)))
 
-slice-aggregate-put-pair : tie.Need-slice-aggregate-put-pair
-slice-aggregate-put-pair c = refl
-
 put-pair-requires-4 : tie.Need-put-pair-requires-4
 unfolding text
 put-pair-requires-4 c κs = pending-room (pending-pair (after-three (c .before .before .before .before)))
-
-slice-aggregate-put-word : tie.Need-slice-aggregate-put-word
-slice-aggregate-put-word c = refl
 
 put-word-requires : tie.Need-put-word-requires
 unfolding text
@@ -87,15 +81,5 @@ unfolding text
 returns c = pending-nothing (pending-after (after-four (c .before .before .before .before .before .before .before)) (c .before .before .put-word .ensures))
 
 pub put-four-numbers-spec : {M : Type 1} → statement M
-put-four-numbers-spec =
-    tie.close
-    (tie.spec
-    put-pair-requires
-    put-pair-requires-2
-    put-pair-requires-3
-    slice-aggregate-put-pair
-    put-pair-requires-4
-    slice-aggregate-put-word
-    put-word-requires
-    same-length
-    returns)
+put-four-numbers-spec = tie.close (tie.spec put-pair-requires put-pair-requires-2 put-pair-requires-3 (λ c. refl) put-pair-requires-4 (λ c. refl)
+    put-word-requires same-length returns)

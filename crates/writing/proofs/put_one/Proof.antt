@@ -9,17 +9,8 @@ use Rattle.writing.specs.WritingLaws.{digits-one, onto-sets}
 use Rattle.writing.proofs.put_one.Statement.{statement}
 use Rattle.writing.proofs.put_one.Tie as tie
 
-add-page : tie.Need-add-page
-add-page c = omega arith
-
-cast-page : tie.Need-cast-page
-cast-page c = omega arith
-
 slice-write-page : tie.Need-slice-write-page
 slice-write-page c = omega (arith, ap length (digits-one (c .args .n) (c .pre .0)))
-
-add-result : tie.Need-add-result
-add-result c = omega arith
 
 same-length : tie.Need-same-length
 same-length c = simp length-set
@@ -34,5 +25,4 @@ returns c =
     }
 
 pub put-one-spec : {M : Type 1} → statement M
-put-one-spec =
-    tie.close (tie.spec add-page cast-page slice-write-page add-result same-length returns)
+put-one-spec = tie.close (tie.spec (λ c. omega arith) (λ c. omega arith) slice-write-page (λ c. omega arith) same-length returns)

@@ -15,9 +15,6 @@ start c = pending-whole (now (c .args .word) ∷ digits (c .args .a) ∷ text ")
 put-pair-requires : tie.Need-put-pair-requires
 put-pair-requires c κs = pending-room (pending-pair (start (c .before .before .before)))
 
-slice-aggregate-put-word : tie.Need-slice-aggregate-put-word
-slice-aggregate-put-word c = refl
-
 put-word-requires : tie.Need-put-word-requires
 unfolding text
 put-word-requires c κs =
@@ -36,6 +33,4 @@ returns c =
     pending-nothing (pending-after (pending-after (pending-pair (start s)) pair) close)
 
 pub put-one-number-spec : {M : Type 1} → statement M
-put-one-number-spec =
-    tie.close
-    (tie.spec put-pair-requires slice-aggregate-put-word put-word-requires same-length returns)
+put-one-number-spec = tie.close (tie.spec put-pair-requires (λ c. refl) put-word-requires same-length returns)

@@ -4,15 +4,6 @@ use Rattle.writing.specs.Writing.{slotLine, fourNumbers, text}
 use Rattle.writing.proofs.put_slot.Statement.{statement}
 use Rattle.writing.proofs.put_slot.Tie as tie
 
-slice-aggregate-put-four-numbers : tie.Need-slice-aggregate-put-four-numbers
-slice-aggregate-put-four-numbers c = refl
-
-slice-aggregate-put-four-numbers-2 : tie.Need-slice-aggregate-put-four-numbers-2
-slice-aggregate-put-four-numbers-2 c = refl
-
-slice-aggregate-put-four-numbers-3 : tie.Need-slice-aggregate-put-four-numbers-3
-slice-aggregate-put-four-numbers-3 c = refl
-
 put-four-numbers-requires : tie.Need-put-four-numbers-requires
 unfolding slotLine fourNumbers text
 put-four-numbers-requires c κs = c .before .before .before .before .before .pre
@@ -25,12 +16,4 @@ unfolding slotLine fourNumbers text
 returns c = c .before .before .put-four-numbers .ensures
 
 pub put-slot-spec : {M : Type 1} → statement M
-put-slot-spec =
-    tie.close
-    (tie.spec
-    slice-aggregate-put-four-numbers
-    slice-aggregate-put-four-numbers-2
-    slice-aggregate-put-four-numbers-3
-    put-four-numbers-requires
-    same-length
-    returns)
+put-slot-spec = tie.close (tie.spec (λ c. refl) (λ c. refl) (λ c. refl) put-four-numbers-requires same-length returns)

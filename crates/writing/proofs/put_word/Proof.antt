@@ -23,21 +23,6 @@ loop-holds c =
     let a = c .args in
     (omega arith, rw (add-zero (a .at)) (pending-whole (now (a .word) ∷ []) (sym (append-nil (now (a .word)))) (c .pre)))
 
-shared-slice-read-page : tie.Need-shared-slice-read-page Inv-loop μ-loop
-shared-slice-read-page c = omega arith
-
-add-page : tie.Need-add-page Inv-loop μ-loop
-add-page c = omega arith
-
-slice-write-page : tie.Need-slice-write-page Inv-loop μ-loop
-slice-write-page c = omega arith
-
-add-i : tie.Need-add-i Inv-loop μ-loop
-add-i c = omega arith
-
-loop-less : tie.Need-loop-less Inv-loop μ-loop
-loop-less c = omega arith
-
 loop-again : tie.Need-loop-again Inv-loop μ-loop
 loop-again c =
     let l = c .before .before .loop in
@@ -49,12 +34,6 @@ loop-again c =
           (pending-byte (rw (drop-cons w (l .i) 0 t) at (l .inv .1))),
     )
 
-add-result : tie.Need-add-result Inv-loop μ-loop
-add-result c = omega arith
-
-same-length : tie.Need-same-length Inv-loop μ-loop
-same-length c = omega arith
-
 returns : tie.Need-returns Inv-loop μ-loop
 returns c =
     let l = c .before .loop in
@@ -62,18 +41,5 @@ returns c =
     pending-nothing (pending-empty (rw (drop-of-length-le w (c .loop-test .left)) at (l .inv .1)))
 
 pub put-word-spec : {M : Type 1} → statement M
-put-word-spec =
-    tie.close
-    (tie.spec
-    Inv-loop
-    μ-loop
-    loop-holds
-    shared-slice-read-page
-    add-page
-    slice-write-page
-    add-i
-    loop-less
-    loop-again
-    add-result
-    same-length
-    returns)
+put-word-spec = tie.close (tie.spec Inv-loop μ-loop loop-holds (λ c. omega arith) (λ c. omega arith) (λ c. omega arith) (λ c. omega arith)
+    (λ c. omega arith) loop-again (λ c. omega arith) (λ c. omega arith) returns)

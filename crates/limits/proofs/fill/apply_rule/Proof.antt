@@ -9,17 +9,11 @@ use Rattle.limits.specs.EntryLaws.{place-inside}
 use Rattle.limits.proofs.fill.apply_rule.Statement.{statement}
 use Rattle.limits.proofs.fill.apply_rule.Tie as tie
 
-forward-place-requires : tie.Need-forward-place-requires
-forward-place-requires c κs = search needs
-
 tighten-high-requires : tie.Need-tighten-high-requires
 tighten-high-requires c κs =
     let s = c .before .before in
     let a = s .args in
     (omega (arith, c .before .forward-place .ensures, place-inside (a .w) (a .from - 1) (a .to) (omega arith) (s .pre .2), s .pre .5), s .pre .4)
-
-back-place-requires : tie.Need-back-place-requires
-back-place-requires c κs = search needs
 
 tighten-low-requires : tie.Need-tighten-low-requires
 tighten-low-requires c κs =
@@ -27,9 +21,6 @@ tighten-low-requires c κs =
     let a = s .args in
     let inside = place-inside (a .w) (a .to) (a .from - 1) (s .pre .2) (omega arith) in
     (omega (arith, c .before .back-place .ensures, s .pre .5, c .before .before .before .tighten-high .kept .1 .1 .0), s .pre .3)
-
-same-length : tie.Need-same-length
-same-length c = search needs
 
 returns : tie.Need-returns
 returns c =
@@ -43,12 +34,5 @@ returns c =
     (high .ensures ∙ ap (λ (i : ℕ). lowered i (pos (a .high)) (a .t .now)) (forward .ensures))
 
 pub apply-rule-spec : {M : Type 1} → statement M
-apply-rule-spec =
-    tie.close
-    (tie.spec
-    forward-place-requires
-    tighten-high-requires
-    back-place-requires
-    tighten-low-requires
-    same-length
+apply-rule-spec = tie.close (tie.spec (λ c κs. search needs) tighten-high-requires (λ c κs. search needs) tighten-low-requires (λ c. search needs)
     returns)

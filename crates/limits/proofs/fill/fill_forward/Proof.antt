@@ -31,9 +31,6 @@ Inv-loop n w t₀ most a₀ t a = Put n w t₀ a w t
 abbrev μ-loop : tie.MeasureT-loop
 μ-loop n w t₀ most a₀ t a = w - a
 
-cast-signed : tie.Need-cast-signed Inv-loop2 μ-loop2 Inv-loop μ-loop
-cast-signed c = omega arith
-
 signed-requires : tie.Need-signed-requires Inv-loop2 μ-loop2 Inv-loop μ-loop
 signed-requires c κs = c .pre .0
 
@@ -47,12 +44,6 @@ mul-row c =
 
 loop2-holds : tie.Need-loop2-holds Inv-loop2 μ-loop2 Inv-loop μ-loop
 loop2-holds c = (refl, omega arith, omega arith, λ T h s. s)
-
-add-loop2 : tie.Need-add-loop2 Inv-loop2 μ-loop2 Inv-loop μ-loop
-add-loop2 c = omega arith
-
-sub-b : tie.Need-sub-b Inv-loop2 μ-loop2 Inv-loop μ-loop
-sub-b c = omega arith
 
 inside : (c : tie.In-loop2 Inv-loop2 μ-loop2 Inv-loop μ-loop)
     → c .before .before .before .loop .a * c .before .before .before .before .before .args .w + (c .before .loop2 .b - 1) < length (c .before .loop2 .t)
@@ -70,9 +61,6 @@ mul-most c = omega (arith, inside c, c .before .before .before .loop .inv .long)
 slice-set-from-most : tie.Need-slice-set-from-most Inv-loop2 μ-loop2 Inv-loop μ-loop
 slice-set-from-most c = inside c
 
-loop2-less : tie.Need-loop2-less Inv-loop2 μ-loop2 Inv-loop μ-loop
-loop2-less c = omega arith
-
 loop2-again : tie.Need-loop2-again Inv-loop2 μ-loop2 Inv-loop μ-loop
 loop2-again c =
     let s = c .before .before .before .before .before in
@@ -88,12 +76,6 @@ loop2-again c =
       λ T h p. subst (λ (z : ℤ). Put (s .args .n) (s .args .w) T a (l .b - 1) (set (l .t) (a * s .args .w + (l .b - 1)) z)) (sym e)
           (put-more (s .args .n) (s .args .w) T (l .t) a (l .b) h (omega arith) (omega arith) (omega arith) (l .inv .3 T h p)),
     )
-
-add-a : tie.Need-add-a Inv-loop2 μ-loop2 Inv-loop μ-loop
-add-a c = omega arith
-
-loop-less : tie.Need-loop-less Inv-loop2 μ-loop2 Inv-loop μ-loop
-loop-less c = omega arith
 
 loop-again : tie.Need-loop-again Inv-loop2 μ-loop2 Inv-loop μ-loop
 loop-again c =
@@ -120,27 +102,6 @@ returns c =
     filled-is (a .w) (withForward (a .n) (entry (a .w) (a .t .now))) (a .t .now) (c .before .loop .t) (s .pre .1) (whole c)
 
 pub fill-forward-spec : {M : Type 1} → statement M
-fill-forward-spec =
-    tie.close
-    (tie.spec
-    Inv-loop2
-    μ-loop2
-    Inv-loop
-    μ-loop
-    cast-signed
-    signed-requires
-    loop-holds
-    mul-row
-    loop2-holds
-    add-loop2
-    sub-b
-    add-most
-    mul-most
-    slice-set-from-most
-    loop2-less
-    loop2-again
-    add-a
-    loop-less
-    loop-again
-    same-length
-    returns)
+fill-forward-spec = tie.close (tie.spec Inv-loop2 μ-loop2 Inv-loop μ-loop (λ c. omega arith) signed-requires loop-holds mul-row loop2-holds
+    (λ c. omega arith) (λ c. omega arith) add-most mul-most slice-set-from-most (λ c. omega arith) loop2-again (λ c. omega arith) (λ c. omega arith)
+    loop-again same-length returns)

@@ -107,29 +107,14 @@ loop-holds c =
           (record { long = refl; at = p .at; past = refl }),
     )
 
-sub-k : tie.Need-sub-k Inv-loop μ-loop
-sub-k c = omega arith
-
-mul-apply-rule : tie.Need-mul-apply-rule Inv-loop μ-loop
-mul-apply-rule c = omega arith
-
 shared-slice-read-apply-rule : tie.Need-shared-slice-read-apply-rule Inv-loop μ-loop
 shared-slice-read-apply-rule c = omega (arith, c .before .before .loop .inv .0)
-
-mul-apply-rule-2 : tie.Need-mul-apply-rule-2 Inv-loop μ-loop
-mul-apply-rule-2 c = omega arith
 
 shared-slice-read-apply-rule-2 : tie.Need-shared-slice-read-apply-rule-2 Inv-loop μ-loop
 shared-slice-read-apply-rule-2 c = omega (arith, agree (entry-of (c .before .before .before)) .stretches, c .before .before .before .loop .inv .0)
 
-mul-apply-rule-3 : tie.Need-mul-apply-rule-3 Inv-loop μ-loop
-mul-apply-rule-3 c = omega arith
-
 shared-slice-read-apply-rule-3 : tie.Need-shared-slice-read-apply-rule-3 Inv-loop μ-loop
 shared-slice-read-apply-rule-3 c = omega (arith, agree (entry-of (c .before .before .before .before)) .lows, c .before .before .before .before .loop .inv .0)
-
-mul-apply-rule-4 : tie.Need-mul-apply-rule-4 Inv-loop μ-loop
-mul-apply-rule-4 c = omega arith
 
 shared-slice-read-apply-rule-4 : tie.Need-shared-slice-read-apply-rule-4 Inv-loop μ-loop
 shared-slice-read-apply-rule-4 c =
@@ -143,9 +128,6 @@ apply-rule-requires c κs =
     let fit = accepted-rule (a .span) (a .first .now) (a .last .now) (a .from .now) (a .to .now) (a .low .now) (a .high .now)
     (s .pre .ok) (s .pre .agree) (l .k - 1) (omega (arith, l .inv .0)) in
     (fit .starts, fit .ordered, fit .ends, fit .low, fit .high, omega (arith, l .inv .1, l .inv .2 .long))
-
-loop-less : tie.Need-loop-less Inv-loop μ-loop
-loop-less c = omega arith
 
 loop-again : tie.Need-loop-again Inv-loop μ-loop
 loop-again c =
@@ -184,26 +166,7 @@ returns c =
     ∙ ap (λ (w : ℕ). tableOf w (limit (sheet s)) ++ drop (w * w) t) (sym (wide s))
 
 pub fill-limits-spec : {M : Type 1} → statement M
-fill-limits-spec =
-    tie.close
-    (tie.spec
-    Inv-loop
-    μ-loop
-    add-w
-    windows-inside-requires
-    fill-forward-requires
-    loop-holds
-    sub-k
-    mul-apply-rule
-    shared-slice-read-apply-rule
-    mul-apply-rule-2
-    shared-slice-read-apply-rule-2
-    mul-apply-rule-3
-    shared-slice-read-apply-rule-3
-    mul-apply-rule-4
-    shared-slice-read-apply-rule-4
-    apply-rule-requires
-    loop-less
-    loop-again
-    same-length
+fill-limits-spec = tie.close (tie.spec Inv-loop μ-loop add-w windows-inside-requires fill-forward-requires loop-holds (λ c. omega arith)
+    (λ c. omega arith) shared-slice-read-apply-rule (λ c. omega arith) shared-slice-read-apply-rule-2 (λ c. omega arith)
+    shared-slice-read-apply-rule-3 (λ c. omega arith) shared-slice-read-apply-rule-4 apply-rule-requires (λ c. omega arith) loop-again same-length
     returns)

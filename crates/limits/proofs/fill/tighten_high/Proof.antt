@@ -12,24 +12,6 @@ use Rattle.limits.specs.Tightened.{withHigh}
 use Rattle.limits.proofs.fill.tighten_high.Statement.{statement}
 use Rattle.limits.proofs.fill.tighten_high.Tie as tie
 
-mul-t7 : tie.Need-mul-t7
-mul-t7 c = search needs
-
-slice-copy-out-t9 : tie.Need-slice-copy-out-t9
-slice-copy-out-t9 c = search needs
-
-with-high-requires : tie.Need-with-high-requires
-with-high-requires c κs = search needs
-
-mul-value : tie.Need-mul-value
-mul-value c = search needs
-
-slice-set-from-value : tie.Need-slice-set-from-value
-slice-set-from-value c = search needs
-
-same-length : tie.Need-same-length
-same-length c = search needs
-
 returns : tie.Need-returns
 unfolding withHigh
 returns c =
@@ -42,13 +24,5 @@ returns c =
     ap (set (a .t .now) (a .at)) (toZ-ofZ fr ∙ e)
 
 pub tighten-high-spec : {M : Type 1} → statement M
-tighten-high-spec =
-    tie.close
-    (tie.spec
-    mul-t7
-    slice-copy-out-t9
-    with-high-requires
-    mul-value
-    slice-set-from-value
-    same-length
-    returns)
+tighten-high-spec = tie.close (tie.spec (λ c. search needs) (λ c. search needs) (λ c κs. search needs) (λ c. search needs) (λ c. search needs)
+    (λ c. search needs) returns)

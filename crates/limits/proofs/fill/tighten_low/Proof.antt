@@ -12,24 +12,6 @@ use Rattle.limits.specs.Tightened.{withLow}
 use Rattle.limits.proofs.fill.tighten_low.Statement.{statement}
 use Rattle.limits.proofs.fill.tighten_low.Tie as tie
 
-mul-t7 : tie.Need-mul-t7
-mul-t7 c = search needs
-
-slice-copy-out-t9 : tie.Need-slice-copy-out-t9
-slice-copy-out-t9 c = search needs
-
-with-low-requires : tie.Need-with-low-requires
-with-low-requires c κs = search needs
-
-mul-value : tie.Need-mul-value
-mul-value c = search needs
-
-slice-set-from-value : tie.Need-slice-set-from-value
-slice-set-from-value c = search needs
-
-same-length : tie.Need-same-length
-same-length c = search needs
-
 returns : tie.Need-returns
 unfolding withLow
 returns c =
@@ -42,13 +24,5 @@ returns c =
     ap (set (a .t .now) (a .at)) (toZ-ofZ fr ∙ e)
 
 pub tighten-low-spec : {M : Type 1} → statement M
-tighten-low-spec =
-    tie.close
-    (tie.spec
-    mul-t7
-    slice-copy-out-t9
-    with-low-requires
-    mul-value
-    slice-set-from-value
-    same-length
-    returns)
+tighten-low-spec = tie.close (tie.spec (λ c. search needs) (λ c. search needs) (λ c κs. search needs) (λ c. search needs) (λ c. search needs)
+    (λ c. search needs) returns)

@@ -23,9 +23,6 @@ Inv-loop first last w t₀ j₀ t j = (j ≤ length first) × (w * w ≤ length 
 abbrev μ-loop : tie.MeasureT-loop
 μ-loop first last w t₀ j₀ t j = j
 
-mul-clear : tie.Need-mul-clear Inv-loop μ-loop
-mul-clear c = omega arith
-
 clear-requires : tie.Need-clear-requires Inv-loop μ-loop
 clear-requires c κs = c .before .before .before .pre .0
 
@@ -50,21 +47,6 @@ loop-holds c =
       subst (λ (ws : List Window). Filled (a .w) (exactWeights ws) t t) (sym (no-windows (a .first .now) (a .last .now)))
           (record { long = refl; at = z .at; past = refl }),
     )
-
-sub-j : tie.Need-sub-j Inv-loop μ-loop
-sub-j c = omega arith
-
-mul-back-place : tie.Need-mul-back-place Inv-loop μ-loop
-mul-back-place c = omega arith
-
-shared-slice-read-back-place : tie.Need-shared-slice-read-back-place Inv-loop μ-loop
-shared-slice-read-back-place c = omega arith
-
-mul-back-place-2 : tie.Need-mul-back-place-2 Inv-loop μ-loop
-mul-back-place-2 c = omega arith
-
-shared-slice-read-back-place-2 : tie.Need-shared-slice-read-back-place-2 Inv-loop μ-loop
-shared-slice-read-back-place-2 c = omega arith
 
 back-place-requires : tie.Need-back-place-requires Inv-loop μ-loop
 back-place-requires c κs =
@@ -100,9 +82,6 @@ sub-t c = rw (read c) (one (c .before) .fits)
 slice-set-from-t : tie.Need-slice-set-from-t Inv-loop μ-loop
 slice-set-from-t c = one (c .before) .inside
 
-loop-less : tie.Need-loop-less Inv-loop μ-loop
-loop-less c = omega arith
-
 loop-again : tie.Need-loop-again Inv-loop μ-loop
 loop-again c =
     let l = c .before .before .before .before .before .loop in
@@ -132,25 +111,6 @@ returns c =
     filled-is (a .w) (exactWeights (windowsOf (a .first .now) (a .last .now))) (a .t .now) (c .before .loop .t) (s .pre .0) (whole c)
 
 pub exact-windows-spec : {M : Type 1} → statement M
-exact-windows-spec =
-    tie.close
-    (tie.spec
-    Inv-loop
-    μ-loop
-    mul-clear
-    clear-requires
-    loop-holds
-    sub-j
-    mul-back-place
-    shared-slice-read-back-place
-    mul-back-place-2
-    shared-slice-read-back-place-2
-    back-place-requires
-    mul-t
-    slice-copy-out-t
-    sub-t
-    slice-set-from-t
-    loop-less
-    loop-again
-    same-length
-    returns)
+exact-windows-spec = tie.close (tie.spec Inv-loop μ-loop (λ c. omega arith) clear-requires loop-holds (λ c. omega arith) (λ c. omega arith)
+    (λ c. omega arith) (λ c. omega arith) (λ c. omega arith) back-place-requires mul-t slice-copy-out-t sub-t slice-set-from-t (λ c. omega arith)
+    loop-again same-length returns)

@@ -81,9 +81,6 @@ loop2-holds c =
       own-base (a .w) (exactWeights ws) (insideWeights ws) (c .before .before .before .exact-windows .last .1 .1 .1 .0) (l .t) (l .a) (l .a) (l .inv .2),
     )
 
-sub-b : tie.Need-sub-b Inv-loop2 μ-loop2 Inv-loop μ-loop
-sub-b c = omega arith
-
 one : (c : tie.In-loop2 Inv-loop2 μ-loop2 Inv-loop μ-loop)
     → let a = c .before .before .before .before .before .before .before .before .before .args in
     let r = c .before .before .before .loop in
@@ -139,9 +136,6 @@ mul-t21 c = omega (arith, one (c .before .before) .inside, c .before .before .be
 slice-set-from-t : tie.Need-slice-set-from-t Inv-loop2 μ-loop2 Inv-loop μ-loop
 slice-set-from-t c = one (c .before .before) .inside
 
-loop2-less : tie.Need-loop2-less Inv-loop2 μ-loop2 Inv-loop μ-loop
-loop2-less c = omega arith
-
 loop2-again : tie.Need-loop2-again Inv-loop2 μ-loop2 Inv-loop μ-loop
 loop2-again c =
     let w = c .before .before .before .before .before .before .before .before .before .before .before .args .w in
@@ -157,12 +151,6 @@ loop2-again c =
       rw (toZ-ofZ x, toZ-ofZ (o .sum-fits)) (o .sum-is),
       rw (toZ-ofZ x, toZ-ofZ (o .sum-fits), toZ-ofZ y, toZ-ofZ (o .fits)) (o .next),
     )
-
-add-a : tie.Need-add-a Inv-loop2 μ-loop2 Inv-loop μ-loop
-add-a c = omega arith
-
-loop-less : tie.Need-loop-less Inv-loop2 μ-loop2 Inv-loop μ-loop
-loop-less c = omega arith
 
 loop-again : tie.Need-loop-again Inv-loop2 μ-loop2 Inv-loop μ-loop
 loop-again c =
@@ -202,32 +190,6 @@ returns c =
     filled-is (a .w) (insideWeights (windowsOf (a .first .now) (a .last .now))) (a .t .now) (c .before .loop .t) (s .pre .0) (whole c)
 
 pub windows-inside-spec : {M : Type 1} → statement M
-windows-inside-spec =
-    tie.close
-    (tie.spec
-    Inv-loop2
-    μ-loop2
-    Inv-loop
-    μ-loop
-    exact-windows-requires
-    loop-holds
-    mul-row
-    loop2-holds
-    sub-b
-    add-at
-    mul-sum
-    slice-copy-out-sum
-    add-sum
-    sub-t
-    mul-t
-    slice-copy-out-t
-    add-t
-    mul-t21
-    slice-set-from-t
-    loop2-less
-    loop2-again
-    add-a
-    loop-less
-    loop-again
-    same-length
-    returns)
+windows-inside-spec = tie.close (tie.spec Inv-loop2 μ-loop2 Inv-loop μ-loop exact-windows-requires loop-holds mul-row loop2-holds (λ c. omega arith)
+    add-at mul-sum slice-copy-out-sum add-sum sub-t mul-t slice-copy-out-t add-t mul-t21 slice-set-from-t (λ c. omega arith) loop2-again
+    (λ c. omega arith) (λ c. omega arith) loop-again same-length returns)

@@ -19,9 +19,6 @@ fits c =
 small : (c : tie.Start) → toZ w16 (c .args .x) ≡ pos (c .args .x)
 small c = toZ-pos w16 (omega arith)
 
-cast-result : tie.Need-cast-result
-cast-result c = search needs
-
 sub-result : tie.Need-sub-result
 sub-result c = rw (small c) (fits c)
 
@@ -29,4 +26,4 @@ returns : tie.Need-returns
 returns c = rw (small c) (toZ-ofZ (fits c) ∙ +ℤ-idl (negℤ (pos (c .args .x))))
 
 pub minus-spec : {M : Type 1} → statement M
-minus-spec = tie.close (tie.spec cast-result sub-result returns)
+minus-spec = tie.close (tie.spec (λ c. search needs) sub-result returns)

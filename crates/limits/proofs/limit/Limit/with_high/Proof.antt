@@ -10,12 +10,6 @@ use Rattle.limits.specs.Tightened.{withHigh}
 use Rattle.limits.proofs.limit.Limit.with_high.Statement.{statement}
 use Rattle.limits.proofs.limit.Limit.with_high.Tie as tie
 
-signed-requires : tie.Need-signed-requires
-signed-requires c κs = search needs
-
-lesser-requires : tie.Need-lesser-requires
-lesser-requires c κs = search needs
-
 returns : tie.Need-returns
 unfolding withHigh
 returns c =
@@ -27,4 +21,4 @@ returns c =
     ap (λ (z : ℤ). record { value = z }) (toZ-ofZ fr ∙ e ∙ ap (minℤ (a .self .value)) (c .before .signed .ensures))
 
 pub with-high-spec : {M : Type 1} → statement M
-with-high-spec = tie.close (tie.spec signed-requires lesser-requires returns)
+with-high-spec = tie.close (tie.spec (λ c κs. search needs) (λ c κs. search needs) returns)

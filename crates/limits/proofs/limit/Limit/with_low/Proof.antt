@@ -10,12 +10,6 @@ use Rattle.limits.specs.Tightened.{withLow}
 use Rattle.limits.proofs.limit.Limit.with_low.Statement.{statement}
 use Rattle.limits.proofs.limit.Limit.with_low.Tie as tie
 
-minus-requires : tie.Need-minus-requires
-minus-requires c κs = search needs
-
-lesser-requires : tie.Need-lesser-requires
-lesser-requires c κs = search needs
-
 returns : tie.Need-returns
 unfolding withLow
 returns c =
@@ -27,4 +21,4 @@ returns c =
     ap (λ (z : ℤ). record { value = z }) (toZ-ofZ fr ∙ e ∙ ap (minℤ (a .self .value)) (c .before .minus .ensures))
 
 pub with-low-spec : {M : Type 1} → statement M
-with-low-spec = tie.close (tie.spec minus-requires lesser-requires returns)
+with-low-spec = tie.close (tie.spec (λ c κs. search needs) (λ c κs. search needs) returns)
