@@ -7,10 +7,10 @@ use lib.Dec.{T}
 use Rattle.lists.specs.Lists.{joined}
 use Rattle.network.specs.Table.{Passed, finished, stopped, outOfRange}
 use Rattle.sheet.specs.Sheet.{Sheet, isRing}
-use Rattle.questions.specs.Reading.{Verdict, no, allYes, firstNo, questions, roomsForAll, sheetIn}
-use Rattle.asking.specs.Questions.{passed}
-use Rattle.writing.specs.Writing.{text, digits, Written}
-use Rattle.printing.specs.Printing.{planBytes, ringBytes}
+use Rattle.read_ask.specs.Reading.{Verdict, no, allYes, firstNo, questions, roomsForAll, sheetIn}
+use Rattle.plan_ask.specs.Questions.{passed}
+use Rattle.print_bytes.specs.Writing.{text, digits, Written}
+use Rattle.print_answer.specs.Printing.{planBytes, ringBytes}
 
 -- the line of a refusal, as `(refused 7 (line 3))`
 unfoldable pub refusedLine : ℕ → ℕ → List ℕ

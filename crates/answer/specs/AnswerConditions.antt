@@ -15,18 +15,18 @@ use Rattle.network.specs.Table.{Passed, finished, stopped, outOfRange, entry}
 use Rattle.sheet.specs.Sheet.{Sheet, lawful, isRing, boundaries, leastIn, greatestIn, printedPlan, earliestSlots, latestSlots}
 use Rattle.sheet.specs.Questions.{accepted}
 use Rattle.sheet.specs.QuestionLaws.{accepted-valid}
-use Rattle.seating.specs.RangeLaws.{solved-plan}
-use Rattle.questions.specs.Reading.{Verdict, no, allYes, firstNo, questions, roomsForAll, sheetIn}
-use Rattle.questions.specs.AcceptedLaws.{reading-accepts}
-use Rattle.questions.specs.RefusalLaws.{reading-refusals}
-use Rattle.asking.specs.Questions.{passed}
-use Rattle.solving.specs.PlanningLaws.{passed-solved, stopped-unlawful}
-use Rattle.writing.specs.Writing.{text, digits, digitsWithin, planHead}
-use Rattle.page.specs.Page.{planPage, nonePage, maxPage}
-use Rattle.page.specs.PageBounds.{plan-short, none-short}
-use Rattle.page.specs.PageLines.{slot, unit, readLines, unitLinesWith}
-use Rattle.page.specs.PageLinesLaws.{slot-line-true, unit-line-true}
-use Rattle.printing.specs.Printing.{planBytes, ringBytes}
+use Rattle.plan_seats.specs.RangeLaws.{solved-plan}
+use Rattle.read_ask.specs.Reading.{Verdict, no, allYes, firstNo, questions, roomsForAll, sheetIn}
+use Rattle.read_ask.specs.AcceptedLaws.{reading-accepts}
+use Rattle.read_ask.specs.RefusalLaws.{reading-refusals}
+use Rattle.plan_ask.specs.Questions.{passed}
+use Rattle.plan_solve.specs.PlanningLaws.{passed-solved, stopped-unlawful}
+use Rattle.print_bytes.specs.Writing.{text, digits, digitsWithin, planHead}
+use Rattle.print_page.specs.Page.{planPage, nonePage, maxPage}
+use Rattle.print_page.specs.PageBounds.{plan-short, none-short}
+use Rattle.print_page.specs.PageLines.{slot, unit, readLines, unitLinesWith}
+use Rattle.print_page.specs.PageLinesLaws.{slot-line-true, unit-line-true}
+use Rattle.print_answer.specs.Printing.{planBytes, ringBytes}
 use Rattle.answer.specs.Answer.{refusedLine, ByPass, ByReading, AnswerTo}
 use Rattle.answer.specs.AnswerLaws.{refused-short}
 

@@ -14,22 +14,22 @@ use Rattle.lists.specs.Members.{within-iff}
 use Rattle.network.specs.Table.{Passed, finished, stopped, outOfRange}
 use Rattle.sheet.specs.Sheet.{Sheet, isRing}
 use Rattle.sheet.specs.declared.Sheet.{Sheet as Read}
-use Rattle.questions.specs.Reading.{maxBytes, Rooms, roomsForAll, Answer, refused, read, reading, Verdict, no, allYes, firstNo, questions, concluded, sheetIn}
-use Rattle.questions.specs.AcceptedLaws.{reading-accepts}
-use Rattle.questions.specs.RefusalLaws.{reading-refusals}
-use Rattle.reader.specs.Rooms.{sizesOf, leaves, roomsAfter}
-use Rattle.asking.specs.Questions.{Lists, Rooms as Lent, given, passed}
-use Rattle.solving.specs.Planning.{byPass, Left}
-use Rattle.asking.specs.Asking.{Solvable}
-use Rattle.planner.specs.EntryLaws.{verdict-solvable}
-use Rattle.solving.specs.declared.Answer.{Answer as Planned}
-use Rattle.writing.specs.Writing.{text, onto, Room, Written}
-use Rattle.page.specs.Page.{maxPage}
-use Rattle.page.specs.PageBounds.{five-at-most, plan-short, none-short}
-use Rattle.printing.specs.Printing.{planBytes, ringBytes, holds, Asked, Shown, Printing}
-use Rattle.printer.specs.OwnLaws.{ownRooms, own-fit}
-use Rattle.printing.specs.declared.Printed.{Printed}
-use Rattle.printing.specs.declared.Printed.the-variants.{Refused, Plan, None}
+use Rattle.read_ask.specs.Reading.{maxBytes, Rooms, roomsForAll, Answer, refused, read, reading, Verdict, no, allYes, firstNo, questions, concluded, sheetIn}
+use Rattle.read_ask.specs.AcceptedLaws.{reading-accepts}
+use Rattle.read_ask.specs.RefusalLaws.{reading-refusals}
+use Rattle.read.specs.Rooms.{sizesOf, leaves, roomsAfter}
+use Rattle.plan_ask.specs.Questions.{Lists, Rooms as Lent, given, passed}
+use Rattle.plan_solve.specs.Planning.{byPass, Left}
+use Rattle.plan_ask.specs.Asking.{Solvable}
+use Rattle.plan.specs.EntryLaws.{verdict-solvable}
+use Rattle.plan_solve.specs.declared.Answer.{Answer as Planned}
+use Rattle.print_bytes.specs.Writing.{text, onto, Room, Written}
+use Rattle.print_page.specs.Page.{maxPage}
+use Rattle.print_page.specs.PageBounds.{five-at-most, plan-short, none-short}
+use Rattle.print_answer.specs.Printing.{planBytes, ringBytes, holds, Asked, Shown, Printing}
+use Rattle.print.specs.OwnLaws.{ownRooms, own-fit}
+use Rattle.print_answer.specs.declared.Printed.{Printed}
+use Rattle.print_answer.specs.declared.Printed.the-variants.{Refused, Plan, None}
 use Rattle.answer.specs.Answer.{refusedLine, ByPass, AnswerToSheet, ByReading, AnswerTo, Answered}
 use Rattle.answer.specs.Fronts.{fronts, Held}
 use Rattle.answer.specs.FrontsLaws.{held, front-sheet}

@@ -5,8 +5,8 @@ use lib.Dec.{T}
 use lib.ListN.{length, take}
 use Rattle.sheet.specs.Questions.{accepted}
 use Rattle.sheet.specs.declared.Sheet.{Sheet}
-use Rattle.questions.specs.Reading.{Rooms}
-use Rattle.asking.specs.Questions.{Lists, listed, given, agree}
+use Rattle.read_ask.specs.Reading.{Rooms}
+use Rattle.plan_ask.specs.Questions.{Lists, listed, given, agree}
 
 -- of each list as many places as there are units or rules
 abbrev pub fronts : Sheet → Rooms (List ℕ) → Lists

@@ -12,9 +12,9 @@ use Rattle.lists.specs.Members.{both}
 use Rattle.sheet.specs.Sheet.{Window, Rule, Sheet}
 use Rattle.sheet.specs.Questions.{windowsOf, rulesOf, sheetOf, listsAgree, accepted}
 use Rattle.sheet.specs.declared.Sheet.{Sheet as Read}
-use Rattle.questions.specs.Reading.{Rooms, read}
-use Rattle.reader.specs.Rooms.{onto, leaves}
-use Rattle.asking.specs.Questions.{Lists, listed, given, agree}
+use Rattle.read_ask.specs.Reading.{Rooms, read}
+use Rattle.read.specs.Rooms.{onto, leaves}
+use Rattle.plan_ask.specs.Questions.{Lists, listed, given, agree}
 use Rattle.answer.specs.Fronts.{fronts, Held}
 
 -- ---- a sheet in parallel lists is the sheet again

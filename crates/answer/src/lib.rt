@@ -1,11 +1,12 @@
 ghost use Prim.Native.Nat.{_≤_};
-ghost use Rattle.questions.specs.Reading.{maxBytes, rooms};
-ghost use Rattle.asking.specs.Questions.{given};
-ghost use Rattle.writing.specs.Writing.{Written};
+ghost use Rattle.sheet.specs.Sizes.{maxBytes};
+ghost use Rattle.read_ask.specs.Reading.{rooms};
+ghost use Rattle.plan_ask.specs.Questions.{given};
+ghost use Rattle.print_bytes.specs.Writing.{Written};
 ghost use Rattle.answer.specs.Answer.{refusedLine, AnswerToSheet, AnswerTo, Answered};
 ghost use Rattle.answer.specs.Fronts.{fronts, Held};
-use printing::Printed;
-use questions::Reading;
+use print_answer::Printed;
+use read_ask::Reading;
 use sheet::Sheet;
 
 // No answer is longer: the head, a line of 37 bytes for each unit and one of 38 for each slot.
@@ -16,9 +17,9 @@ fn refuse(page: &mut [u8; MAX_ANSWER], number: usize, line: usize) -> usize
     requires { ⌜ (number ≤ 14) × (line ≤ maxBytes) ⌝ }
     ensures { λ r. ⌜ Written (now (page .entry)) 0 (refusedLine number line) (now (page .exit)) r ⌝ }
 {
-    let next = writing::put_pair(page, 0, b"(refused ", number as u16);
-    let next2 = writing::put_pair(page, next, b" (line ", line as u16);
-    writing::put_word(page, next2, b"))\n")
+    let next = print_bytes::put_pair(page, 0, b"(refused ", number as u16);
+    let next2 = print_bytes::put_pair(page, next, b" (line ", line as u16);
+    print_bytes::put_word(page, next2, b"))\n")
 }
 
 // The answer to the sheet that reading left at the front of the lists.
@@ -38,12 +39,12 @@ fn answer_sheet(
 {
     let n = s.units;
     let r = s.rules;
-    let mut table = [0i16; printer::MAX_CELLS];
+    let mut table = [0i16; Sheet::MAX_CELLS];
     let mut plan = [0u16; Sheet::MAX_UNITS];
     let mut earliest = [0u16; Sheet::MAX_UNITS];
     let mut latest = [0u16; Sheet::MAX_UNITS];
     let mut ring = [0u16; Sheet::MAX_BOUNDARIES];
-    let printed = printer::print(
+    let printed = print::print(
         s.span,
         &first[..n],
         &last[..n],
@@ -77,7 +78,7 @@ pub fn answer(text: &[u8], page: &mut [u8; MAX_ANSWER]) -> usize
     let mut to = [0u16; Sheet::MAX_RULES];
     let mut low = [0u16; Sheet::MAX_RULES];
     let mut high = [0u16; Sheet::MAX_RULES];
-    let reading = reader::read(
+    let reading = read::read(
         text,
         &mut first,
         &mut last,

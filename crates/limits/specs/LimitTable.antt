@@ -10,7 +10,7 @@ use Rattle.integers.specs.Parts.{minℤ}
 use Rattle.lists.specs.Lists.{howMany}
 use Rattle.network.specs.Network.{Weights}
 use Rattle.network.specs.Table.{tableOf}
-use Rattle.sheet.specs.Limits.{maxUnits}
+use Rattle.sheet.specs.Sizes.{maxUnits}
 use Rattle.sheet.specs.Sheet.{Slot, Window, Sheet, boundaries, insideOf, slotAfter, limit}
 use Rattle.sheet.specs.Questions.{sheetOf, listsAgree, accepted}
 

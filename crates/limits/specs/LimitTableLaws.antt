@@ -10,9 +10,9 @@ use lib.IntN.{ℤ, pos, negsuc}
 use lib.Signed.{_≤ℤ_}
 use Rattle.integers.specs.Parts.{up, dn, ints, neg}
 use Rattle.lists.specs.Members.{In}
-use Rattle.network.specs.Table.{mostBoundaries, tableOf, entry}
+use Rattle.network.specs.Table.{maxBoundaries, tableOf, entry}
 use Rattle.network.specs.TableLaws.{length-tableOf, entry-front}
-use Rattle.sheet.specs.Limits.{maxCount}
+use Rattle.sheet.specs.Sizes.{maxCount}
 use Rattle.sheet.specs.Sheet.{Rule, Sheet, top, boundaries, noWindow, insideOf, atLeast, limit}
 use Rattle.sheet.specs.PlanLaws.{noRule}
 use Rattle.sheet.specs.LimitLaws.{limit-fwd, limit-back, limit-same, atMost-n, atLeast-le}
@@ -91,7 +91,7 @@ limit-small s ok a b =
 
 -- ---- the filled table, as a pass over it and a search of its cycles ask
 
-pub boundaries-fit : (s : Sheet) → T (accepted s) → (2 ≤ boundaries s) × (boundaries s ≤ mostBoundaries)
+pub boundaries-fit : (s : Sheet) → T (accepted s) → (2 ≤ boundaries s) × (boundaries s ≤ maxBoundaries)
 unfolding top
 boundaries-fit s ok = let n = accepted-sized s ok .slots in (omega arith, omega arith)
 

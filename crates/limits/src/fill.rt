@@ -4,7 +4,7 @@ ghost use Prim.Native.Nat.{_+_, _-_, _*_, _<_, _≤_};
 ghost use lib.ListN.{length, drop};
 ghost use lib.IntN.{pos, negℤ};
 ghost use Rattle.network.specs.Table.{tableOf, entry};
-ghost use Rattle.sheet.specs.Limits.{maxUnits, maxCount};
+ghost use Rattle.sheet.specs.Sizes.{maxUnits, maxCount};
 ghost use Rattle.sheet.specs.Questions.{sheetOf};
 ghost use Rattle.limits.specs.LimitTable.{withForward, lowered, limitTable, Fillable};
 use crate::back_place;

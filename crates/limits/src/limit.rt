@@ -1,7 +1,7 @@
 ghost use mathlib.Core.Path.{_≡_};
 ghost use Prim.Native.Nat.{_≤_};
 ghost use lib.IntN.{pos, negℤ};
-ghost use Rattle.sheet.specs.Limits.{maxCount};
+ghost use Rattle.sheet.specs.Sizes.{maxCount};
 ghost use Rattle.limits.specs.Tightened.{withHigh, withLow};
 
 // The limit of a step.

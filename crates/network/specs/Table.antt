@@ -14,8 +14,8 @@ use Rattle.network.specs.declared.Outcome.{Outcome}
 use Rattle.network.specs.declared.Outcome.the-variants.{Finished, Stopped, OutOfRange}
 
 -- the largest number of boundaries
-abbrev pub mostBoundaries : ℕ
-mostBoundaries = 49
+abbrev pub maxBoundaries : ℕ
+maxBoundaries = 49
 
 -- the table of w boundaries whose entry (a, b) is f a b
 abbrev pub tableOf : ℕ → Weights → List ℤ

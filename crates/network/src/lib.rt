@@ -5,8 +5,11 @@ ghost use Prim.Native.Nat.{_+_, _-_, _*_, _≤_, _<_, min};
 ghost use lib.ListN.{length, take, drop};
 ghost use lib.IntN.{ℤ, pos, negsuc, _+ℤ_};
 ghost use lib.Signed.{leZ};
-ghost use Rattle.network.specs.Table.{mostBoundaries, passFrom, passOf, After, cleared};
+ghost use Rattle.network.specs.Table.{maxBoundaries, passFrom, passOf, After, cleared};
 ghost use Rattle.network.specs.Row.{leastOf, greatestOf, relaxed, SumsInRange, Loaded, Ran};
+
+// The largest number of boundaries, as sheets have them (sheet/specs/Sizes.antt ties the two).
+pub const MAX_BOUNDARIES: usize = 49;
 
 // How a pass over the middle boundaries ends.
 pub enum Outcome {
@@ -72,7 +75,7 @@ fn sums_fit(ends: Extremes, am: i16) -> bool
 
 // How many stretches of 64 columns a row has. It is one here, and the compiler sees that: the row step becomes one loop of vectors.
 fn stretches(w: usize) -> usize
-    requires { ⌜ w ≤ mostBoundaries ⌝ }
+    requires { ⌜ w ≤ maxBoundaries ⌝ }
     ensures { λ r. ⌜ (w ≤ r * 64) × (r * 64 < w + 64) ⌝ }
 {
     (w + 63) / 64
@@ -108,11 +111,11 @@ pub fn clear(n: usize, t: &mut [i16])
 
 // The middle boundaries from..to, until a diagonal entry falls below 0 or a sum is out of range. The table is then left half done.
 fn run_middles(t: &mut [i16], w: usize, from: usize, to: usize) -> Outcome
-    requires { ⌜ (0 < w) × (w ≤ mostBoundaries) × (w * w ≤ length (now t)) × (from ≤ to) × (to ≤ w) ⌝ }
+    requires { ⌜ (0 < w) × (w ≤ maxBoundaries) × (w * w ≤ length (now t)) × (from ≤ to) × (to ≤ w) ⌝ }
     ensures { λ r. ⌜ Ran w (now (t .entry)) (passFrom (to - from) from w (now (t .entry))) r (now (t .exit)) ⌝ }
 {
     let mut outcome = Outcome::Finished;
-    let mut mid = [0i16; 49];
+    let mut mid = [0i16; MAX_BOUNDARIES];
     'pass: for m in from..to {
         let ends = load_row(t, m, w, &mut mid);
         for a in 0..w {
@@ -141,15 +144,15 @@ fn run_middles(t: &mut [i16], w: usize, from: usize, to: usize) -> Outcome
 
 // The compiler reads no contracts. This tells it how many boundaries there are at most, and so that a row is one stretch.
 fn capped(w: usize) -> usize
-    requires { ⌜ w ≤ mostBoundaries ⌝ }
+    requires { ⌜ w ≤ maxBoundaries ⌝ }
     ensures { λ r. ⌜ r ≡ w ⌝ }
 {
-    if w < 49 { w } else { 49 }
+    if w < MAX_BOUNDARIES { w } else { MAX_BOUNDARIES }
 }
 
 // The middle boundaries from..to. Where they do not all finish, the table's places become 0; places past the table never change.
 pub fn pass_middles(t: &mut [i16], w: usize, from: usize, to: usize) -> Outcome
-    requires { ⌜ (0 < w) × (w ≤ mostBoundaries) × (w * w ≤ length (now t)) × (from ≤ to) × (to ≤ w) ⌝ }
+    requires { ⌜ (0 < w) × (w ≤ maxBoundaries) × (w * w ≤ length (now t)) × (from ≤ to) × (to ≤ w) ⌝ }
     ensures { λ r. ⌜ After w (now (t .entry)) (passFrom (to - from) from w (now (t .entry))) r (now (t .exit)) ⌝ }
 {
     let outcome = run_middles(t, capped(w), from, to);
@@ -163,7 +166,7 @@ pub fn pass_middles(t: &mut [i16], w: usize, from: usize, to: usize) -> Outcome
 
 // The whole pass.
 pub fn pass(t: &mut [i16], w: usize) -> Outcome
-    requires { ⌜ (0 < w) × (w ≤ mostBoundaries) × (w * w ≤ length (now t)) ⌝ }
+    requires { ⌜ (0 < w) × (w ≤ maxBoundaries) × (w * w ≤ length (now t)) ⌝ }
     ensures { λ r. ⌜ After w (now (t .entry)) (passOf w (now (t .entry))) r (now (t .exit)) ⌝ }
 {
     pass_middles(t, w, 0, w)

@@ -1,4 +1,4 @@
-pub mod Limits
+pub mod Sizes
 pub mod Sheet
 pub mod Cases
 pub mod PlanLaws

@@ -7,7 +7,7 @@ use native.Mathlib.Omega.{arith}
 use lib.Dec.{T, leb, eqb, leb→le, eqb→eq}
 use lib.ListN.{length, getD}
 use Rattle.lists.specs.Members.{In, left, right, within-iff, every-at, every-in}
-use Rattle.sheet.specs.Limits.{maxSlots, maxUnits, maxRules, maxCount}
+use Rattle.sheet.specs.Sizes.{maxSlots, maxUnits, maxRules, maxCount}
 use Rattle.sheet.specs.Sheet.{Rule, Sheet, top, noWindow}
 use Rattle.sheet.specs.PlanLaws.{noRule}
 use Rattle.sheet.specs.PotentialLaws.{Valid}

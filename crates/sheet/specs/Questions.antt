@@ -5,7 +5,7 @@ use Prim.Native.Nat.{ℕ}
 use lib.Dec.{leb, eqb}
 use lib.ListN.{length}
 use Rattle.lists.specs.Lists.{within, every}
-use Rattle.sheet.specs.Limits.{maxSlots, maxUnits, maxRules, maxCount}
+use Rattle.sheet.specs.Sizes.{maxSlots, maxUnits, maxRules, maxCount}
 use Rattle.sheet.specs.Sheet.{Slot, Window, Rule, Sheet, top}
 
 abbrev pub windowsOf : List Slot → List Slot → List Window

@@ -9,6 +9,7 @@ use lib.ListN.{length, getD}
 use lib.IntN.{ℤ, pos, negℤ}
 use Rattle.lists.specs.Lists.{run, fromTo, within, every, keep, howMany, joined, smallest, largest, least, greatest}
 use Rattle.network.specs.Network.{around, isNegativeCycle}
+use Rattle.sheet.specs.Sizes.{topOf}
 
 -- ---- slots and boundaries are counted apart: slots run 1 to span, boundaries 0 to top, and boundary b is the end of slot b
 
@@ -44,7 +45,7 @@ pub record Sheet : Type 0 where
 
 -- the top boundary
 unfoldable pub top : Sheet → Boundary
-top s = s .span
+top s = topOf (s .span)
 
 -- how many boundaries a sheet has
 abbrev pub boundaries : Sheet → ℕ

@@ -1,5 +1,6 @@
 ghost use mathlib.Core.Path.{_≡_};
-ghost use Prim.Native.Nat.{_+_, _-_, _<_};
+ghost use Prim.Native.Nat.{_+_, _-_, _<_, _≤_};
+ghost use Rattle.sheet.specs.Sizes.{maxSlots, boundariesOf};
 
 // Slots run 1 to span, boundaries 0 to top; boundary b is the end of slot b.
 pub struct Slot(pub usize);
@@ -25,6 +26,14 @@ impl Boundary {
     }
 }
 
+// The number of boundaries of a span: the one step from the one to the other.
+pub fn boundaries(span: usize) -> usize
+    requires { ⌜ span ≤ maxSlots ⌝ }
+    ensures { λ r. ⌜ r ≡ boundariesOf span ⌝ }
+{
+    span + 1
+}
+
 // A sheet's span and its numbers of units and rules; the lists themselves are lent.
 pub struct Sheet {
     pub span: usize,
@@ -42,7 +51,13 @@ impl Sheet {
     // The largest count a rule may name.
     pub const MAX_COUNT: usize = 300;
 
+    // The longest text of a sheet, in bytes.
+    pub const MAX_BYTES: usize = 16000;
+
     pub const MAX_BOUNDARIES: usize = Sheet::MAX_SLOTS + 1;
+
+    // The entries of the largest table of limits.
+    pub const MAX_CELLS: usize = Sheet::MAX_BOUNDARIES * Sheet::MAX_BOUNDARIES;
 
     pub fn empty() -> Sheet
         ensures { λ r. ⌜ r ≡ record { span = 0; units = 0; rules = 0 } ⌝ }

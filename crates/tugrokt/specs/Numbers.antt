@@ -7,12 +7,12 @@ use Rattle.network.specs.Table.{Passed, After}
 use Rattle.network.specs.declared.Outcome.{Outcome}
 use Rattle.network.specs.declared.Outcome.the-variants.{Finished, Stopped, OutOfRange}
 use Rattle.sheet.specs.Sheet.{Sheet}
-use Rattle.questions.specs.Reading.{Answer as ReadingAnswer, refused, read}
-use Rattle.asking.specs.Questions.{Lists, Rooms}
-use Rattle.solving.specs.Planning.{Verdict, Left, numberOf, ringLength}
-use Rattle.solving.specs.declared.Answer.{Answer}
-use Rattle.printing.specs.Printing.{Printing, placeAfter, numberOf as printedNumber, ringLength as printedLength}
-use Rattle.printing.specs.declared.Printed.{Printed}
+use Rattle.read_ask.specs.Reading.{Answer as ReadingAnswer, refused, read}
+use Rattle.plan_ask.specs.Questions.{Lists, Rooms}
+use Rattle.plan_solve.specs.Planning.{Verdict, Left, numberOf, ringLength}
+use Rattle.plan_solve.specs.declared.Answer.{Answer}
+use Rattle.print_answer.specs.Printing.{Printing, placeAfter, numberOf as printedNumber, ringLength as printedLength}
+use Rattle.print_answer.specs.declared.Printed.{Printed}
 
 -- ---- reading
 

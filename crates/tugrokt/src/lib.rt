@@ -1,16 +1,16 @@
 ghost use mathlib.Core.Path.{_≡_};
 ghost use Prim.Native.Nat.{_*_, _<_, _≤_};
 ghost use lib.ListN.{length};
-ghost use Rattle.network.specs.Table.{mostBoundaries, passOf};
-ghost use Rattle.cycles.specs.Finder.{Weighed, Infeasible, CycleAt};
-ghost use Rattle.questions.specs.Reading.{reading, rooms};
-ghost use Rattle.reader.specs.Rooms.{sizesOf, roomsAfter};
-ghost use Rattle.asking.specs.Questions.{listed, lent, given};
-ghost use Rattle.solving.specs.Planning.{verdict};
+ghost use Rattle.network.specs.Table.{maxBoundaries, passOf};
+ghost use Rattle.network_cycles.specs.Finder.{Weighed, Infeasible, CycleAt};
+ghost use Rattle.read_ask.specs.Reading.{reading, rooms};
+ghost use Rattle.read.specs.Rooms.{sizesOf, roomsAfter};
+ghost use Rattle.plan_ask.specs.Questions.{listed, lent, given};
+ghost use Rattle.plan_solve.specs.Planning.{verdict};
 ghost use Rattle.tugrokt.specs.Numbers.{numbers, numbersOf, PlanTold, PrintTold, PassTold};
-use printing::Printed;
-use questions::Reading;
-use solving::Answer;
+use print_answer::Printed;
+use read_ask::Reading;
+use plan_solve::Answer;
 
 // The entries for other languages: numbers and slices only. What a reply does not have is written as 0.
 
@@ -36,7 +36,7 @@ pub extern "C" fn tugrokt_read(
         ≡ roomsAfter (now (text .entry))
         (rooms (now (first .entry)) (now (last .entry)) (now (from .entry)) (now (to .entry)) (now (low .entry)) (now (high .entry))) ⌝ }
 {
-    let reply = reader::read(text, first, last, from, to, low, high);
+    let reply = read::read(text, first, last, from, to, low, high);
     match reply {
         Reading::Refused(refusal) => {
             *line = refusal.line;
@@ -78,7 +78,7 @@ pub extern "C" fn tugrokt_plan(
         ⌜ PlanTold (verdict l before) (given l) before r (now (length .exit))
         (lent (now (table .exit)) (now (seats .exit)) (now (earliest .exit)) (now (latest .exit)) (now (ring .exit))) ⌝ }
 {
-    let answer = planner::plan(
+    let answer = plan::plan(
         span,
         first,
         last,
@@ -134,7 +134,7 @@ pub extern "C" fn tugrokt_print(
         (lent (now (table .exit)) (now (seats .exit)) (now (earliest .exit)) (now (latest .exit)) (now (ring .exit))) (now (page .exit)) ⌝ }
 {
     let at = *place;
-    let printed = printer::print(
+    let printed = print::print(
         span,
         first,
         last,
@@ -171,7 +171,7 @@ pub extern "C" fn tugrokt_print(
 // The pass: 0 where it finished, 1 where it stopped, 2 where a sum is out of range.
 #[no_mangle]
 pub extern "C" fn tugrokt_pass(t: &mut [i16], w: usize) -> usize
-    requires { ⌜ (0 < w) × (w ≤ mostBoundaries) × (w * w ≤ length (now t)) ⌝ }
+    requires { ⌜ (0 < w) × (w ≤ maxBoundaries) × (w * w ≤ length (now t)) ⌝ }
     ensures { λ r. ⌜ PassTold w (now (t .entry)) (passOf w (now (t .entry))) r (now (t .exit)) ⌝ }
 {
     let outcome = network::pass(t, w);
@@ -188,5 +188,5 @@ pub extern "C" fn tugrokt_cycle(d: &[i16], w: usize, out: &mut [u16]) -> usize
     requires { ⌜ Weighed w (now d) × Infeasible w (now d) × (w ≤ length (now out)) ⌝ }
     ensures { λ r. ⌜ CycleAt w (now (d .entry)) (now (out .entry)) r (now (out .exit)) ⌝ }
 {
-    cycles::negative_cycle(d, w, out)
+    network_cycles::negative_cycle(d, w, out)
 }

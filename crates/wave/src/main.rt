@@ -4,9 +4,10 @@ ghost use Prim.Native.Nat.{_≤_};
 ghost use lib.ListN.{length};
 use libc::STDIN_FILENO;
 use libc::STDOUT_FILENO;
+use sheet::Sheet;
 
 // One byte more than the longest text that is read, so that a longer text is known for one without its rest.
-const TEXT_BYTES: usize = 16001;
+const TEXT_BYTES: usize = Sheet::MAX_BYTES + 1;
 
 // How many bytes were read, and whether a read failed on the way.
 struct Input {

@@ -5,8 +5,8 @@ use Prim.Native.Nat.{ℕ}
 use native.Mathlib.Omega.{arith}
 use denote.Ref.{now}
 use lib.ListN.{replicate}
-use Rattle.questions.specs.Reading.{Rooms, rooms, roomsForAll, refused, read, reading, answerOf}
-use Rattle.reader.specs.Rooms.{sizesOf}
+use Rattle.read_ask.specs.Reading.{Rooms, rooms, roomsForAll, refused, read, reading, answerOf}
+use Rattle.read.specs.Rooms.{sizesOf}
 use Rattle.answer.specs.AnswerLaws.{refused-small, refused-answer, read-held, read-answered, refusal-answered}
 use borrow.Author.Needs.{needs}
 use Rattle.answer.proofs.answer.Statement.{statement}

@@ -4,14 +4,14 @@ use native.Mathlib.Omega.{arith}
 use denote.Ref.{now}
 use lib.Seq.{length-take-le}
 use Rattle.sheet.specs.Sheet.{Sheet}
-use Rattle.questions.specs.Reading.{Rooms, rooms}
+use Rattle.read_ask.specs.Reading.{Rooms, rooms}
 use Prim.Native.Nat.{ℕ}
 use mathlib.Core.List.{List}
-use Rattle.asking.specs.Questions.{given}
-use Rattle.printing.specs.declared.Printed.the-variants.{Refused, Plan, None}
+use Rattle.plan_ask.specs.Questions.{given}
+use Rattle.print_answer.specs.declared.Printed.the-variants.{Refused, Plan, None}
 use Rattle.answer.specs.Answer.{refusedLine, AnswerToSheet, Answered}
 use Rattle.answer.specs.Fronts.{fronts}
-use Rattle.printer.specs.OwnLaws.{ownRooms}
+use Rattle.print.specs.OwnLaws.{ownRooms}
 use Rattle.answer.specs.AnswerLaws.{held-solvable, print-refused, print-plan, print-none, refusal-answered}
 use borrow.Author.Needs.{needs}
 use Rattle.answer.proofs.answer_sheet.Statement.{statement}

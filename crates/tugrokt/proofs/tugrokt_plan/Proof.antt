@@ -1,7 +1,7 @@
 -- The call of plan, with its reply as numbers.
 use borrow.Author.Needs.{needs}
 use mathlib.Core.Path.{sym, ap}
-use Rattle.solving.specs.Planning.{numberOf, ringLength}
+use Rattle.plan_solve.specs.Planning.{numberOf, ringLength}
 use Rattle.tugrokt.proofs.tugrokt_plan.Statement.{statement}
 use Rattle.tugrokt.proofs.tugrokt_plan.Tie as tie
 

@@ -1,7 +1,7 @@
 -- The call of print, with its reply as numbers.
 use borrow.Author.Needs.{needs}
 use mathlib.Core.Path.{sym, ap}
-use Rattle.printing.specs.Printing.{numberOf, ringLength, placeAfter}
+use Rattle.print_answer.specs.Printing.{numberOf, ringLength, placeAfter}
 use Rattle.tugrokt.proofs.tugrokt_print.Statement.{statement}
 use Rattle.tugrokt.proofs.tugrokt_print.Tie as tie
 

@@ -1,6 +1,6 @@
 -- The call of read, with its reply as numbers.
 use mathlib.Core.Path.{sym, ap, _∙_}
-use Rattle.questions.specs.Reading.{answerOf}
+use Rattle.read_ask.specs.Reading.{answerOf}
 use Rattle.tugrokt.specs.Numbers.{numbersOf}
 use borrow.Author.Needs.{needs}
 use Rattle.tugrokt.proofs.tugrokt_read.Statement.{statement}

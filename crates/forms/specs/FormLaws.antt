@@ -1,0 +1,186 @@
+-- What `matches` and `numbers` mean: a line is of a form just when it is the form written out with some numbers, and these are its numbers.
+-- Key idea: form and line are read together from the left. A word is cut off by its length. A number is cut off by its digits, and ends where the
+-- next word begins, since in no form a digit follows a number.
+use Prim.Native.Nat.{ℕ, suc, _≤_}
+use mathlib.Core.Path.{_≡_, refl, sym, ap, ap₂, subst, _∙_}
+use mathlib.Core.Bool.{Bool, true, false, _&&_, not, cond}
+use mathlib.Core.List.{List, [], _∷_, _++_}
+use native.Mathlib.Omega.{arith}
+use lib.ListN.{length, drop}
+use lib.Seq.{drop-append-seam}
+use lib.Dec.{T, eqb}
+use borrow.Author.Tests.{eqb-true, eq-eqb, not-true}
+use Rattle.forms.specs.Form.{isDigit, some, leading, past, Piece, word, number, sheetForm, unitForm, ruleForm, startsWith, matches, numbers, written}
+
+-- ---- tests
+
+pub false-not-true : {A : Type 0} → false ≡ true → A
+false-not-true h = absurd (subst T (sym h) tt)
+
+pub and-left : (a b : Bool) → (a && b) ≡ true → a ≡ true
+and-left true b h = refl
+and-left false b h = h
+
+pub and-right : (a b : Bool) → (a && b) ≡ true → b ≡ true
+and-right true b h = h
+and-right false b h = false-not-true h
+
+-- ---- digits
+
+-- every byte is a digit
+abbrev pub Digits : List ℕ → Type 0
+Digits [] = Unit {0}
+Digits (b ∷ l) = (isDigit b ≡ true) × Digits l
+
+pub leading-digits : (l : List ℕ) → Digits (leading l)
+unfolding leading
+leading-digits [] = tt
+leading-digits (b ∷ l) = go (isDigit b) refl (leading-digits l)
+  where
+    go : (d : Bool) → isDigit b ≡ d → Digits (leading l) → Digits (cond d (b ∷ leading l) [])
+    go true e h = (e, h)
+    go false e h = tt
+
+leading-past : (l : List ℕ) → leading l ++ past l ≡ l
+unfolding leading past
+leading-past [] = refl
+leading-past (b ∷ l) = go (isDigit b) (leading-past l)
+  where
+    go : (d : Bool) → leading l ++ past l ≡ l → cond d (b ∷ leading l) [] ++ cond d (past l) (b ∷ l) ≡ b ∷ l
+    go true e = ap (λ (m : List ℕ). b ∷ m) e
+    go false e = refl
+
+pub past-drop : (l : List ℕ) → past l ≡ drop (length (leading l)) l
+unfolding past leading
+past-drop [] = refl
+past-drop (b ∷ l) = go (isDigit b) (past-drop l)
+  where
+    go : (d : Bool) → past l ≡ drop (length (leading l)) l → cond d (past l) (b ∷ l) ≡ drop (length (cond d (b ∷ leading l) [])) (b ∷ l)
+    go true e = e
+    go false e = refl
+
+pub leading-short : (l : List ℕ) → length (leading l) ≤ length l
+unfolding leading
+leading-short [] = omega arith
+leading-short (b ∷ l) = go (isDigit b) (leading-short l)
+  where
+    go : (d : Bool) → length (leading l) ≤ length l → length (cond d (b ∷ leading l) []) ≤ suc (length l)
+    go true h = omega arith
+    go false h = omega arith
+
+-- ---- a line of a form is the form written out with its numbers
+
+-- a number is one or more digits
+pub record Number (n : List ℕ) : Type 0 where
+  pub digits : Digits n
+  pub not-empty : some n ≡ true
+
+-- one number for each number of the form
+abbrev pub Suits : List Piece → List (List ℕ) → Type 0
+Suits [] [] = Unit {0}
+Suits [] (n ∷ ns) = ⊥
+Suits (word w ∷ f) ns = Suits f ns
+Suits (number ∷ f) [] = ⊥
+Suits (number ∷ f) (n ∷ ns) = Number n × Suits f ns
+
+starts : (w l : List ℕ) → startsWith w l ≡ true → w ++ drop (length w) l ≡ l
+starts [] l h = refl
+starts (x ∷ w) [] h = false-not-true h
+starts (x ∷ w) (b ∷ l) h =
+    ap₂ (λ (y : ℕ) (m : List ℕ). y ∷ m) (eqb-true x b (and-left (eqb x b) (startsWith w l) h)) (starts w l (and-right (eqb x b) (startsWith w l) h))
+
+pub is-written : (f : List Piece) (l : List ℕ) → matches f l ≡ true → written f (numbers f l) ≡ l
+unfolding matches numbers written
+is-written [] [] h = refl
+is-written [] (b ∷ l) h = false-not-true h
+is-written (word w ∷ f) l h =
+    let rest = drop (length w) l in
+    ap (λ (m : List ℕ). w ++ m) (is-written f rest (and-right (startsWith w l) (matches f rest) h))
+    ∙ starts w l (and-left (startsWith w l) (matches f rest) h)
+is-written (number ∷ f) l h =
+    ap (λ (m : List ℕ). leading l ++ m) (is-written f (past l) (and-right (some (leading l)) (matches f (past l)) h)) ∙ leading-past l
+
+pub has-numbers : (f : List Piece) (l : List ℕ) → matches f l ≡ true → Suits f (numbers f l)
+unfolding matches numbers
+has-numbers [] l h = tt
+has-numbers (word w ∷ f) l h = has-numbers f (drop (length w) l) (and-right (startsWith w l) (matches f (drop (length w) l)) h)
+has-numbers (number ∷ f) l h = (
+  record { digits = leading-digits l; not-empty = and-left (some (leading l)) (matches f (past l)) h },
+  has-numbers f (past l) (and-right (some (leading l)) (matches f (past l)) h),
+)
+
+-- ---- a form written out with numbers is a line of the form, with these numbers
+
+-- in a form, a number is followed by the end, or by a word that starts with no digit
+abbrev pub separated : List Piece → Bool
+separated [] = true
+separated (word w ∷ f) = separated f
+separated (number ∷ []) = true
+separated (number ∷ (number ∷ f)) = false
+separated (number ∷ (word [] ∷ f)) = false
+separated (number ∷ (word (b ∷ w) ∷ f)) = not (isDigit b) && separated f
+
+-- a text that starts with no digit
+abbrev Stops : List ℕ → Type 0
+Stops [] = Unit {0}
+Stops (b ∷ l) = isDigit b ≡ false
+
+leading-of : (n m : List ℕ) → Digits n → Stops m → leading (n ++ m) ≡ n
+unfolding leading
+leading-of [] [] d h = refl
+leading-of [] (b ∷ m) d h = ap (λ (e : Bool). cond e (b ∷ leading m) []) h
+leading-of (b ∷ n) m d h =
+    ap (λ (e : Bool). cond e (b ∷ leading (n ++ m)) []) (d .0) ∙ ap (λ (k : List ℕ). b ∷ k) (leading-of n m (d .1) h)
+
+past-of : (n m : List ℕ) → Digits n → Stops m → past (n ++ m) ≡ m
+unfolding past
+past-of [] [] d h = refl
+past-of [] (b ∷ m) d h = ap (λ (e : Bool). cond e (past m) (b ∷ m)) h
+past-of (b ∷ n) m d h = ap (λ (e : Bool). cond e (past (n ++ m)) (b ∷ (n ++ m))) (d .0) ∙ past-of n m (d .1) h
+
+stops : (f : List Piece) (ns : List (List ℕ)) → separated (number ∷ f) ≡ true → Stops (written f ns)
+unfolding written
+stops [] ns h = tt
+stops (number ∷ f) ns h = false-not-true h
+stops (word [] ∷ f) ns h = false-not-true h
+stops (word (b ∷ w) ∷ f) ns h = not-true (isDigit b) (and-left (not (isDigit b)) (separated f) h)
+
+separated-tail : (f : List Piece) → separated (number ∷ f) ≡ true → separated f ≡ true
+separated-tail [] h = refl
+separated-tail (number ∷ f) h = false-not-true h
+separated-tail (word [] ∷ f) h = false-not-true h
+separated-tail (word (b ∷ w) ∷ f) h = and-right (not (isDigit b)) (separated f) h
+
+starts-own : (w m : List ℕ) → startsWith w (w ++ m) ≡ true
+starts-own [] m = refl
+starts-own (x ∷ w) m = rw (eq-eqb x x refl) (starts-own w m)
+
+-- the form's own words and numbers are found again
+pub record Read (f : List Piece) (ns : List (List ℕ)) : Type 0 where
+  pub matched : matches f (written f ns) ≡ true
+  pub found : numbers f (written f ns) ≡ ns
+
+pub written-matches : (f : List Piece) (ns : List (List ℕ)) → separated f ≡ true → Suits f ns → Read f ns
+unfolding matches numbers written
+written-matches [] [] h s = record { matched = refl; found = refl }
+written-matches [] (n ∷ ns) h s = absurd s
+written-matches (word w ∷ f) ns h s =
+    let r = written-matches f ns h s in
+    let d = drop-append-seam w (written f ns) in
+    record { matched = rw d (rw (starts-own w (written f ns)) (r .matched)); found = rw d (r .found) }
+written-matches (number ∷ f) [] h s = absurd s
+written-matches (number ∷ f) (n ∷ ns) h s =
+    let w = stops f ns h in
+    let a = leading-of n (written f ns) (s .0 .digits) w in
+    let b = past-of n (written f ns) (s .0 .digits) w in
+    let r = written-matches f ns (separated-tail f h) (s .1) in
+    record { matched = rw (a, b) (rw (s .0 .not-empty) (r .matched)); found = rw (a, b) (ap (λ (ms : List (List ℕ)). n ∷ ms) (r .found)) }
+
+pub sheet-separated : separated sheetForm ≡ true
+sheet-separated = refl
+
+pub unit-separated : separated unitForm ≡ true
+unit-separated = refl
+
+pub rule-separated : separated ruleForm ≡ true
+rule-separated = refl

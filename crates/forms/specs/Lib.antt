@@ -1,0 +1,5 @@
+pub mod Words
+pub mod Form
+pub mod FormLaws
+pub mod Lines
+pub mod LinesLaws

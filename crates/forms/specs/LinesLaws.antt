@@ -1,0 +1,138 @@
+-- The laws of lines: joined they give the text back, and a text of some bytes is its first line and then the lines of what stands past it.
+-- Key idea: every definition of Lines goes byte by byte with the one test whether the byte is the line feed, so each law is an induction on the text
+-- with two cases.
+use Prim.Native.Nat.{ℕ, zero, suc, _+_, _-_, _≤_, _<_}
+use mathlib.Core.Path.{_≡_, refl, sym, ap, _∙_}
+use mathlib.Core.Bool.{Bool, true, false, not, cond}
+use mathlib.Core.List.{List, [], _∷_, map}
+use native.Mathlib.Omega.{arith}
+use lib.ListN.{length, getD, take, drop, length-drop, drop-of-length-le}
+use lib.Seq.{drop-cons, drop-drop}
+use lib.Dec.{eqb, ltb, leb·suc-suc}
+use borrow.Author.Tests.{eqb-true, lt-ltb, le-ltb, ltb-true, ltb-false}
+use Rattle.lists.specs.Lists.{joined, every}
+use Rattle.forms.specs.Words.{lineFeed}
+use Rattle.forms.specs.Lines.{TextLine, textLine, inFront, lines, spelt, firstLine, hasFeed, pastLine}
+
+-- ---- the lines joined give the text back, and no line holds a line feed
+
+joined-front : (b : ℕ) (ls : List TextLine) → joined (map spelt (inFront b ls)) ≡ b ∷ joined (map spelt ls)
+joined-front b [] = refl
+joined-front b (l ∷ ls) = refl
+
+pub lines-joined : (t : List ℕ) → joined (map spelt (lines t)) ≡ t
+unfolding lines
+lines-joined [] = refl
+lines-joined (b ∷ t) = go (eqb b lineFeed) refl (lines-joined t)
+  where
+    go : (e : Bool) → eqb b lineFeed ≡ e → joined (map spelt (lines t)) ≡ t
+        → joined (map spelt (cond e (textLine [] true ∷ lines t) (inFront b (lines t)))) ≡ b ∷ t
+    go true e h = ap (λ (m : List ℕ). lineFeed ∷ m) h ∙ ap (λ (c : ℕ). c ∷ t) (sym (eqb-true b lineFeed e))
+    go false e h = joined-front b (lines t) ∙ ap (λ (m : List ℕ). b ∷ m) h
+
+abbrev pub feedless : TextLine → Bool
+feedless l = every (λ b. not (eqb b lineFeed)) (l .bytes)
+
+feedless-front : (b : ℕ) (ls : List TextLine) → eqb b lineFeed ≡ false → every feedless ls ≡ true → every feedless (inFront b ls) ≡ true
+feedless-front b [] e h = simp e
+feedless-front b (l ∷ ls) e h = simp e h
+
+pub lines-feedless : (t : List ℕ) → every feedless (lines t) ≡ true
+unfolding lines
+lines-feedless [] = refl
+lines-feedless (b ∷ t) = go (eqb b lineFeed) refl (lines-feedless t)
+  where
+    go : (e : Bool) → eqb b lineFeed ≡ e → every feedless (lines t) ≡ true → every feedless (cond e (textLine [] true ∷ lines t) (inFront b (lines t))) ≡ true
+    go true e h = h
+    go false e h = feedless-front b (lines t) e h
+
+-- ---- the first line, and the rest
+
+lines-cons : (b : ℕ) (t : List ℕ) → lines (b ∷ t) ≡ textLine (firstLine (b ∷ t)) (hasFeed (b ∷ t)) ∷ lines (pastLine (b ∷ t))
+unfolding lines firstLine hasFeed pastLine
+lines-cons b [] = go (eqb b lineFeed)
+  where
+    go : (e : Bool) → cond e (textLine [] true ∷ []) (textLine (b ∷ []) false ∷ []) ≡ textLine (cond e [] (b ∷ [])) (cond e true false) ∷ lines (cond e [] [])
+    go true = refl
+    go false = refl
+lines-cons b (c ∷ t) = go (eqb b lineFeed) (lines-cons c t)
+  where
+    go : (e : Bool) → lines (c ∷ t) ≡ textLine (firstLine (c ∷ t)) (hasFeed (c ∷ t)) ∷ lines (pastLine (c ∷ t))
+        → cond e (textLine [] true ∷ lines (c ∷ t)) (inFront b (lines (c ∷ t)))
+        ≡ textLine (cond e [] (b ∷ firstLine (c ∷ t))) (cond e true (hasFeed (c ∷ t))) ∷ lines (cond e (c ∷ t) (pastLine (c ∷ t)))
+    go true h = refl
+    go false h = ap (inFront b) h
+
+first-short : (t : List ℕ) → length (firstLine t) ≤ length t
+unfolding firstLine
+first-short [] = omega arith
+first-short (b ∷ t) = go (eqb b lineFeed) (first-short t)
+  where
+    go : (e : Bool) → length (firstLine t) ≤ length t → length (cond e [] (b ∷ firstLine t)) ≤ suc (length t)
+    go true h = omega arith
+    go false h = omega arith
+
+take-first : (t : List ℕ) → take (length (firstLine t)) t ≡ firstLine t
+unfolding firstLine
+take-first [] = refl
+take-first (b ∷ t) = go (eqb b lineFeed) (take-first t)
+  where
+    go : (e : Bool) → take (length (firstLine t)) t ≡ firstLine t → take (length (cond e [] (b ∷ firstLine t))) (b ∷ t) ≡ cond e [] (b ∷ firstLine t)
+    go true h = refl
+    go false h = ap (λ (m : List ℕ). b ∷ m) h
+
+feed-test : (t : List ℕ) → ltb (length (firstLine t)) (length t) ≡ hasFeed t
+unfolding firstLine hasFeed
+feed-test [] = refl
+feed-test (b ∷ t) = go (eqb b lineFeed) (feed-test t)
+  where
+    go : (e : Bool) → ltb (length (firstLine t)) (length t) ≡ hasFeed t → ltb (length (cond e [] (b ∷ firstLine t))) (suc (length t)) ≡ cond e true (hasFeed t)
+    go true h = lt-ltb zero (suc (length t)) (omega arith)
+    go false h = leb·suc-suc (suc (length (firstLine t))) (length t) ∙ h
+
+drop-first : (t : List ℕ) → drop (suc (length (firstLine t))) t ≡ pastLine t
+unfolding firstLine pastLine
+drop-first [] = refl
+drop-first (b ∷ t) = go (eqb b lineFeed) (drop-first t)
+  where
+    go : (e : Bool) → drop (suc (length (firstLine t))) t ≡ pastLine t → drop (suc (length (cond e [] (b ∷ firstLine t)))) (b ∷ t) ≡ cond e t (pastLine t)
+    go true h = refl
+    go false h = h
+
+-- ---- at a place of a text
+
+-- where the line that starts at a place ends
+abbrev pub lineEnd : List ℕ → ℕ → ℕ
+lineEnd t at = at + length (firstLine (drop at t))
+
+module _ (t : List ℕ) (at : ℕ) where
+  pub end-within : at ≤ length t → lineEnd t at ≤ length t
+  end-within h = omega (arith, first-short (drop at t), length-drop at t)
+
+  pub line-part : (end : ℕ) → end ≡ lineEnd t at → take (end - at) (drop at t) ≡ firstLine (drop at t)
+  line-part end e =
+      let k : end - at ≡ length (firstLine (drop at t)) = omega arith in
+      ap (λ (n : ℕ). take n (drop at t)) k ∙ take-first (drop at t)
+
+  shift : (n : ℕ) → at ≤ length t → ltb (at + n) (length t) ≡ ltb n (length (drop at t))
+  shift n h = go (ltb n (length (drop at t))) refl
+    where
+      go : (b : Bool) → ltb n (length (drop at t)) ≡ b → ltb (at + n) (length t) ≡ b
+      go true e = lt-ltb (at + n) (length t) (omega (arith, ltb-true n (length (drop at t)) e, length-drop at t))
+      go false e = le-ltb (at + n) (length t) (omega (arith, ltb-false n (length (drop at t)) e, length-drop at t))
+
+  pub line-ended : (end : ℕ) → at ≤ length t → end ≡ lineEnd t at → ltb end (length t) ≡ hasFeed (drop at t)
+  line-ended end h e = ap (λ (n : ℕ). ltb n (length t)) e ∙ shift (length (firstLine (drop at t))) h ∙ feed-test (drop at t)
+
+  -- the lines from a place on: the one that starts there, and those past its end
+  pub lines-at : (next : ℕ) → at < length t → next ≡ lineEnd t at + 1 →
+      lines (drop at t) ≡ textLine (firstLine (drop at t)) (hasFeed (drop at t)) ∷ lines (drop next t)
+  lines-at next h e =
+      let k : at + suc (length (firstLine (drop at t))) ≡ next = omega arith in
+      let p : pastLine (drop at t) ≡ drop next t = sym (drop-first (drop at t)) ∙ drop-drop (suc (length (firstLine (drop at t)))) at t
+      ∙ ap (λ (n : ℕ). drop n t) k in
+      rw (← p) (rw (drop-cons t at 0 h) (lines-cons (getD t at 0) (drop (suc at) t)))
+
+  pub lines-none : length t ≤ at → lines (drop at t) ≡ []
+  unfolding lines
+  lines-none h = ap lines (drop-of-length-le t h)

@@ -1,0 +1,1 @@
+// The grammar of sheets and answers: definitions and laws only.

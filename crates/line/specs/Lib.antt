@@ -1,4 +1,0 @@
-pub mod Lines
-pub mod LinesLaws
-pub mod Content
-pub mod Line

@@ -1,0 +1,75 @@
+-- The least sum of the places before i is in hand; the first place is asked twice, which changes nothing.
+use Rattle.network_cuts.proofs.CarryLaws.{sum-fits, least-first, least-more}
+use Rattle.network_cuts.specs.Carry.{at, LeastSum}
+use Rattle.integers.specs.Parts.{minℤ}
+use mir.Facts.{toZ-ofZ}
+use mir.Val.{SFits, toZ}
+use mir.Syntax.{w16}
+use lib.IntN.{pos, _+ℤ_}
+use lib.ListN.{length, getD}
+use mathlib.Core.Path.{_≡_, refl, subst}
+use Prim.Native.Nat.{ℕ, _≤_, _-_}
+use native.Mathlib.Omega.{arith}
+use borrow.Author.Needs.{needs}
+use Rattle.network_cuts.proofs.least_sum.Statement.{statement}
+use Rattle.network_cuts.proofs.least_sum.Tie as tie
+
+abbrev Inv-loop : tie.InvT-loop
+Inv-loop xs ys r₀ i₀ i-end r i = (i ≤ length xs) × (i-end ≡ length xs) × LeastSum i xs ys (toZ w16 r)
+
+abbrev μ-loop : tie.MeasureT-loop
+μ-loop xs ys r₀ i₀ i-end r i = length xs - i
+
+add-r : tie.Need-add-r Inv-loop μ-loop
+add-r c =
+    let st = c .before .before in
+    let xs = st .args .xs .now in
+    let ys = st .args .ys .now in
+    let fx : SFits w16 (getD xs 0 (pos 0)) = search needs in
+    let fy : SFits w16 (getD ys 0 (pos 0)) = search needs in
+    rw (toZ-ofZ fx, toZ-ofZ fy) (sum-fits (at xs 0) (at ys 0) (st .pre .2 0 (omega arith)) (st .pre .3 0 (omega arith)))
+
+loop-holds : tie.Need-loop-holds Inv-loop μ-loop
+loop-holds c =
+    let st = c .before .before in
+    let xs = st .args .xs .now in
+    let ys = st .args .ys .now in
+    let fx : SFits w16 (getD xs 0 (pos 0)) = search needs in
+    let fy : SFits w16 (getD ys 0 (pos 0)) = search needs in
+    let fs = sum-fits (at xs 0) (at ys 0) (st .pre .2 0 (omega arith)) (st .pre .3 0 (omega arith)) in
+    (omega arith, refl, simp (toZ-ofZ fx, toZ-ofZ fy, toZ-ofZ fs) (least-first xs ys (st .pre .0)))
+
+add-lesser : tie.Need-add-lesser Inv-loop μ-loop
+add-lesser c =
+    let st = c .before .before .before .before .before .before in
+    let xs = st .args .xs .now in
+    let ys = st .args .ys .now in
+    let i = c .before .before .before .loop .i in
+    let fx : SFits w16 (getD xs i (pos 0)) = search needs in
+    let fy : SFits w16 (getD ys i (pos 0)) = search needs in
+    rw (toZ-ofZ fx, toZ-ofZ fy) (sum-fits (at xs i) (at ys i) (st .pre .2 i (omega arith)) (st .pre .3 i (omega arith)))
+
+loop-again : tie.Need-loop-again Inv-loop μ-loop
+loop-again c =
+    let st = c .before .before .before .before .before .before .before in
+    let l = c .before .before .before .before .loop in
+    let xs = st .args .xs .now in
+    let ys = st .args .ys .now in
+    let fx : SFits w16 (getD xs (l .i) (pos 0)) = search needs in
+    let fy : SFits w16 (getD ys (l .i) (pos 0)) = search needs in
+    let fs = sum-fits (at xs (l .i)) (at ys (l .i)) (st .pre .2 (l .i) (omega arith)) (st .pre .3 (l .i) (omega arith)) in
+    let fr : SFits w16 (c .lesser .result) = search needs in
+    let e : c .lesser .result ≡ minℤ (toZ w16 (l .r)) (at xs (l .i) +ℤ at ys (l .i)) = simp (toZ-ofZ fx, toZ-ofZ fy, toZ-ofZ fs) at (c .lesser .ensures) in
+    (omega arith, refl, simp (toZ-ofZ fr) (rw e (least-more (l .i) xs ys (toZ w16 (l .r)) (omega arith) (l .inv .2))))
+
+returns : tie.Need-returns Inv-loop μ-loop
+returns c =
+    let l = c .before .loop in
+    let xs = c .before .before .before .before .args .xs .now in
+    let ys = c .before .before .before .before .args .ys .now in
+    let e : l .i ≡ length xs = omega arith in
+    subst (λ (n : ℕ). LeastSum n xs ys (toZ w16 (l .r))) e (l .inv .2)
+
+pub least-sum-spec : {M : Type 1} → statement M
+least-sum-spec = tie.close (tie.spec Inv-loop μ-loop (λ c. omega arith) (λ c. omega arith) add-r loop-holds (λ c. omega arith) (λ c. omega arith)
+    (λ c. omega arith) (λ c. omega arith) add-lesser (λ c κs. tt) (λ c. omega arith) (λ c. omega arith) loop-again returns)

@@ -1,0 +1,49 @@
+-- The row of level k has the level, and the sum is one that the bound on the weights keeps in range.
+use native.Mathlib.Omega.{arith}
+use mathlib.Core.Path.{_≡_}
+use lib.IntN.{_+ℤ_}
+use mir.Syntax.{w16}
+use mir.Val.{SFits, toZ, ofZ}
+use mir.Facts.{toZ-ofZ}
+use borrow.Author.Needs.{needs}
+use Rattle.network.specs.Table.{entry}
+use Rattle.network.specs.TableLaws.{row-inside}
+use Rattle.network.specs.RowLaws.{range-fits}
+use Rattle.network_cycles.proofs.LevelSteps.{level-inside, left-is, left-in-range}
+use Rattle.network_cycles.proofs.left_by.Statement.{statement}
+use Rattle.network_cycles.proofs.left_by.Tie as tie
+
+entry-at-requires : tie.Need-entry-at-requires
+entry-at-requires c κs =
+    level-inside (c .args .w) (c .args .d .now) (c .args .levels .now) (c .pre .0) (c .args .k) (c .args .u) (omega arith) (c .pre .2)
+
+entry-at-requires-2 : tie.Need-entry-at-requires-2
+entry-at-requires-2 c κs =
+    let st = c .before in
+    omega (arith, row-inside (st .args .u) (st .args .w) (st .pre .2), st .pre .0 .weights .room)
+
+-- the two numbers that are added
+read : (c : tie.After-entry-at2)
+    → (toZ w16 (ofZ w16 (c .before .entry-at .result)) +ℤ toZ w16 (ofZ w16 (c .entry-at2 .result)))
+    ≡ entry (c .before .before .args .w) (c .before .before .args .levels .now) (c .before .before .args .k) (c .before .before .args .u)
+    +ℤ entry (c .before .before .args .w) (c .before .before .args .d .now) (c .before .before .args .u) (c .before .before .args .v)
+read c =
+    let f : SFits w16 (c .before .entry-at .result) = search needs in
+    let g : SFits w16 (c .entry-at2 .result) = search needs in
+    rw (toZ-ofZ f, toZ-ofZ g, c .before .entry-at .ensures, c .entry-at2 .ensures)
+
+add-result : tie.Need-add-result
+add-result c =
+    let st = c .before .before in
+    let pre = st .pre in
+    rw (read c) (range-fits _
+    (left-in-range (st .args .w) (st .args .d .now) (st .args .levels .now) (pre .0) (st .args .k) (st .args .u) (st .args .v) (pre .1) (pre .2) (pre .3)))
+
+returns : tie.Need-returns
+returns c =
+    let st = c .before .before in
+    rw (toZ-ofZ (add-result c), read c)
+    (left-is (st .args .w) (st .args .d .now) (st .args .levels .now) (st .pre .0) (st .args .k) (st .args .u) (st .args .v) (st .pre .1) (st .pre .2))
+
+pub left-by-spec : {M : Type 1} → statement M
+left-by-spec = tie.close (tie.spec entry-at-requires entry-at-requires-2 add-result returns)

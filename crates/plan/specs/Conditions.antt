@@ -1,0 +1,156 @@
+-- The user's three conditions, of planning from lists, in the words of lawful plans alone.
+-- `call` is what the entry `plan` ensures of every call: `Left`, in Planning.antt. `before` and `after` are the rooms lent, `s` the sheet in the lists.
+use mathlib.Core.Path.{_≡_, refl, sym, ap, _∙_, subst}
+use mathlib.Core.Logic.{⊎-elim, _↔_}
+use mathlib.Core.Bool.{Bool, false, cond}
+use mathlib.Core.List.{List, _++_, map}
+use Prim.Native.Nat.{ℕ, zero, suc, _+_, _*_, _≤_, _<_}
+use native.Mathlib.Omega.{arith}
+use lib.Dec.{T, eqb}
+use lib.ListN.{length, getD, take, drop, List·getD-append}
+use lib.Seq.{take-at}
+use lib.IntN.{ℤ, pos, negℤ}
+use lib.Signed.{_≤ℤ_}
+use Rattle.integers.specs.Parts.{ints, neg}
+use Rattle.network.specs.NetworkLaws.{cycle-infeasible}
+use Rattle.network.specs.Table.{entry, cleared}
+use Rattle.network.specs.TableLaws.{row-inside, values-at, length-values}
+use Rattle.sheet.specs.Sheet.{Sheet, top, boundaries, limit, isRing, lines, lawful, fair, countIn, leastIn}
+use Rattle.sheet.specs.Sheet.{earliest, latest, earliestSlots, latestSlots, printedPlan}
+use Rattle.sheet.specs.PotentialLaws.{lawful-feasible}
+use Rattle.sheet.specs.PlanLaws.{lawful-iff, earliest-bound, earliest-attained, latest-bound, latest-attained, greatestIn-bound}
+use Rattle.plan_seats.specs.PrintedLaws.{Printed, some-printed}
+use Rattle.plan_seats.specs.RangeLaws.{solved-plan, range, greatest-entry, least-entry}
+use Rattle.plan_ask.specs.Questions.{Lists, Rooms, given, lent, places, refusal}
+use Rattle.plan_solve.specs.Planning.{verdict, Left, numberOf}
+use Rattle.plan.specs.ConditionLaws.{Planned, Ringed, call-refused, call-answered, call-planned}
+use Rattle.plan_solve.specs.declared.Answer.{Answer}
+use Rattle.plan_solve.specs.declared.Answer.the-variants.{Plan, None}
+
+-- A ring contradicts: where the sheet's limits have one, no plan is lawful.
+pub ring-contradicts : (s : Sheet) (ring : List ℕ) → T (isRing s ring) → (x : List ℕ) → T (lawful s x) → ⊥
+unfolding isRing
+ring-contradicts s ring h x l = cycle-infeasible (limit s) (top s) (λ b. pos (countIn 1 b x)) (lawful-feasible s x l (top s)) ring h
+
+module _ (l : Lists) (before : Rooms) (reply : Answer) (after : Rooms) (call : Left (verdict l before) (given l) before reply after) where
+  abbrev pub s : Sheet
+  s = given l
+
+  -- ---- 1. Ground. (That a call ends and does nothing undefined is what the checker asks of every function; `plan` has no `requires`.)
+
+  -- The reply's number is the first question whose answer is no, in document 01's order; 0 for an answer.
+  pub number-is-first-no : numberOf reply ≡ refusal l before
+  number-is-first-no = go (refusal l before) refl
+    where
+      go : (n : ℕ) → refusal l before ≡ n → numberOf reply ≡ refusal l before
+      go zero e =
+          ⊎-elim (λ (p : Planned s before reply after). ap numberOf (p .is) ∙ sym e) (λ (r : Ringed s before reply after). ap numberOf (r .is) ∙ sym e)
+          (call-answered l before reply after call e)
+      go (suc k) e = ap numberOf (call-refused l before reply after call k e .0) ∙ sym e
+
+  -- A refusal changes no place lent, save the table by 14.
+  pub refused-changes-nothing : (k : ℕ) → refusal l before ≡ suc k → eqb (suc k) 14 ≡ false → after ≡ before
+  refused-changes-nothing k e f =
+      call-refused l before reply after call k e .1
+      ∙ ap (λ (t : List ℤ). lent t (before .plan) (before .earliest) (before .latest) (before .ring))
+      (ap (λ (b : Bool). cond b (cleared (places s) (before .table)) (before .table)) f)
+
+  -- ---- 2. Plan or ring. A sheet that is not refused gets a plan exactly when some assignment meets all windows and all rules;
+  pub plan-exactly-when-lawful : refusal l before ≡ 0 → (reply ≡ Plan) ↔ ((x : List ℕ) × T (lawful s x))
+  plan-exactly-when-lawful e = (
+    (λ f. let p = call-planned l before reply after call f in solved-plan s (entry (boundaries s) (p .table)) (p .solved)),
+    (λ x. ⊎-elim (λ (p : Planned s before reply after). p .is) (λ (r : Ringed s before reply after). absurd (r .unlawful (x .0) (x .1)))
+        (call-answered l before reply after call e)),
+  )
+
+  -- else it says none, and a ring of the sheet's own limits stands at the front of its room.
+  pub ring-otherwise : refusal l before ≡ 0 → ((x : List ℕ) → T (lawful s x) → ⊥)
+      → (ring : List ℕ) × T (isRing s ring) × (reply ≡ None (length ring)) × (take (length ring) (after .ring) ≡ ring)
+  ring-otherwise e f =
+      ⊎-elim (λ (p : Planned s before reply after). let x = solved-plan s (entry (boundaries s) (p .table)) (p .solved) in absurd (f (x .0) (x .1)))
+      (λ (r : Ringed s before reply after).
+      let k = length (r .ring) in
+      (r .ring, r .closed, r .is, ap (λ (a : Rooms). take k (a .ring)) (r .left) ∙ take-at (r .ring) (drop k (before .ring)) k refl))
+      (call-answered l before reply after call e)
+
+  module _ (planned? : reply ≡ Plan) where
+    P : Planned s before reply after
+    P = call-planned l before reply after call planned?
+
+    some : (x : List ℕ) × T (lawful s x)
+    some = solved-plan s (entry (boundaries s) (P .table)) (P .solved)
+
+    slot-at : (f : ℕ → ℕ) (rest : List ℕ) (j : ℕ) → j < length (s .units) → getD (map f (lines s) ++ rest) j 0 ≡ f j
+    slot-at f rest j h =
+        List·getD-append (map f (lines s)) rest 0 j (omega (arith, length-values f 0 (length (s .units))))
+        ∙ values-at f 0 (length (s .units)) j 0 h ∙ ap f (omega arith)
+
+    earliest-at : (j : ℕ) → j < length (s .units) → getD (after .earliest) j 0 ≡ earliest s j
+    unfolding earliestSlots
+    earliest-at j h = ap (λ (a : Rooms). getD (a .earliest) j 0) (P .left) ∙ slot-at (earliest s) (drop (length (s .units)) (before .earliest)) j h
+
+    latest-at : (j : ℕ) → j < length (s .units) → getD (after .latest) j 0 ≡ latest s j
+    unfolding latestSlots
+    latest-at j h = ap (λ (a : Rooms). getD (a .latest) j 0) (P .left) ∙ slot-at (latest s) (drop (length (s .units)) (before .latest)) j h
+
+    -- Each narrowed window runs from the earliest slot the unit has in any lawful plan
+    pub earliest-slot : (j : ℕ) → j < length (s .units)
+        → ((x : List ℕ) → T (lawful s x) → getD (after .earliest) j 0 ≤ getD x j 0)
+        × ((x : List ℕ) × T (lawful s x) × (getD (after .earliest) j 0 ≡ getD x j 0))
+    earliest-slot j h = (
+      (λ x k. omega (arith, earliest-at j h, earliest-bound s x k j)),
+      (let y = earliest-attained s (some .0) (some .1) j in (y .0, y .1, earliest-at j h ∙ y .2)),
+    )
+
+    -- to the latest.
+    pub latest-slot : (j : ℕ) → j < length (s .units)
+        → ((x : List ℕ) → T (lawful s x) → getD x j 0 ≤ getD (after .latest) j 0)
+        × ((x : List ℕ) × T (lawful s x) × (getD (after .latest) j 0 ≡ getD x j 0))
+    latest-slot j h = (
+      (λ x k. omega (arith, latest-at j h, latest-bound s x k j)),
+      (let y = latest-attained s (some .0) (some .1) j in (y .0, y .1, latest-at j h ∙ y .2)),
+    )
+
+    -- ---- 3. Counts. The greatest and the least of a stretch, read off the table as planning leaves it.
+    entry-at : (a b : ℕ) → a ≤ top s → b ≤ top s → entry (boundaries s) (after .table) a b ≡ entry (boundaries s) (P .table) a b
+    entry-at a b ha hb =
+        ap (λ (r : Rooms). entry (boundaries s) (r .table) a b) (P .left)
+        ∙ List·getD-append (P .table) (drop (places s) (before .table)) (pos 0) (a * boundaries s + b)
+        (omega (arith, P .size, row-inside a (boundaries s) (omega arith)))
+
+    -- For every stretch, a whole number is the count of some lawful plan exactly when it is from the least to the greatest.
+    pub counts : (a b : ℕ) → a < b → b ≤ top s → (k : ℕ)
+        → ((x : List ℕ) × T (lawful s x) × (countIn (suc a) b x ≡ k))
+        ↔ ((negℤ (entry (boundaries s) (after .table) b a) ≤ℤ pos k) × (pos k ≤ℤ entry (boundaries s) (after .table) a b))
+    counts a b h hb k =
+        let D = entry (boundaries s) (P .table) in
+        let r = range s D (P .solved) a b h hb k in
+        let g = greatest-entry s D (P .solved) a b h hb in
+        let m = least-entry s D (P .solved) a b h hb in
+        let eg = entry-at a b (omega arith) hb in
+        let em = entry-at b a hb (omega arith) in
+        let nl = neg (pos (leastIn s (suc a) b)) in
+        let ne = neg (entry (boundaries s) (after .table) b a) in (
+          (λ x. let q = r .0 x in (omega (ints, q .0, em, m, nl, ne), omega (ints, q .1, eg, g))),
+          (λ q. r .1 (omega (ints, q .0, em, m, nl, ne), omega (ints, q .1, eg, g))),
+        )
+
+    printed : Printed s (printedPlan s)
+    printed = some-printed s (entry (boundaries s) (P .table)) (P .solved)
+
+    plan-at : take (length (s .units)) (after .plan) ≡ printedPlan s
+    plan-at =
+        ap (λ (r : Rooms). take (length (s .units)) (r .plan)) (P .left)
+        ∙ take-at (printedPlan s) (drop (length (s .units)) (before .plan)) (length (s .units)) (lawful-iff s (printedPlan s) .0 (printed .legal) .seated .size)
+
+    -- The printed plan is lawful and has the seat property,
+    pub plan-lawful : T (lawful s (take (length (s .units)) (after .plan)))
+    plan-lawful = subst (λ (x : List ℕ). T (lawful s x)) (sym plan-at) (printed .legal)
+
+    pub plan-fair : T (fair s (take (length (s .units)) (after .plan)))
+    plan-fair = subst (λ (x : List ℕ). T (fair s x)) (sym plan-at) (printed .order)
+
+    -- and by the end of each slot no lawful plan has more deliveries.
+    pub plan-soonest : (x : List ℕ) → T (lawful s x) → (b : ℕ) → 1 ≤ b → b ≤ top s → countIn 1 b x ≤ countIn 1 b (take (length (s .units)) (after .plan))
+    plan-soonest x k b h hb =
+        omega (arith, greatestIn-bound s x k 1 b, printed .early b h hb, ap (countIn 1 b) plan-at)

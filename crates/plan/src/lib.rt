@@ -1,0 +1,51 @@
+ghost use Rattle.plan_ask.specs.Questions.{listed, lent, given};
+ghost use Rattle.plan_solve.specs.Planning.{verdict, Left};
+
+// Plans from lists. The questions come first; then the sheet gets a plan, or none and a ring.
+pub fn plan(
+    span: usize,
+    first: &[u16],
+    last: &[u16],
+    from: &[u16],
+    to: &[u16],
+    low: &[u16],
+    high: &[u16],
+    table: &mut [i16],
+    plan: &mut [u16],
+    earliest: &mut [u16],
+    latest: &mut [u16],
+    ring: &mut [u16],
+) -> plan_solve::Answer
+    ensures { λ r.
+        let l = listed span (now (first .entry)) (now (last .entry)) (now (from .entry)) (now (to .entry)) (now (low .entry)) (now (high .entry)) in
+        let before = lent (now (table .entry)) (now (plan .entry)) (now (earliest .entry)) (now (latest .entry)) (now (ring .entry)) in
+        ⌜ Left (verdict l before) (given l) before r
+        (lent (now (table .exit)) (now (plan .exit)) (now (earliest .exit)) (now (latest .exit)) (now (ring .exit))) ⌝ }
+{
+    let rooms = plan_ask::Lengths {
+        table: table.len(),
+        plan: plan.len(),
+        earliest: earliest.len(),
+        latest: latest.len(),
+        ring: ring.len(),
+    };
+    let no = plan_ask::ask(span, first, last, from, to, low, high, rooms);
+    if no == 0 {
+        plan_solve::solve(
+            span,
+            first,
+            last,
+            from,
+            to,
+            low,
+            high,
+            table,
+            plan,
+            earliest,
+            latest,
+            ring,
+        )
+    } else {
+        plan_solve::Answer::Refused(no)
+    }
+}

@@ -1,0 +1,54 @@
+-- The units in order, a room of zeros, and then slot after slot.
+use mathlib.Core.Path.{_≡_, ap, _∙_}
+use mathlib.Core.List.{List}
+use Prim.Native.Nat.{ℕ}
+use native.Mathlib.Omega.{arith}
+use lib.ListN.{length, replicate}
+use Rattle.plan_seats.specs.Seating.{at}
+use Rattle.plan_seats.specs.OrderLaws.{byRank-inOrder}
+use Rattle.plan_seats.specs.Row.{countAt, topOf, inOrder}
+use Rattle.plan_seats.proofs.SlotLaws.{slots-from}
+use borrow.Author.Needs.{needs}
+use Rattle.plan_seats.proofs.seat_in_order.Statement.{statement}
+use Rattle.plan_seats.proofs.seat_in_order.Tie as tie
+
+order-units-requires : tie.Need-order-units-requires
+order-units-requires c κs =
+    let p = c .before .before .before .before .before .pre in
+    (omega (arith, p .0 .units, p .0 .lists), λ j h. omega (arith, p .0 .closes j h), omega (arith, p .0 .lists, p .1 .0))
+
+seat-slots-requires : tie.Need-seat-slots-requires
+seat-slots-requires c κs =
+    let st = c .before .before .before .before .before .before .before .before .before .before .before .before .before .before in
+    let p = st .pre in
+    let cleared = c .before .before .before .before .clear in
+    let ordered = c .before .before .before .before .before .before .before .before .order-units in
+    let last = st .args .last .now in
+    let plan : length (cleared .last .0) ≡ length (st .args .plan .now) = cleared .kept .0 in
+    let units = byRank-inOrder (at last) (length last) (st .args .order .now) (omega (arith, p .0 .lists, p .1 .0)) .units in
+    let size : length (ordered .last .1 .0) ≡ length (st .args .order .now) = ordered .kept .1 .0 in (
+      (
+        omega (arith, plan, p .1 .1),
+        λ j h.
+            let same = ap (λ (xs : List ℕ). at xs j) (ordered .ensures) in
+            omega (arith, units j (omega (arith, h, size, p .0 .lists, p .1 .0)), same, plan, p .1 .1, p .0 .lists),
+      ),
+      (p .0 .slots .0, p .0 .slots .1, p .0 .rising),
+    )
+
+returns : tie.Need-returns
+returns c =
+    let st = c .before .before .before .before .before .before .before .before .before .before .before .before .before .before .before .before .before in
+    let ordered = c .before .before .before .before .before .before .before .before .before .before .before .order-units in
+    let cleared = c .before .before .before .before .before .before .before .clear in
+    let first = st .args .first .now in
+    let counts = st .args .counts .now in (
+      ordered .ensures,
+      slots-from (at first) (countAt counts) (ordered .last .1 .0) (topOf counts) (inOrder (st .args .last .now) (st .args .order .now)) (cleared .last .0)
+          (replicate (length first) 0) (c .before .before .seat-slots .last .1 .1 .1 .0) (ordered .ensures)
+          (cleared .ensures ∙ ap (λ (k : ℕ). replicate k 0) (st .pre .1 .1)) (c .before .before .seat-slots .ensures),
+    )
+
+pub seat-in-order-spec : {M : Type 1} → statement M
+seat-in-order-spec = tie.close (tie.spec order-units-requires (λ c κs. search needs) seat-slots-requires (λ c. search needs) (λ c. search needs)
+    returns)

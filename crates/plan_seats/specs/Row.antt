@@ -1,0 +1,58 @@
+-- The lists that seating takes, as the sheet and the finished table that they come from. Definitions only.
+use mathlib.Core.Path.{_≡_}
+use mathlib.Core.List.{List}
+use Prim.Native.Nat.{ℕ, suc, _-_, _≤_, _<_}
+use lib.ListN.{length, getD, replicate}
+use lib.IntN.{ℤ, pos}
+use lib.Signed.{_≤ℤ_}
+use Rattle.integers.specs.Parts.{up}
+use Rattle.network.specs.Network.{Weights}
+use Rattle.sheet.specs.Sizes.{maxSlots, maxUnits}
+use Rattle.sheet.specs.Sheet.{Sheet, top}
+use Rattle.sheet.specs.Questions.{windowsOf}
+use Rattle.sheet.specs.Solved.{Solved}
+use Rattle.plan_seats.specs.Seating.{at, byRank, seatSlots}
+
+-- the number of seats by the end of slot b
+abbrev pub countAt : List ℤ → ℕ → ℕ
+countAt counts b = up (getD counts b (pos 0))
+
+-- the counts rise from at least 0, boundary after boundary
+abbrev pub Rising : List ℤ → Type 0
+Rising counts = (b : ℕ) → suc b < length counts → (pos 0 ≤ℤ getD counts b (pos 0)) × (getD counts b (pos 0) ≤ℤ getD counts (suc b) (pos 0))
+
+-- lists that seating can take, and a room that is long enough
+pub record Seatable (first last : List ℕ) (counts : List ℤ) (plan : List ℕ) : Type 0 where
+  pub lists : length last ≡ length first
+  pub units : length first ≤ maxUnits
+  pub room : length first ≤ length plan
+  pub slots : (1 ≤ length counts) × (length counts ≤ suc maxSlots)
+  pub closes : (j : ℕ) → j < length last → at last j ≤ maxSlots
+  pub rising : Rising counts
+
+-- the units in the order in which they are seated, in a list that has a place for each
+abbrev pub inOrder : List ℕ → List ℕ → List ℕ
+inOrder last order = byRank (at last) (length last) (length last) order
+
+-- the last slot
+abbrev pub topOf : List ℤ → ℕ
+topOf counts = length counts - 1
+
+-- all slots take their units in order, in a plan where some may have seats already
+abbrev pub seatsInto : List ℕ → List ℤ → List ℕ → List ℕ → List ℕ
+seatsInto first counts order plan = seatSlots (at first) (countAt counts) order 0 (topOf counts) plan
+
+-- and in a plan where all are free
+abbrev pub seatsBy : List ℕ → List ℤ → List ℕ → List ℕ
+seatsBy first counts order = seatsInto first counts order (replicate (length first) 0)
+
+-- the whole plan
+unfoldable pub seatsFrom : List ℕ → List ℕ → List ℤ → List ℕ
+seatsFrom first last counts = seatsBy first counts (inOrder last (replicate (length first) 0))
+
+-- the lists are the units of s, and row 0 of its finished table D
+pub record RowOf (s : Sheet) (D : Weights) (first last : List ℕ) (counts : List ℤ) : Type 0 where
+  pub solved : Solved s D
+  pub units : s .units ≡ windowsOf first last
+  pub slots : length counts ≡ suc (top s)
+  pub row : (b : ℕ) → b ≤ top s → getD counts b (pos 0) ≡ D 0 b

@@ -1,0 +1,62 @@
+-- Lists that are a sheet's units and row 0 of its finished table can be seated, and what is seated from them is the printed plan.
+use mathlib.Core.Path.{_≡_, sym, ap, _∙_}
+use mathlib.Core.List.{List}
+use Prim.Native.Nat.{ℕ, suc, _-_, _≤_, _<_}
+use native.Mathlib.Omega.{arith}
+use lib.ListN.{length, getD, replicate}
+use lib.IntN.{ℤ, pos}
+use Rattle.integers.specs.Parts.{up, ints, sum, neg}
+use Rattle.network.specs.Network.{Weights}
+use Rattle.network.specs.ClosureLaws.{row-feasible}
+use Rattle.sheet.specs.Sizes.{maxSlots, maxUnits}
+use Rattle.sheet.specs.Sheet.{Sheet, Window, top, noWindow, atLeast, limit, printedPlan}
+use Rattle.sheet.specs.LimitLaws.{limit-back}
+use Rattle.sheet.specs.QuestionLaws.{windowsOf-length, windowsOf-at}
+use Rattle.plan_seats.specs.Seating.{at, byRank, seatSlots, seatsOf}
+use Rattle.plan_seats.specs.PrintedLaws.{row-nonneg, seats-are-printed}
+use Rattle.plan_seats.specs.Row.{countAt, seatsFrom, Seatable, RowOf}
+
+module _ (s : Sheet) (D : Weights) (first last : List ℕ) (counts : List ℤ) (R : RowOf s D first last counts) (lists : length last ≡ length first) where
+  size : length (s .units) ≡ length first
+  size = ap length (R .units) ∙ windowsOf-length first last lists
+
+  window : (j : ℕ) → j < length (s .units) → getD (s .units) j noWindow ≡ record { first = at first j; last = at last j }
+  window j h = ap (λ (ws : List Window). getD ws j noWindow) (R .units) ∙ windowsOf-at first last lists j (omega (arith, size))
+
+  pub row-printed : seatsFrom first last counts ≡ printedPlan s
+  unfolding seatsFrom seatsOf
+  row-printed =
+      let n = length (s .units) in
+      let plan : ℕ → ℕ → ℕ → List ℕ =
+      (λ k m t. seatSlots (at first) (countAt counts) (byRank (at last) m m (replicate k 0)) 0 t (replicate k 0)) in
+      let units : length last ≡ n = omega (arith, size) in
+      let slots : length counts - 1 ≡ top s = omega (arith, R .slots) in
+      ap (λ (k : ℕ). plan k (length last) (length counts - 1)) (sym size) ∙ ap (λ (m : ℕ). plan n m (length counts - 1)) units
+      ∙ ap (λ (t : ℕ). plan n n t) slots
+      ∙ seats-are-printed s D (R .solved) (at first) (at last) (countAt counts) (λ j h. sym (ap (λ (w : Window). w .first) (window j h)))
+      (λ j h. sym (ap (λ (w : Window). w .last) (window j h))) (λ b hb. ap up (R .row b hb))
+
+  -- row 0 rises from 0
+  pub row-seatable : (plan : List ℕ) → length first ≤ maxUnits → top s ≤ maxSlots → length first ≤ length plan → Seatable first last counts plan
+  row-seatable plan few short room = record {
+    lists = lists;
+    units = few;
+    room = room;
+    slots = (omega (arith, R .slots), omega (arith, R .slots));
+    closes = λ j h.
+        let hj : j < length (s .units) = omega (arith, size) in
+        omega (arith, R .solved .valid .windows j hj, ap (λ (w : Window). w .last) (window j hj));
+    rising = λ b h.
+        let hb : suc b ≤ top s = omega (arith, R .slots) in
+        let low = R .row b (omega arith) in
+        let high = R .row (suc b) hb in (
+          omega (ints, row-nonneg s D (R .solved) b (omega arith)),
+          omega (
+            ints,
+            row-feasible (top s) (limit s) D (R .solved .finished) 0 (omega arith) (suc b) b hb (omega arith),
+            sum (D 0 (suc b)) (limit s (suc b) b),
+            limit-back s (suc b) b (omega arith),
+            neg (pos (atLeast s (suc b) (suc b))),
+          ),
+        );
+  }

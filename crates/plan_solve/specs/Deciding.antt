@@ -1,0 +1,29 @@
+-- The table that the pass leaves in the room lent for it. Definitions only.
+use mathlib.Core.Path.{_≡_}
+use mathlib.Core.List.{List, _++_}
+use Prim.Native.Nat.{ℕ}
+use lib.Dec.{T}
+use lib.ListN.{length, drop}
+use lib.IntN.{ℤ}
+use Rattle.network.specs.Table.{Passed, finished, stopped, outOfRange, outcomeOf, cleared}
+use Rattle.network.specs.declared.Outcome.{Outcome}
+use Rattle.sheet.specs.Sheet.{Sheet, isRing}
+use Rattle.plan_ask.specs.Questions.{places, passed}
+
+abbrev pub tableLeft : Sheet → Passed → List ℤ → List ℤ
+tableLeft s (finished t) room = t ++ drop (places s) room
+tableLeft s stopped room = cleared (places s) room
+tableLeft s outOfRange room = cleared (places s) room
+
+-- the pass over the limits of s, in a room lent
+pub record Decided (s : Sheet) (before : List ℤ) (r : Outcome) (after : List ℤ) : Type 0 where
+  pub outcome : r ≡ outcomeOf (passed s)
+  pub table : after ≡ tableLeft s (passed s) before
+
+-- a ring at the front of its room, and the table's places 0
+pub record RingFound (s : Sheet) (table : List ℤ) (room : List ℕ) (r : ℕ) (tableAfter : List ℤ) (roomAfter : List ℕ) : Type 0 where
+  pub ring : List ℕ
+  pub closed : T (isRing s ring)
+  pub size : r ≡ length ring
+  pub front : roomAfter ≡ ring ++ drop (length ring) room
+  pub zeros : tableAfter ≡ cleared (places s) table

@@ -1,0 +1,57 @@
+-- The pass over the limits in a longer room is the pass over the table of the limits, with the room's other places behind it.
+use mathlib.Core.Path.{_≡_, refl, sym, ap, _∙_, subst}
+use mathlib.Core.List.{List, _++_}
+use Prim.Native.Nat.{ℕ, _+_, _*_, _≤_}
+use native.Mathlib.Omega.{arith}
+use lib.ListN.{length, drop, replicate}
+use lib.Seq.{drop-at}
+use lib.IntN.{ℤ, pos}
+use Rattle.network.specs.Table.{maxBoundaries, Passed, finished, stopped, outOfRange, tableOf, passOf, outcomeOf, cleared, tableAfter, After}
+use Rattle.network.specs.TableLaws.{length-tableOf}
+use Rattle.network.specs.PassFront.{withRest, pass-front}
+use Rattle.network.specs.declared.Outcome.{Outcome}
+use Rattle.sheet.specs.Sheet.{Sheet, limit, boundaries}
+use Rattle.limits.specs.LimitTable.{limitTable, Fillable}
+use Rattle.limits.specs.LimitTableLaws.{accepted-span, length-limitTable}
+use Rattle.plan_ask.specs.Questions.{places, passed}
+use Rattle.plan_solve.specs.Deciding.{tableLeft, Decided}
+
+-- ---- the table, filled with the limits
+pub fillable-few : (span : ℕ) (first last from to low high : List ℕ) (room : ℕ) → Fillable span first last from to low high room → span + 1 ≤ maxBoundaries
+fillable-few span first last from to low high room f = omega (arith, accepted-span span first last from to low high (f .ok) (f .agree))
+
+pub filled-room : (s : Sheet) (room filled : List ℤ) (w : ℕ) → boundaries s ≡ w → places s ≤ length room → filled ≡ limitTable s room → w * w ≤ length filled
+filled-room s room filled w e fits is = omega (arith, ap (λ (n : ℕ). n * n) e, ap length is, length-limitTable s room fits)
+
+-- ---- the pass over it
+outcome-front : (r : List ℤ) (p : Passed) → outcomeOf (withRest r p) ≡ outcomeOf p
+outcome-front r (finished t) = refl
+outcome-front r stopped = refl
+outcome-front r outOfRange = refl
+
+pub cleared-limits : (s : Sheet) (room : List ℤ) → cleared (places s) (limitTable s room) ≡ cleared (places s) room
+cleared-limits s room =
+    ap (λ (r : List ℤ). replicate (places s) (pos 0) ++ r)
+    (drop-at (tableOf (boundaries s) (limit s)) (drop (places s) room) (places s) (length-tableOf (boundaries s) (limit s)))
+
+table-front : (s : Sheet) (room : List ℤ) (p : Passed) → tableAfter (boundaries s) (limitTable s room) (withRest (drop (places s) room) p) ≡ tableLeft s p room
+table-front s room (finished t) = refl
+table-front s room stopped = cleared-limits s room
+table-front s room outOfRange = cleared-limits s room
+
+decided-here : (s : Sheet) (room : List ℤ) (r : Outcome) (after : List ℤ)
+    → After (boundaries s) (limitTable s room) (passOf (boundaries s) (limitTable s room)) r after → Decided s room r after
+unfolding passed
+decided-here s room r after h =
+    let e = pass-front (boundaries s) (tableOf (boundaries s) (limit s)) (drop (places s) room) (length-tableOf (boundaries s) (limit s)) in
+    record {
+      outcome = h .outcome ∙ ap outcomeOf e ∙ outcome-front (drop (places s) room) (passed s);
+      table = h .table ∙ ap (tableAfter (boundaries s) (limitTable s room)) e ∙ table-front s room (passed s);
+    }
+
+pub decided : (s : Sheet) (room filled : List ℤ) (r : Outcome) (after : List ℤ) (w : ℕ) → boundaries s ≡ w → filled ≡ limitTable s room
+    → After w filled (passOf w filled) r after → Decided s room r after
+decided s room filled r after w e f h =
+    decided-here s room r after
+    (subst (λ (n : ℕ). After n (limitTable s room) (passOf n (limitTable s room)) r after) (sym e)
+    (subst (λ (t : List ℤ). After w t (passOf w t) r after) f h))

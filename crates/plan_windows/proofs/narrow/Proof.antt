@@ -1,0 +1,91 @@
+-- A unit's earliest slot is its least cut, and its latest the greatest; both are of the closed network that the pass left.
+use mathlib.Core.Path.{_≡_}
+use mathlib.Core.List.{List}
+use Prim.Native.Nat.{_*_, _≤_}
+use native.Mathlib.Omega.{arith}
+use borrow.Author.Needs.{needs}
+use lib.ListN.{length, drop, replicate}
+use lib.IntN.{ℤ, pos}
+use Rattle.network_cuts.specs.Carry.{Network}
+use Rattle.plan_windows.specs.Windows.{Admitted, AdmittedLate}
+use Rattle.plan_windows.proofs.MarkLaws.{square-most}
+use Rattle.plan_windows.proofs.NarrowLaws.{windows-fit, units-of, network-of, admitted-of, admitted-late-of, earliest-room, latest-room}
+use Rattle.plan_windows.proofs.narrow.Statement.{statement}
+use Rattle.plan_windows.proofs.narrow.Tie as tie
+
+-- ---- the network of the sheet that the caller has, with the arcs
+abbrev start : tie.After-cut-arcs → tie.Start
+start c = c .before .before .before .before .before .before .before
+
+abbrev added : tie.After-cut-arcs → List ℤ
+added c = c .cut-arcs .last .1 .1 .1 .0
+
+abbrev zeros : tie.After-cut-arcs → List ℤ
+zeros c = let w = start c .args .w in drop (w * w) (replicate 2401 (pos 0))
+
+long : (c : tie.After-cut-arcs) → let w = start c .args .w in w * w ≤ length (added c)
+long c =
+    let st = start c in
+    let n : length (added c) ≡ 2401 = c .cut-arcs .kept .1 .1 .1 .0 in
+    omega (arith, square-most (st .args .w) (st .pre .0 .1 .most))
+
+network : (c : tie.After-cut-arcs) → let a = start c .args in Network (a .w) (a .table .now) (added c)
+network c =
+    let st = start c in
+    let a = st .args in
+    network-of (st .pre .0 .0) (a .first .now) (a .last .now) (a .plan .now) (a .table .now) (a .w) (st .pre .0 .1) (added c) (zeros c) (long c)
+    (c .cut-arcs .ensures)
+
+early : (c : tie.After-cut-arcs) → let a = start c .args in Admitted (a .w) (a .table .now) (added c) (a .first .now) (a .last .now) (a .plan .now)
+early c =
+    let st = start c in
+    let a = st .args in
+    admitted-of (st .pre .0 .0) (a .first .now) (a .last .now) (a .plan .now) (a .table .now) (a .w) (st .pre .0 .1) (added c) (zeros c) (long c)
+    (c .cut-arcs .ensures)
+
+late : (c : tie.After-cut-arcs) → let a = start c .args in AdmittedLate (a .w) (a .table .now) (added c) (a .first .now) (a .last .now) (a .plan .now)
+late c =
+    let st = start c in
+    let a = st .args in
+    admitted-late-of (st .pre .0 .0) (a .first .now) (a .last .now) (a .plan .now) (a .table .now) (a .w) (st .pre .0 .1) (added c) (zeros c) (long c)
+    (c .cut-arcs .ensures)
+
+cut-arcs-requires : tie.Need-cut-arcs-requires
+cut-arcs-requires c κs =
+    let st = c .before .before .before .before .before .before in
+    let a = st .args in
+    let h = st .pre .0 .1 in
+    (windows-fit (st .pre .0 .0) (a .first .now) (a .last .now) (a .plan .now) (a .table .now) (a .w) h, h .most, square-most (a .w) (h .most))
+
+least-cuts-requires : tie.Need-least-cuts-requires
+least-cuts-requires c κs =
+    let r = c .before .before .before in
+    let st = start r in
+    let a = st .args in
+    ((network r, units-of (st .pre .0 .0) (a .first .now) (a .last .now) (a .plan .now) (a .table .now) (a .w) (st .pre .0 .1), st .pre .1 .0), early r)
+
+greatest-cuts-requires : tie.Need-greatest-cuts-requires
+greatest-cuts-requires c κs =
+    let r = c .before .before .before .before .before .before .before .before in
+    let st = start r in
+    let a = st .args in (
+      (network r, units-of (st .pre .0 .0) (a .first .now) (a .last .now) (a .plan .now) (a .table .now) (a .w) (st .pre .0 .1), st .pre .1 .1),
+      (st .pre .0 .1 .few, late r),
+    )
+
+returns : tie.Need-returns
+returns c =
+    let r = c .before .before .before .before .before .before .before .before .before .before .before in
+    let st = start r in
+    let a = st .args in
+    let e = c .before .before .before .before .before .before .before .least-cuts in
+    let l = c .before .before .greatest-cuts in (
+      λ s h. earliest-room s (a .first .now) (a .last .now) (a .plan .now) (a .table .now) (a .w) h (added r) (zeros r) (long r) (r .cut-arcs .ensures)
+          (a .earliest .now) (e .last .1 .1 .1 .1 .1 .1 .0) (st .pre .1 .0) (e .ensures),
+      λ s h. latest-room s (a .first .now) (a .last .now) (a .plan .now) (a .table .now) (a .w) h (added r) (zeros r) (long r) (r .cut-arcs .ensures)
+          (a .latest .now) (l .last .1 .1 .1 .1 .1 .1 .0) (st .pre .1 .1) (l .ensures),
+    )
+
+pub narrow-spec : {M : Type 1} → statement M
+narrow-spec = tie.close (tie.spec (λ c. search needs) cut-arcs-requires (λ c. search needs) least-cuts-requires (λ c. search needs)
+    greatest-cuts-requires (λ c. search needs) (λ c. search needs) returns)

@@ -1,0 +1,174 @@
+-- From planning in arrays of the call's own to what the call leaves.
+-- Key idea: the own arrays say how the pass over the sheet's limits ended, and that alone decides what planning would reply and leave in the rooms lent.
+use mathlib.Core.Path.{_≡_, refl, sym, ap, _∙_, subst}
+use mathlib.Core.Bool.{Bool, true, false}
+use mathlib.Core.List.{List, []}
+use Prim.Native.Nat.{ℕ, _+_, _*_, _≤_}
+use native.Mathlib.Omega.{arith}
+use lib.Dec.{T}
+use lib.ListN.{length, take, drop}
+use lib.Seq.{take-at}
+use lib.IntN.{ℤ}
+use Rattle.network.specs.Table.{Passed, finished, stopped, outOfRange, cleared, entry}
+use Rattle.sheet.specs.Sheet.{Sheet, printedPlan, earliestSlots, latestSlots, isRing}
+use Rattle.limits.specs.LimitTable.{limitTable}
+use Rattle.sheet.specs.Questions.{accepted}
+use Rattle.plan.specs.EntryLaws.{lengthsOf, entry-refused, entry-solved}
+use Rattle.plan_ask.specs.Asking.{askedNo}
+use Rattle.plan_ask.specs.Questions.{Lists, Rooms, given, lent, places, passed}
+use Rattle.plan_solve.specs.Planning.{planned, ringed, refused, byPass, Left}
+use Rattle.plan_solve.specs.declared.Answer.{Answer}
+use Rattle.plan_solve.specs.declared.Answer.the-variants as planning
+use Rattle.print_page.specs.Page.{tablePage, nonePage}
+use Rattle.print_answer.specs.Printing.{ringBytes, onFront, holds, Asked, PrintingOf, Printing}
+use Rattle.print.specs.AnswerLaws.{boundaries-span, table-size, seats-size, firsts-size, lasts-size, plan-bytes, ring-bytes}
+use Rattle.print_answer.specs.declared.Printed.{Printed}
+use Rattle.print_answer.specs.declared.Printed.the-variants.{Refused, Plan, None}
+
+-- ---- how the pass ended, from what planning replied
+abbrev tag : Answer → ℕ
+tag (planning.Refused n) = 0
+tag planning.Plan = 1
+tag (planning.None k) = 2
+
+abbrev number : Answer → ℕ
+number (planning.Refused n) = n
+number planning.Plan = 0
+number (planning.None k) = k
+
+module _ (s : Sheet) (own after : Rooms) where
+  pub refused-left : (n : ℕ) → Left (byPass (passed s)) s own (planning.Refused n) after → (n ≡ 14) × (passed s ≡ outOfRange)
+  refused-left n = go (passed s)
+    where
+      go : (p : Passed) → Left (byPass p) s own (planning.Refused n) after → (n ≡ 14) × (p ≡ outOfRange)
+      go (finished t) h = absurd (omega (arith, ap tag (h .0)))
+      go stopped h = absurd (omega (arith, ap tag (h .2)))
+      go outOfRange h = (ap number (h .0), refl)
+
+  pub plan-left : Left (byPass (passed s)) s own planning.Plan after → (t : List ℤ) × (passed s ≡ finished t) × (after ≡ planned s t own)
+  plan-left = go (passed s)
+    where
+      go : (p : Passed) → Left (byPass p) s own planning.Plan after → (t : List ℤ) × (p ≡ finished t) × (after ≡ planned s t own)
+      go (finished t) h = (t, refl, h .1)
+      go stopped h = absurd (omega (arith, ap tag (h .2)))
+      go outOfRange h = absurd (omega (arith, ap tag (h .0)))
+
+  pub none-left : (k : ℕ) → Left (byPass (passed s)) s own (planning.None k) after
+      → (c : List ℕ) × T (isRing s c) × (k ≡ length c) × (passed s ≡ stopped) × (after ≡ ringed s c own)
+  none-left k = go (passed s)
+    where
+      go : (p : Passed) → Left (byPass p) s own (planning.None k) after
+          → (c : List ℕ) × T (isRing s c) × (k ≡ length c) × (p ≡ stopped) × (after ≡ ringed s c own)
+      go (finished t) h = absurd (omega (arith, ap tag (h .0)))
+      go stopped h = (h .0, h .1, ap number (h .2), refl, h .3)
+      go outOfRange h = absurd (omega (arith, ap tag (h .0)))
+
+-- ---- rooms that a part of the call does not see
+with-ring : (b : Bool) (says : ℕ → Printed) (bytes : List ℕ) (t t₁ t₂ : List ℤ) (p p₁ p₂ e e₁ e₂ l l₁ l₂ ring page : List ℕ) (at : ℕ)
+    (reply : Printed) (left : List ℕ)
+    → Asked b says bytes (lent t p e l []) (lent t₁ p₁ e₁ l₁ []) page at reply (lent t₂ p₂ e₂ l₂ []) left
+    → Asked b says bytes (lent t p e l ring) (lent t₁ p₁ e₁ l₁ ring) page at reply (lent t₂ p₂ e₂ l₂ ring) left
+with-ring true says bytes t t₁ t₂ p p₁ p₂ e e₁ e₂ l l₁ l₂ ring page at reply left o =
+    record { replied = o .replied; lent = ap (λ r. lent (r .table) (r .plan) (r .earliest) (r .latest) ring) (o .lent); shown = o .shown }
+with-ring false says bytes t t₁ t₂ p p₁ p₂ e e₁ e₂ l l₁ l₂ ring page at reply left o =
+    record { replied = o .replied; lent = ap (λ r. lent (r .table) (r .plan) (r .earliest) (r .latest) ring) (o .lent); shown = o .shown }
+
+with-plan : (b : Bool) (says : ℕ → Printed) (bytes : List ℕ) (t t₁ t₂ : List ℤ) (p e l r r₁ r₂ page : List ℕ) (at : ℕ) (reply : Printed) (left : List ℕ)
+    → Asked b says bytes (lent t [] [] [] r) (lent t₁ [] [] [] r₁) page at reply (lent t₂ [] [] [] r₂) left
+    → Asked b says bytes (lent t p e l r) (lent t₁ p e l r₁) page at reply (lent t₂ p e l r₂) left
+with-plan true says bytes t t₁ t₂ p e l r r₁ r₂ page at reply left o =
+    record { replied = o .replied; lent = ap (λ q. lent (q .table) p e l (q .ring)) (o .lent); shown = o .shown }
+with-plan false says bytes t t₁ t₂ p e l r r₁ r₂ page at reply left o =
+    record { replied = o .replied; lent = ap (λ q. lent (q .table) p e l (q .ring)) (o .lent); shown = o .shown }
+
+-- ---- what the call leaves
+module _ (s : Sheet) (ok : T (accepted s)) (table : List ℤ) (plan earliest latest ring page : List ℕ) (at : ℕ) where
+  abbrev before : Rooms
+  before = lent table plan earliest latest ring
+
+  -- a sum out of range: 14
+  pub range-printed : (n : ℕ) (table′ : List ℤ) (w : ℕ) → w ≡ s .span + 1 → (n ≡ 14) × (passed s ≡ outOfRange) → table′ ≡ cleared (w * w) table
+      → PrintingOf (byPass (passed s)) s before page at (Refused n) (lent table′ plan earliest latest ring) page
+  range-printed n table′ w e h c = record {
+    answer = planning.Refused 14;
+    planned = refused s 14 before;
+    call = subst (λ p. Left (byPass p) s before (planning.Refused 14) (refused s 14 before)) (sym (h .1)) (refl, refl);
+    shown = record {
+      replied = ap Refused (h .0);
+      lent = ap (λ t. lent t plan earliest latest ring) (c ∙ ap (λ k. cleared (k * k) table) (e ∙ sym (boundaries-span s ok)));
+      shown = refl;
+    };
+  }
+
+  module _ (reply : Printed) (left : List ℕ) where
+    -- a plan
+    pub plan-printed : (t : List ℤ) → passed s ≡ finished t → (table′ : List ℤ) (plan′ earliest′ latest′ : List ℕ)
+        → (let bytes = tablePage (s .span) (printedPlan s) (earliestSlots s) (latestSlots s) t in
+        Asked (holds page at bytes) Plan bytes (lent table plan earliest latest [])
+        (lent (onFront t table) (onFront (printedPlan s) plan) (onFront (earliestSlots s) earliest) (onFront (latestSlots s) latest) [])
+        page at reply (lent table′ plan′ earliest′ latest′ []) left)
+        → PrintingOf (byPass (passed s)) s before page at reply (lent table′ plan′ earliest′ latest′ ring) left
+    plan-printed t e table′ plan′ earliest′ latest′ o =
+        let n = length (s .units) in
+        let rooms : lent (onFront t table) (onFront (printedPlan s) plan) (onFront (earliestSlots s) earliest) (onFront (latestSlots s) latest) ring
+        ≡ planned s t before =
+        rw (table-size s ok t e, seats-size s ok t e, firsts-size s ok t e, lasts-size s ok t e) refl in
+        let bytes = tablePage (s .span) (printedPlan s) (earliestSlots s) (latestSlots s) t in
+        record {
+          answer = planning.Plan;
+          planned = planned s t before;
+          call = subst (λ p. Left (byPass p) s before planning.Plan (planned s t before)) (sym e) (refl, refl);
+          shown =
+              subst (λ bs. Asked (holds page at bs) Plan bs before (planned s t before) page at reply (lent table′ plan′ earliest′ latest′ ring) left)
+              (plan-bytes s ok t e)
+              (subst (λ r. Asked (holds page at bytes) Plan bytes before r page at reply (lent table′ plan′ earliest′ latest′ ring) left) rooms
+              (with-ring (holds page at bytes) Plan bytes table (onFront t table) table′ plan (onFront (printedPlan s) plan) plan′ earliest
+              (onFront (earliestSlots s) earliest) earliest′ latest (onFront (latestSlots s) latest) latest′ ring page at reply left o));
+        }
+
+    -- none
+    pub ring-printed : (c : List ℕ) (h : T (isRing s c)) → passed s ≡ stopped → (w : ℕ) → w ≡ s .span + 1 → (room : List ℤ) → places s ≤ length room
+        → (table′ : List ℤ) (ring′ : List ℕ)
+        → (let bytes = nonePage (entry w (limitTable s room)) c in
+        Asked (holds page at bytes) (None (length c)) bytes (lent table [] [] [] ring) (lent (cleared (w * w) table) [] [] [] (onFront c ring)) page at reply
+        (lent table′ [] [] [] ring′) left)
+        → PrintingOf (byPass (passed s)) s before page at reply (lent table′ plan earliest latest ring′) left
+    ring-printed c h e w sw room fits table′ ring′ o =
+        let bytes = nonePage (entry w (limitTable s room)) c in
+        let rooms : lent (cleared (w * w) table) plan earliest latest (onFront c ring) ≡ ringed s c before =
+        ap (λ k. lent (cleared (k * k) table) plan earliest latest (onFront c ring)) (sw ∙ sym (boundaries-span s ok)) in
+        let found : take (length c) (ringed s c before .ring) ≡ c = take-at c (drop (length c) ring) (length c) refl in
+        let same : bytes ≡ ringBytes s (take (length c) (ringed s c before .ring)) =
+        ap (λ k. nonePage (entry k (limitTable s room)) c) sw ∙ ring-bytes s ok c h room fits ∙ ap (ringBytes s) (sym found) in
+        record {
+          answer = planning.None (length c);
+          planned = ringed s c before;
+          call = subst (λ p. Left (byPass p) s before (planning.None (length c)) (ringed s c before)) (sym e) (c, h, refl, refl);
+          shown =
+              subst (λ bs. Asked (holds page at bs) (None (length c)) bs before (ringed s c before) page at reply (lent table′ plan earliest latest ring′) left)
+              same
+              (subst (λ r. Asked (holds page at bytes) (None (length c)) bytes before r page at reply (lent table′ plan earliest latest ring′) left) rooms
+              (with-plan (holds page at bytes) (None (length c)) bytes table (cleared (w * w) table) table′ plan earliest latest ring (onFront c ring) ring′
+              page at reply left o));
+        }
+
+-- ---- the questions before the pass
+module _ (l : Lists) (before : Rooms) (page : List ℕ) (at : ℕ) where
+  -- one of them is answered no: nothing is changed
+  pub refused-printed : (n : ℕ) → n ≡ askedNo l (lengthsOf before) → (n ≡ 0 → ⊥) → Printing l before page at (Refused n) before page
+  refused-printed n h ne = record {
+    answer = planning.Refused n;
+    planned = before;
+    call = entry-refused l before n h ne;
+    shown = record { replied = refl; lent = refl; shown = refl };
+  }
+
+  -- all are answered yes: the pass decides
+  pub solved-printed : 0 ≡ askedNo l (lengthsOf before) → (reply : Printed) (after : Rooms) (left : List ℕ)
+      → PrintingOf (byPass (passed (given l))) (given l) before page at reply after left → Printing l before page at reply after left
+  solved-printed h reply after left p = record {
+    answer = p .answer;
+    planned = p .planned;
+    call = entry-solved l before h (p .answer) (p .planned) (p .call);
+    shown = p .shown;
+  }

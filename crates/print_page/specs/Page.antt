@@ -1,0 +1,120 @@
+-- The answer page, line by line (document 01, "The sheet and the answer page"). Definitions only, over plain lists and functions:
+-- the sheet's definitions go in for the plan, the narrowed windows, the least and greatest counts and the limits.
+use mathlib.Core.Path.{_≡_}
+use mathlib.Core.Bool.{cond}
+use mathlib.Core.List.{List, [], _∷_, _++_, map}
+use Prim.Native.Nat.{ℕ, suc, _+_, _-_, _*_, _≤_, _<_}
+use lib.Dec.{ltb, eqb}
+use lib.ListN.{length, getD}
+use lib.IntN.{ℤ, negℤ}
+use Rattle.integers.specs.Parts.{up, dn}
+use Rattle.lists.specs.Lists.{run, fromTo, howMany, joined}
+use Rattle.lists.specs.Values.{listOf}
+use Rattle.sheet.specs.Sizes.{maxSlots, maxUnits, maxCount}
+use Rattle.network.specs.Network.{Weights, around}
+use Rattle.network.specs.Table.{entry, maxBoundaries}
+use Rattle.print_bytes.specs.Writing.{text, planHead, unitLine, slotLine, boundLine, shortfallLine}
+
+-- ---- the page of a plan
+
+-- the line of the unit at a place of the lists; units are numbered from 1
+unfoldable pub unitLineAt : List ℕ → List ℕ → List ℕ → ℕ → List ℕ
+unitLineAt slots earliest latest j = unitLine (suc j) (getD slots j 0) (getD earliest j 0) (getD latest j 0)
+
+unfoldable pub unitLines : List ℕ → List ℕ → List ℕ → List ℕ
+unitLines slots earliest latest = joined (map (unitLineAt slots earliest latest) (run 0 (length slots)))
+
+-- the head of the page, and the lines of the units
+abbrev pub headAndUnits : List ℕ → List ℕ → List ℕ → List ℕ
+headAndUnits slots earliest latest = planHead (length slots) ++ unitLines slots earliest latest
+
+unfoldable pub slotLineAt : (ℕ → ℕ) → (ℕ → ℕ) → (ℕ → ℕ) → ℕ → List ℕ
+slotLineAt count least greatest t = slotLine t (count t) (least t) (greatest t)
+
+unfoldable pub slotLines : ℕ → (ℕ → ℕ) → (ℕ → ℕ) → (ℕ → ℕ) → List ℕ
+slotLines span count least greatest = joined (map (slotLineAt count least greatest) (fromTo 1 span))
+
+-- the number of units that have a slot
+abbrev pub unitsIn : List ℕ → ℕ → ℕ
+unitsIn slots t = howMany (eqb t) slots
+
+-- the number of units in each slot, from slot 0 on, which none has
+unfoldable pub tally : List ℕ → List ℕ
+tally slots = listOf maxBoundaries (unitsIn slots)
+
+-- each unit's slot and narrowed window; each slot's count in this plan, and the least and the greatest over lawful plans
+unfoldable pub planPage : ℕ → List ℕ → List ℕ → List ℕ → (ℕ → ℕ) → (ℕ → ℕ) → List ℕ
+planPage span slots earliest latest least greatest =
+    joined (planHead (length slots) ∷ unitLines slots earliest latest ∷ slotLines span (unitsIn slots) least greatest ∷ [])
+
+-- the least and the greatest count of a slot, from the finished table of w boundaries: slot t is the stretch from boundary t - 1 to boundary t
+abbrev pub leastFrom : ℕ → List ℤ → ℕ → ℕ
+leastFrom w table t = dn (entry w table t (t - 1))
+
+abbrev pub greatestFrom : ℕ → List ℤ → ℕ → ℕ
+greatestFrom w table t = up (entry w table (t - 1) t)
+
+-- a plan, its narrowed windows and a finished table that belong to one sheet
+pub record Printable (span : ℕ) (plan first last : List ℕ) (table : List ℤ) : Type 0 where
+  pub slots : span ≤ maxSlots
+  pub units : length plan ≤ maxUnits
+  pub earliest : length first ≡ length plan
+  pub latest : length last ≡ length plan
+  pub entries : (span + 1) * (span + 1) ≤ length table
+
+-- the page of a plan, with the least and greatest counts of the finished table
+abbrev pub tablePage : ℕ → List ℕ → List ℕ → List ℕ → List ℤ → List ℕ
+tablePage span slots earliest latest table = planPage span slots earliest latest (leastFrom (span + 1) table) (greatestFrom (span + 1) table)
+
+-- ---- the page of a ring
+
+-- forward, the step's limit; backward, minus its limit
+unfoldable pub stepLine : Weights → ℕ → ℕ → List ℕ
+stepLine d a b =
+    cond (ltb a b) (boundLine (text "(at-most ") (up (d a b)) (suc a) b) (boundLine (text "(at-least ") (up (negℤ (d a b))) (suc b) a)
+
+-- the lines of the steps from a over a list of boundaries and on to e
+unfoldable pub stepLines : Weights → ℕ → List ℕ → ℕ → List (List ℕ)
+stepLines d a [] e = stepLine d a e ∷ []
+stepLines d a (b ∷ bs) e = stepLine d a b ∷ stepLines d b bs e
+
+-- the lines of a list of boundaries that is closed on itself
+unfoldable pub ringLines : Weights → List ℕ → List (List ℕ)
+ringLines d [] = []
+ringLines d (a ∷ bs) = stepLines d a bs a
+
+-- the head of the page, and the lines of the steps
+abbrev pub headAndSteps : Weights → List ℕ → List ℕ
+headAndSteps d ring = text "(answer none)\n" ++ joined (ringLines d ring)
+
+-- minus the ring's sum
+abbrev pub shortfallOf : Weights → List ℕ → ℕ
+shortfallOf d ring = up (negℤ (around d ring))
+
+unfoldable pub nonePage : Weights → List ℕ → List ℕ
+nonePage d ring = joined (text "(answer none)\n" ∷ joined (ringLines d ring) ∷ shortfallLine (shortfallOf d ring) ∷ [])
+
+-- a ring, and the table of the limits of w boundaries, as a call is given them
+pub record RingFits (w : ℕ) (limits : List ℤ) (ring : List ℕ) : Type 0 where
+  pub boundaries : w ≤ maxBoundaries
+  pub entries : w * w ≤ length limits
+  pub some : 1 ≤ length ring
+  pub few : length ring ≤ maxBoundaries
+  pub inside : (i : ℕ) → i < length ring → getD ring i 0 < w
+  pub small : (a b : ℕ) → a < w → b < w → (up (entry w limits a b) ≤ maxCount) × (dn (entry w limits a b) ≤ maxCount)
+
+-- ---- how long a page can be
+
+-- the longest line of a unit, of a slot and of a step: units and counts have at most three digits, slots at most two
+abbrev pub maxUnitLine : ℕ
+maxUnitLine = 37
+
+abbrev pub maxSlotLine : ℕ
+maxSlotLine = 38
+
+abbrev pub maxStepLine : ℕ
+maxStepLine = 29
+
+-- the head, 300 units and 48 slots; the page of a ring is shorter
+abbrev pub maxPage : ℕ
+maxPage = 18 + (maxUnits * maxUnitLine + maxSlots * maxSlotLine)

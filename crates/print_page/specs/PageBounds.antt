@@ -1,0 +1,312 @@
+-- No answer page of an accepted sheet is longer than maxPage, so a page of that length never refuses one.
+-- Key idea: a number below ten to the k has at most k digits, so a line is no longer than its words and so many digits, and a page no longer than so
+-- many lines.
+use mathlib.Core.Path.{_≡_, refl, ap}
+use mathlib.Core.Logic.{_⊎_, inl, inr, ⊎-elim}
+use mathlib.Core.Bool.{Bool, true, false, _&&_, not}
+use mathlib.Core.List.{List, [], _∷_, map, List·Memᴰ·head, List·Memᴰ·tail, List·Memᴰ·not-nil, List·Memᴰ·cases-cons}
+use Prim.Native.Nat.{ℕ, zero, suc, _+_, _-_, _*_, _≤_, _<_}
+use native.Mathlib.Omega.{arith}
+use native.Mathlib.Nat.{suc-mul}
+use native.Mathlib.Decide.{decLe}
+use lib.Dec.{T, eqb, leb, leb→le, eqb-refl}
+use lib.ListN.{length, getD, length-append, List·getD-eq-default}
+use lib.IntN.{ℤ, pos, _+ℤ_}
+use lib.Signed.{ltZ}
+use Rattle.integers.specs.Parts.{up, dn, sum, neg, apart}
+use Rattle.lists.specs.Lists.{run, joined, every, least, greatest}
+use Rattle.lists.specs.Members.{In, left, right, in-keep, in-map, every-in}
+use Rattle.lists.specs.Extremes.{least-in, greatest-in}
+use Rattle.lists.specs.Counts.{howMany-count, count-most}
+use Rattle.network.specs.Network.{Weights, via, around, distinct, lowestFirst, isNegativeCycle}
+use Rattle.network.specs.NetworkLaws.{Upto, upto-of-every}
+use Rattle.network_cycles.specs.CycleLaws.{Distinct, distinct-length}
+use Rattle.network.specs.Table.{maxBoundaries}
+use Rattle.sheet.specs.Sizes.{maxSlots, maxUnits, maxCount}
+use Rattle.sheet.specs.Sheet.{Sheet, top, limit, isRing, countIn, lawfulPlans, leastIn, greatestIn, earliest, latest}
+use Rattle.sheet.specs.Sheet.{earliestSlots, latestSlots, soonest, fair, printedPlans, printedPlan, headOr}
+use Rattle.sheet.specs.PlanLaws.{in-lawfulPlans-iff}
+use Rattle.sheet.specs.LimitLaws.{countIn-length}
+use Rattle.limits.specs.LimitTableLaws.{limit-small}
+use Rattle.sheet.specs.Questions.{accepted}
+use Rattle.sheet.specs.QuestionLaws.{accepted-sized, accepted-valid}
+use Rattle.print_bytes.specs.Writing.{text, digits, oneNumber, fourNumbers, planHead, unitLine, slotLine}
+use Rattle.print_bytes.specs.WritingLaws.{length-one, length-two, length-three, length-four, length-five, oneNumber-length, fourNumbers-length, boundLine-length}
+use Rattle.print_page.specs.Page.{unitLineAt, unitLines, slotLineAt, slotLines, unitsIn, planPage, maxUnitLine, maxSlotLine}
+use Rattle.print_page.specs.Page.{stepLine, stepLines, ringLines, shortfallOf, nonePage, maxStepLine, maxPage}
+use Rattle.print_page.specs.PageLaws.{three-length, step-forward, step-backward, nonePage-length}
+
+-- ---- digits
+one-at-most : (n : ℕ) → n < 10 → length (digits n) ≤ 1
+one-at-most n h = omega (arith, length-one n h)
+
+two-at-most : (n : ℕ) → n < 100 → length (digits n) ≤ 2
+two-at-most n h = elim (decLe 10 n) [ yes l ↦ omega (arith, length-two n l h) | no g ↦ omega (arith, one-at-most n (omega arith)) ]
+
+three-at-most : (n : ℕ) → n < 1000 → length (digits n) ≤ 3
+three-at-most n h = elim (decLe 100 n) [ yes l ↦ omega (arith, length-three n l h) | no g ↦ omega (arith, two-at-most n (omega arith)) ]
+
+four-at-most : (n : ℕ) → n < 10000 → length (digits n) ≤ 4
+four-at-most n h = elim (decLe 1000 n) [ yes l ↦ omega (arith, length-four n l h) | no g ↦ omega (arith, three-at-most n (omega arith)) ]
+
+pub five-at-most : (n : ℕ) → n < 100000 → length (digits n) ≤ 5
+five-at-most n h = elim (decLe 10000 n) [ yes l ↦ omega (arith, length-five n l h) | no g ↦ omega (arith, four-at-most n (omega arith)) ]
+
+-- ---- lines
+unitLine-short : (u x e l : ℕ) → u < 1000 → x < 100 → e < 100 → l < 100 → length (unitLine u x e l) ≤ maxUnitLine
+unfolding unitLine fourNumbers text
+unitLine-short u x e l hu hx he hl = omega (
+  arith,
+  fourNumbers-length (text "(unit ") u (text " (slot ") x (text ") (between ") e l,
+  three-at-most u hu,
+  two-at-most x hx,
+  two-at-most e he,
+  two-at-most l hl,
+)
+
+slotLine-short : (t c l g : ℕ) → t < 100 → c < 1000 → l < 1000 → g < 1000 → length (slotLine t c l g) ≤ maxSlotLine
+unfolding slotLine fourNumbers text
+slotLine-short t c l g ht hc hl hg = omega (
+  arith,
+  fourNumbers-length (text "(slot ") t (text " (count ") c (text ") (range ") l g,
+  two-at-most t ht,
+  three-at-most c hc,
+  three-at-most l hl,
+  three-at-most g hg,
+)
+
+head-short : (n : ℕ) → n < 1000 → length (planHead n) ≤ 18
+unfolding planHead oneNumber text
+head-short n h = omega (arith, oneNumber-length (text "(answer plan ") n, three-at-most n h)
+
+lines-short : (f : ℕ → List ℕ) (m i k : ℕ) → ((j : ℕ) → i ≤ j → j < i + k → length (f j) ≤ m) → length (joined (map f (run i k))) ≤ k * m
+lines-short f m i zero h = omega arith
+lines-short f m i (suc k) h =
+    omega (
+      arith,
+      length-append (f i) (joined (map f (run (suc i) k))),
+      h i (omega arith) (omega arith),
+      lines-short f m (suc i) k (λ j p q. h j (omega arith) (omega arith)),
+      suc-mul k m,
+    )
+
+-- ---- the page of a plan
+
+-- slots within 48 and counts within 300
+pub record Small (span : ℕ) (slots first last : List ℕ) (low high : ℕ → ℕ) : Type 0 where
+  pub spans : span ≤ maxSlots
+  pub units : length slots ≤ maxUnits
+  pub seats : (j : ℕ) → (getD slots j 0 ≤ maxSlots) × (getD first j 0 ≤ maxSlots) × (getD last j 0 ≤ maxSlots)
+  pub ranges : (t : ℕ) → (low t ≤ maxUnits) × (high t ≤ maxUnits)
+
+module _ {span : ℕ} {slots first last : List ℕ} {low high : ℕ → ℕ} (s : Small span slots first last low high) where
+  units-short : length (unitLines slots first last) ≤ length slots * maxUnitLine
+  unfolding unitLines unitLineAt
+  units-short = lines-short (unitLineAt slots first last) maxUnitLine 0 (length slots)
+      (λ j p q. let b = s .seats j in unitLine-short (suc j) (getD slots j 0) (getD first j 0) (getD last j 0)
+      (omega (arith, s .units)) (omega arith) (omega arith) (omega arith))
+
+  slots-short : length (slotLines span (unitsIn slots) low high) ≤ span * maxSlotLine
+  unfolding slotLines slotLineAt
+  slots-short =
+      let e : suc span - 1 ≡ span = omega arith in
+      omega (
+        arith,
+        ap (λ k. k * maxSlotLine) e,
+        lines-short (slotLineAt (unitsIn slots) low high) maxSlotLine 1 (suc span - 1)
+            (λ t p q.
+            let b = s .ranges t in
+            let c = howMany-count (eqb t) 0 slots in
+            slotLine-short t (unitsIn slots t) (low t) (high t) (omega (arith, s .spans))
+            (omega (arith, c, count-most (length slots) (λ i. eqb t (getD slots i 0)), s .units)) (omega arith) (omega arith)),
+      )
+
+  pub planPage-short : length (planPage span slots first last low high) ≤ maxPage
+  unfolding planPage
+  planPage-short =
+      omega (
+        arith,
+        three-length (planHead (length slots)) (unitLines slots first last) (slotLines span (unitsIn slots) low high),
+        units-short,
+        slots-short,
+        head-short (length slots) (omega (arith, s .units)),
+        s .spans,
+        s .units,
+      )
+
+-- ---- the page of a sheet's plan
+module _ {A : Type 0} (f : A → ℕ) (k : ℕ) where
+  least-small : (xs : List A) → ((x : A) → In x xs → f x ≤ k) → least (map f xs) ≤ k
+  least-small [] h = omega arith
+  least-small (x ∷ xs) h =
+      let p = in-map f (least (map f (x ∷ xs))) (x ∷ xs) (least-in (f x) (map f (x ∷ xs)) (List·Memᴰ·head refl)) in
+      omega (arith, h (p .0) (p .1), p .2)
+
+  greatest-small : (xs : List A) → ((x : A) → In x xs → f x ≤ k) → greatest (map f xs) ≤ k
+  greatest-small [] h = omega arith
+  greatest-small (x ∷ xs) h =
+      let p = in-map f (greatest (map f (x ∷ xs))) (x ∷ xs) (greatest-in (f x) (map f (x ∷ xs)) (List·Memᴰ·head refl)) in
+      omega (arith, h (p .0) (p .1), p .2)
+
+values-small : (f : ℕ → ℕ) (k i n j : ℕ) → ((m : ℕ) → f m ≤ k) → getD (map f (run i n)) j 0 ≤ k
+values-small f k i zero j h = omega arith
+values-small f k i (suc n) zero h = h i
+values-small f k i (suc n) (suc j) h = values-small f k (suc i) n j h
+
+module _ (s : Sheet) (ok : T (accepted s)) where
+  seat-small : (x : List ℕ) → In x (lawfulPlans s) → (j : ℕ) → getD x j 0 ≤ maxSlots
+  unfolding top
+  seat-small x m j =
+      let l = in-lawfulPlans-iff s x .0 m .seated in
+      elim (decLe (length (s .units)) j) [
+        | yes h ↦ omega (arith, List·getD-eq-default x 0 {n = j} (omega (arith, l .size)))
+        | no g ↦ omega (arith, l .inside j (omega arith) .1, accepted-valid s ok .windows j (omega arith) .2, accepted-sized s ok .slots .1)
+      ]
+
+  count-small : (f t : ℕ) (x : List ℕ) → In x (lawfulPlans s) → countIn f t x ≤ maxUnits
+  count-small f t x m = omega (arith, countIn-length f t x, in-lawfulPlans-iff s x .0 m .seated .size, accepted-sized s ok .units)
+
+  -- the printed plan is lawful, or there is none
+  printed : (printedPlan s ≡ []) ⊎ In (printedPlan s) (lawfulPlans s)
+  unfolding printedPlan printedPlans
+  printed = go (printedPlans s) (λ x m. in-keep (λ plan. soonest s plan && fair s plan) x (lawfulPlans s) m .0)
+    where
+      go : (xs : List (List ℕ)) → ((x : List ℕ) → In x xs → In x (lawfulPlans s)) → (headOr [] xs ≡ []) ⊎ In (headOr [] xs) (lawfulPlans s)
+      go [] h = inl refl
+      go (x ∷ xs) h = inr (h x (List·Memᴰ·head refl))
+
+  printed-small : (j : ℕ) → getD (printedPlan s) j 0 ≤ maxSlots
+  printed-small j = ⊎-elim (λ e. omega (arith, ap (λ x. getD x j 0) e)) (λ m. seat-small (printedPlan s) m j) printed
+
+  printed-few : length (printedPlan s) ≤ maxUnits
+  printed-few =
+      ⊎-elim (λ e. omega (arith, ap length e))
+      (λ m. omega (arith, in-lawfulPlans-iff s (printedPlan s) .0 m .seated .size, accepted-sized s ok .units)) printed
+
+  sheet-small : Small (s .span) (printedPlan s) (earliestSlots s) (latestSlots s) (λ t. leastIn s t t) (λ t. greatestIn s t t)
+  unfolding earliestSlots latestSlots earliest latest leastIn greatestIn
+  sheet-small = record {
+    spans = accepted-sized s ok .slots .1;
+    units = printed-few;
+    seats = λ j. (
+      printed-small j,
+      values-small (earliest s) maxSlots 0 (length (s .units)) j (λ m. least-small (λ plan. getD plan m 0) maxSlots (lawfulPlans s) (λ x h. seat-small x h m)),
+      values-small (latest s) maxSlots 0 (length (s .units)) j (λ m. greatest-small (λ plan. getD plan m 0) maxSlots (lawfulPlans s) (λ x h. seat-small x h m)),
+    );
+    ranges = λ t. (
+      least-small (countIn t t) maxUnits (lawfulPlans s) (count-small t t),
+      greatest-small (countIn t t) maxUnits (lawfulPlans s) (count-small t t),
+    );
+  }
+
+  pub plan-short : length (planPage (s .span) (printedPlan s) (earliestSlots s) (latestSlots s) (λ t. leastIn s t t) (λ t. greatestIn s t t)) ≤ maxPage
+  plan-short = planPage-short sheet-small
+
+-- ---- the page of a ring
+
+-- limits within 300 of 0, between boundaries within 48
+pub record SmallSteps (d : Weights) : Type 0 where
+  pub at : (a b : ℕ) → a ≤ maxSlots → b ≤ maxSlots → (up (d a b) ≤ maxCount) × (dn (d a b) ≤ maxCount)
+
+fall-sum : (x y : ℤ) → dn (x +ℤ y) ≤ dn x + dn y
+fall-sum x y = ⊎-elim (λ e. omega (arith, sum x y)) (λ e. omega arith) (apart (x +ℤ y))
+
+module _ (d : Weights) (small : SmallSteps d) where
+  stepLine-short : (a b : ℕ) → a ≤ maxSlots → b ≤ maxSlots → length (stepLine d a b) ≤ maxStepLine
+  unfolding text
+  stepLine-short a b ha hb = elim (decLe b a) [
+    | yes l ↦ omega (
+      arith,
+      ap length (step-backward d a b l),
+      boundLine-length (text "(at-least ") (dn (d a b)) (suc b) a,
+      three-at-most (dn (d a b)) (omega (arith, small .at a b ha hb)),
+      two-at-most (suc b) (omega arith),
+      two-at-most a (omega arith),
+    )
+    | no g ↦ omega (
+      arith,
+      ap length (step-forward d a b (omega arith)),
+      boundLine-length (text "(at-most ") (up (d a b)) (suc a) b,
+      three-at-most (up (d a b)) (omega (arith, small .at a b ha hb)),
+      two-at-most (suc a) (omega arith),
+      two-at-most b (omega arith),
+    )
+  ]
+
+  stepLines-short : (a : ℕ) (bs : List ℕ) (e : ℕ) → a ≤ maxSlots → ((b : ℕ) → In b bs → b ≤ maxSlots) → e ≤ maxSlots
+      → length (joined (stepLines d a bs e)) ≤ suc (length bs) * maxStepLine
+  unfolding stepLines
+  stepLines-short a [] e ha h he = omega (arith, stepLine-short a e ha he, length-append (stepLine d a e) [])
+  stepLines-short a (b ∷ bs) e ha h he =
+      let hb = h b (List·Memᴰ·head refl) in
+      omega (
+        arith,
+        stepLine-short a b ha hb,
+        length-append (stepLine d a b) (joined (stepLines d b bs e)),
+        stepLines-short b bs e hb (λ c m. h c (List·Memᴰ·tail m)) he,
+      )
+
+  fall-short : (a : ℕ) (bs : List ℕ) (e : ℕ) → a ≤ maxSlots → ((b : ℕ) → In b bs → b ≤ maxSlots) → e ≤ maxSlots
+      → dn (via d a bs e) ≤ suc (length bs) * maxCount
+  fall-short a [] e ha h he = omega (arith, small .at a e ha he)
+  fall-short a (b ∷ bs) e ha h he =
+      let hb = h b (List·Memᴰ·head refl) in
+      omega (arith, fall-sum (d a b) (via d b bs e), small .at a b ha hb, fall-short b bs e hb (λ c m. h c (List·Memᴰ·tail m)) he)
+
+  pub nonePage-short : (ring : List ℕ) → length ring ≤ maxBoundaries → ((b : ℕ) → In b ring → b ≤ maxSlots) → length (nonePage d ring) ≤ maxPage
+  unfolding ringLines
+  nonePage-short [] few h = omega (arith, nonePage-length d [], one-at-most 0 (omega arith))
+  nonePage-short (a ∷ bs) few h =
+      let ha = h a (List·Memᴰ·head refl) in
+      let hs : (b : ℕ) → In b bs → b ≤ maxSlots = λ c m. h c (List·Memᴰ·tail m) in
+      omega (
+        arith,
+        nonePage-length d (a ∷ bs),
+        stepLines-short a bs a ha hs ha,
+        five-at-most (shortfallOf d (a ∷ bs)) (omega (arith, neg (via d a bs a) .0, fall-short a bs a ha hs ha)),
+      )
+
+distinct-read : (c : List ℕ) → T (distinct c) → Distinct c
+distinct-read [] h = tt
+distinct-read (a ∷ bs) h =
+    let apart = left (every (λ b. not (eqb a b)) bs) (distinct bs) h in
+    (λ m. clash (eqb a a) (eqb-refl a) (every-in (λ b. not (eqb a b)) a bs m apart), distinct-read bs (right (every (λ b. not (eqb a b)) bs) (distinct bs) h))
+  where
+    clash : (b : Bool) → T b → T (not b) → ⊥
+    clash true p q = q
+    clash false p q = p
+
+-- what a ring of a sheet is, as printing asks it
+pub record RingRead (top : ℕ) (ring : List ℕ) : Type 0 where
+  pub long : 2 ≤ length ring
+  pub few : length ring ≤ suc top
+  pub upto : Upto top ring
+
+pub ring-read : (s : Sheet) (ring : List ℕ) → T (isRing s ring) → RingRead (top s) ring
+unfolding isRing isNegativeCycle
+ring-read s ring h =
+    let e = every (λ b. leb b (top s)) ring in
+    let rest = lowestFirst ring && ltZ (around (limit s) ring) (pos 0) in
+    let h₁ = right (leb 2 (length ring)) (e && (distinct ring && rest)) h in
+    let inside = upto-of-every (top s) ring (left e (distinct ring && rest) h₁) in
+    let apart = left (distinct ring) rest (right e (distinct ring && rest) h₁) in
+    record {
+      long = leb→le 2 (length ring) (left (leb 2 (length ring)) (e && (distinct ring && rest)) h);
+      few = distinct-length (top s) ring inside (distinct-read ring apart);
+      upto = inside;
+    }
+
+upto-in : (most : ℕ) (ring : List ℕ) → Upto most ring → (b : ℕ) → In b ring → b ≤ most
+upto-in most [] h b m = absurd (List·Memᴰ·not-nil m)
+upto-in most (a ∷ bs) h b m = ⊎-elim (λ e. omega (arith, h .0)) (upto-in most bs (h .1) b) (List·Memᴰ·cases-cons m)
+
+module _ (s : Sheet) (ok : T (accepted s)) where
+  limits-small : SmallSteps (limit s)
+  limits-small = record { at = λ a b ha hb. limit-small s ok a b }
+
+  pub none-short : (ring : List ℕ) → T (isRing s ring) → length (nonePage (limit s) ring) ≤ maxPage
+  unfolding top
+  none-short ring h =
+      let r = ring-read s ring h in
+      let most = accepted-sized s ok .slots .1 in
+      nonePage-short (limit s) limits-small ring (omega (arith, r .few)) (λ b m. omega (arith, upto-in (top s) ring (r .upto) b m))

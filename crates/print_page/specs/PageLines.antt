@@ -1,0 +1,116 @@
+-- What a reader finds on an answer page: its lines, and what each line says. Definitions only, by the words and numbers of each line;
+-- nothing here knows how the page was written. What stands on a page before an answer's head is no part of the answer.
+use mathlib.Core.Bool.{Bool, false, cond}
+use mathlib.Core.List.{List, [], _∷_, map}
+use Prim.Native.Nat.{ℕ, suc, _-_}
+use lib.Dec.{eqb, ltb}
+use lib.IntN.{negℤ}
+use lib.ListN.{getD, take, drop}
+use Rattle.lists.specs.Lists.{howMany}
+use Rattle.integers.specs.Parts.{up}
+use Rattle.network.specs.Network.{Weights}
+use Rattle.forms.specs.Form.{Piece, word, number, matches, numbers, value}
+use Rattle.forms.specs.Lines.{lines}
+use Rattle.print_bytes.specs.Writing.{text}
+
+-- what a line says, with its numbers in their order
+pub data Said : Type 0 where
+  plan : ℕ → Said
+  unit : ℕ → ℕ → ℕ → ℕ → Said
+  slot : ℕ → ℕ → ℕ → ℕ → Said
+  none : Said
+  atMost : ℕ → ℕ → ℕ → Said
+  atLeast : ℕ → ℕ → ℕ → Said
+  shortfall : ℕ → Said
+  other : Said
+
+-- a form of a line, and what a line of that form says with its numbers 0, 1, ..
+pub record Reading : Type 0 where
+  pub form : List Piece
+  pub says : (ℕ → ℕ) → Said
+
+abbrev reading : List Piece → ((ℕ → ℕ) → Said) → Reading
+reading f s = record { form = f; says = s }
+
+-- (answer plan N)
+abbrev pub planReading : Reading
+planReading = reading (word (text "(answer plan ") ∷ number ∷ word (text ")") ∷ []) (λ n. plan (n 0))
+
+-- (unit N (slot N) (between N N))
+abbrev pub unitReading : Reading
+unitReading =
+    reading
+    (word (text "(unit ") ∷ number ∷ word (text " (slot ") ∷ number ∷ word (text ") (between ") ∷ number ∷ word (text " ") ∷ number ∷ word (text "))") ∷ [])
+    (λ n. unit (n 0) (n 1) (n 2) (n 3))
+
+-- (slot N (count N) (range N N))
+abbrev pub slotReading : Reading
+slotReading =
+    reading
+    (word (text "(slot ") ∷ number ∷ word (text " (count ") ∷ number ∷ word (text ") (range ") ∷ number ∷ word (text " ") ∷ number ∷ word (text "))") ∷ [])
+    (λ n. slot (n 0) (n 1) (n 2) (n 3))
+
+-- (answer none)
+abbrev pub noneReading : Reading
+noneReading = reading (word (text "(answer none)") ∷ []) (λ n. none)
+
+-- (at-most N (slots N N))
+abbrev pub atMostReading : Reading
+atMostReading =
+    reading (word (text "(at-most ") ∷ number ∷ word (text " (slots ") ∷ number ∷ word (text " ") ∷ number ∷ word (text "))") ∷ [])
+    (λ n. atMost (n 0) (n 1) (n 2))
+
+-- (at-least N (slots N N))
+abbrev pub atLeastReading : Reading
+atLeastReading =
+    reading (word (text "(at-least ") ∷ number ∷ word (text " (slots ") ∷ number ∷ word (text " ") ∷ number ∷ word (text "))") ∷ [])
+    (λ n. atLeast (n 0) (n 1) (n 2))
+
+-- (shortfall N)
+abbrev pub shortfallReading : Reading
+shortfallReading = reading (word (text "(shortfall ") ∷ number ∷ word (text ")") ∷ []) (λ n. shortfall (n 0))
+
+-- what a line says by the first form it has
+unfoldable pub readBy : List Reading → List ℕ → Said
+readBy [] l = other
+readBy (r ∷ rs) l = cond (matches (r .form) l) ((r .says) (λ i. getD (map value (numbers (r .form) l)) i 0)) (readBy rs l)
+
+abbrev pub readLine : List ℕ → Said
+readLine l =
+    readBy (planReading ∷ unitReading ∷ slotReading ∷ noneReading ∷ atMostReading ∷ atLeastReading ∷ shortfallReading ∷ []) l
+
+-- what the lines of a text say
+unfoldable pub readLines : List ℕ → List Said
+readLines t = map (λ l. readLine (l .bytes)) (lines t)
+
+-- the answer that a call wrote on a page: from the place where it began to the place that it left
+unfoldable pub answerOn : List ℕ → ℕ → ℕ → List Said
+answerOn page at next = readLines (take (next - at) (drop at page))
+
+-- the unit lines with a slot
+abbrev pub isUnitWith : ℕ → Said → Bool
+isUnitWith t (plan n) = false
+isUnitWith t (unit j x e l) = eqb t x
+isUnitWith t (slot s c l g) = false
+isUnitWith t none = false
+isUnitWith t (atMost v a b) = false
+isUnitWith t (atLeast v a b) = false
+isUnitWith t (shortfall k) = false
+isUnitWith t other = false
+
+-- the number of unit lines with slot t
+abbrev pub unitLinesWith : ℕ → List Said → ℕ
+unitLinesWith t ls = howMany (isUnitWith t) ls
+
+-- ---- what the lines of a ring's steps are to say
+
+abbrev pub stepSaid : Weights → ℕ → ℕ → Said
+stepSaid d a b = cond (ltb a b) (atMost (up (d a b)) (suc a) b) (atLeast (up (negℤ (d a b))) (suc b) a)
+
+abbrev pub stepsSaid : Weights → ℕ → List ℕ → ℕ → List Said
+stepsSaid d a [] e = stepSaid d a e ∷ []
+stepsSaid d a (b ∷ bs) e = stepSaid d a b ∷ stepsSaid d b bs e
+
+abbrev pub ringSaid : Weights → List ℕ → List Said
+ringSaid d [] = []
+ringSaid d (a ∷ bs) = stepsSaid d a bs a

@@ -1,0 +1,132 @@
+ghost use mathlib.Core.Path.{_≡_};
+ghost use Prim.Native.Nat.{_≤_};
+ghost use lib.ListN.{length};
+ghost use Rattle.read_ask.specs.Reading.{answerOf, reading, rooms, roomsFit};
+ghost use Rattle.read.specs.Rooms.{sizesOf, roomsAfter, onto};
+ghost use Rattle.read.specs.Spread.{strided, Reach, Filling, filled};
+use read_ask::Reading;
+use read_ask::Refusal;
+use sheet::Sheet;
+
+// Two numbers a unit and four a rule are kept on the way.
+const UNIT_NUMBERS: usize = 2 * Sheet::MAX_UNITS;
+
+const RULE_NUMBERS: usize = 4 * Sheet::MAX_RULES;
+
+// Every k-th number of an array, n of them from a place on, at the front of a room.
+fn spread(source: &[u16], n: usize, k: usize, start: usize, room: &mut [u16])
+    requires { ⌜ Reach n k start (length (now source)) × (k ≤ 4) × (n ≤ length (now room)) ⌝ }
+    ensures { λ _. ⌜ now (room .exit) ≡ onto (strided n k start (now (source .entry))) (now (room .entry)) ⌝ }
+{
+    let mut from = start;
+    let mut i: usize = 0;
+    while i < n {
+        room[i] = source[from];
+        from += k;
+        i += 1;
+    }
+}
+
+// Question 12.
+fn rooms_fit(
+    s: Sheet,
+    first: usize,
+    last: usize,
+    from: usize,
+    to: usize,
+    low: usize,
+    high: usize,
+) -> bool
+    ensures { λ r. ⌜ r ≡ roomsFit (s .units) (s .rules) (rooms first last from to low high) ⌝ }
+{
+    if first < s.units {
+        return false;
+    }
+    if last < s.units {
+        return false;
+    }
+    if from < s.rules {
+        return false;
+    }
+    if to < s.rules {
+        return false;
+    }
+    if low < s.rules {
+        return false;
+    }
+    s.rules <= high
+}
+
+// The numbers of the two arrays into the rooms, which are long enough.
+fn fill(
+    s: Sheet,
+    units: &[u16],
+    rules: &[u16],
+    first: &mut [u16],
+    last: &mut [u16],
+    from: &mut [u16],
+    to: &mut [u16],
+    low: &mut [u16],
+    high: &mut [u16],
+)
+    requires { ⌜ Filling s (length (now units)) (length (now rules))
+        (rooms (length (now first)) (length (now last)) (length (now from)) (length (now to)) (length (now low)) (length (now high))) ⌝ }
+    ensures { λ _. ⌜ rooms (now (first .exit)) (now (last .exit)) (now (from .exit)) (now (to .exit)) (now (low .exit)) (now (high .exit))
+        ≡ filled s (now (units .entry)) (now (rules .entry))
+        (rooms (now (first .entry)) (now (last .entry)) (now (from .entry)) (now (to .entry)) (now (low .entry)) (now (high .entry))) ⌝ }
+{
+    let n = s.units;
+    let r = s.rules;
+    spread(units, n, 2, 0, first);
+    spread(units, n, 2, 1, last);
+    spread(rules, r, 4, 0, from);
+    spread(rules, r, 4, 1, to);
+    spread(rules, r, 4, 2, low);
+    spread(rules, r, 4, 3, high);
+}
+
+// The open entry. A refusal leaves every room as it was; else the units and rules stand at the front of theirs.
+pub fn read(
+    text: &[u8],
+    first: &mut [u16],
+    last: &mut [u16],
+    from: &mut [u16],
+    to: &mut [u16],
+    low: &mut [u16],
+    high: &mut [u16],
+) -> Reading
+    ensures { λ r. ⌜ answerOf r
+        ≡ reading (now (text .entry))
+        (sizesOf (rooms (now (first .entry)) (now (last .entry)) (now (from .entry)) (now (to .entry)) (now (low .entry)) (now (high .entry)))) ⌝ }
+    ensures { λ _. ⌜ rooms (now (first .exit)) (now (last .exit)) (now (from .exit)) (now (to .exit)) (now (low .exit)) (now (high .exit))
+        ≡ roomsAfter (now (text .entry))
+        (rooms (now (first .entry)) (now (last .entry)) (now (from .entry)) (now (to .entry)) (now (low .entry)) (now (high .entry))) ⌝ }
+{
+    if Sheet::MAX_BYTES < text.len() {
+        return Reading::Refused(Refusal { number: 1, line: 0 });
+    }
+    let mut units = [0u16; UNIT_NUMBERS];
+    let mut rules = [0u16; RULE_NUMBERS];
+    let asked = read_ask::ask(text, &mut units, &mut rules);
+    match asked {
+        Reading::Refused(refusal) => Reading::Refused(refusal),
+        Reading::Sheet(s) => {
+            if !rooms_fit(
+                s,
+                first.len(),
+                last.len(),
+                from.len(),
+                to.len(),
+                low.len(),
+                high.len(),
+            ) {
+                return Reading::Refused(Refusal {
+                    number: 12,
+                    line: 0,
+                });
+            }
+            fill(s, &units, &rules, first, last, from, to, low, high);
+            Reading::Sheet(s)
+        }
+    }
+}

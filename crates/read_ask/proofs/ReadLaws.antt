@@ -1,0 +1,429 @@
+-- Reading, line by line.
+-- Key idea: what the lines so far are, `before`, is what the code's three numbers stand for (`Matches`). A line more is asked the questions of the
+-- definition; the code's tests of it are the same, by cases on what the line is (`line-verdict`). So what is left to ask decides the whole (`Asking`).
+use Prim.Native.Nat.{ℕ, suc, _+_, _*_, _≤_, _<_}
+use mathlib.Core.Path.{_≡_, refl, sym, ap, ap₂, subst, _∙_}
+use mathlib.Core.Bool.{Bool, true, false, _&&_, _||_, not, cond, and-false, or-false, or-true, or-assoc}
+use mathlib.Core.List.{List, [], _∷_, _++_, map, append-nil, append-assoc}
+use native.Mathlib.Omega.{arith}
+use native.Mathlib.Numerals.{add-one}
+use native.Mathlib.Nat.{zero-add, add-zero}
+use lib.ListN.{length, drop, set, length-append}
+use lib.Seq.{sets, length-sets}
+use lib.Dec.{eqb, leb, ltb}
+use borrow.Author.Tests.{eq-eqb, ne-eqb, le-leb, leb-true, ltb-true}
+use Rattle.lists.specs.Lists.{within, every, joined}
+use Rattle.sheet.specs.Sizes.{maxSlots, maxUnits, maxRules}
+use Rattle.sheet.specs.declared.Sheet.{Sheet}
+use Rattle.forms.specs.Form.{printable, plain, value}
+use Rattle.forms.specs.FormLaws.{false-not-true, and-left}
+use Rattle.forms.specs.Lines.{TextLine, textLine, lines, firstLine, hasFeed}
+use Rattle.forms.specs.LinesLaws.{lineEnd, end-within, lines-at, lines-none}
+use Rattle.read_line.specs.Content.{Content, note, sheet, unit, rule, other, contentOf, bracketsMatch, numbersIn}
+use Rattle.read_line.specs.Line.{valuesOf, said, lineOf}
+use Rattle.read_line.specs.declared.Line.{Line}
+use Rattle.read_line.specs.declared.Line.the-variants as Line
+use Rattle.read_ask.specs.Reading.{contents, isSheet, hasSheet, spanElse, spanIn, windowOf, unitsIn, ruleOf, rulesIn, sheetIn, Question, ask, isForm}
+use Rattle.read_ask.specs.Reading.{inOrder, spanFits, isStretch, inSpan, isCount, countFits, questionsOf, lineQuestions, refused, read}
+use Rattle.read_ask.specs.Reading.{Verdict, no, allYes, firstNo, concluded}
+use Rattle.read_ask.specs.Steps.{sheetOf, stepOf, windowNumbers, ruleNumbers, unitStream, ruleStream, unitPart, rulePart, passQuestions}
+use Rattle.read_ask.specs.Steps.{passAnswer}
+use Rattle.read_ask.specs.PassLaws.{andThen, firstNo-append, stream-length}
+use Rattle.read_ask.specs.declared.Step.{Step}
+use Rattle.read_ask.specs.declared.Step.the-variants.{No, On}
+
+-- ---- one line more
+
+joined-append : {A B : Type 0} (f : A → List B) (xs ys : List A) → joined (map f (xs ++ ys)) ≡ joined (map f xs) ++ joined (map f ys)
+joined-append f [] ys = refl
+joined-append f (x ∷ xs) ys = rw (joined-append f xs ys) (sym (append-assoc (f x) (joined (map f xs)) (joined (map f ys))))
+
+hasSheet-more : (xs : List Content) (x : Content) → hasSheet (xs ++ (x ∷ [])) ≡ (hasSheet xs || isSheet x)
+unfolding hasSheet
+hasSheet-more [] x = or-false (isSheet x)
+hasSheet-more (y ∷ ys) x = ap (λ (b : Bool). isSheet y || b) (hasSheet-more ys x) ∙ sym (or-assoc (isSheet y) (hasSheet ys) (isSheet x))
+
+-- a line that is no sheet form leaves the span, and the first sheet form gives it
+spanIn-same : (xs : List Content) (x : Content) → ((p : ℕ) → spanElse x p ≡ p) → spanIn (xs ++ (x ∷ [])) ≡ spanIn xs
+unfolding spanIn
+spanIn-same [] x h = h 0
+spanIn-same (y ∷ ys) x h = ap (spanElse y) (spanIn-same ys x h)
+
+spanIn-first : (xs : List Content) (p : List ℕ) → hasSheet xs ≡ false → spanIn (xs ++ (sheet p ∷ [])) ≡ value p
+unfolding spanIn hasSheet
+spanIn-first [] p h = refl
+spanIn-first (note ∷ ys) p h = spanIn-first ys p h
+spanIn-first (sheet q ∷ ys) p h = false-not-true (sym h)
+spanIn-first (unit f l ∷ ys) p h = spanIn-first ys p h
+spanIn-first (rule a b lo hi ∷ ys) p h = spanIn-first ys p h
+spanIn-first (other ∷ ys) p h = spanIn-first ys p h
+
+-- ---- what the code's numbers stand for
+
+pub record Matches (s : Sheet) (before : List Content) : Type 0 where
+  pub span : s .span ≡ spanIn before
+  pub sheeted : hasSheet before ≡ not (eqb (s .span) 0)
+  pub units : s .units ≡ length (unitsIn before)
+  pub rules : s .rules ≡ length (rulesIn before)
+  pub few-units : s .units ≤ maxUnits
+  pub few-rules : s .rules ≤ maxRules
+
+pub matches-none : Matches (sheetOf 0 0 0) []
+unfolding spanIn hasSheet unitsIn rulesIn
+matches-none = record { span = refl; sheeted = refl; units = refl; rules = refl; few-units = omega arith; few-rules = omega arith }
+
+-- a line that passed: the numbers with it, and what it adds to the arrays
+record Passed (m : Sheet) (before : List Content) (x : Content) (line : Line) : Type 0 where
+  counts : Matches m (before ++ (x ∷ []))
+  units : unitPart line ≡ unitStream (unitsIn (x ∷ []))
+  rules : rulePart line ≡ ruleStream (rulesIn (x ∷ []))
+
+-- what a step says of the questions, where w is what is left to ask
+abbrev Verdicts : Step → Line → List Content → Content → ℕ → Verdict → Verdict → Type 0
+Verdicts (No q) line before x n v w = v ≡ no q n
+Verdicts (On m) line before x n v w = (v ≡ w) × Passed m before x line
+
+module _ (s : Sheet) (before : List Content) (c : Matches s before) where
+  more-units : (x : Content) → length (unitsIn (before ++ (x ∷ []))) ≡ s .units + length (unitsIn (x ∷ []))
+  unfolding unitsIn
+  more-units x = omega (
+    arith,
+    c .units,
+    ap length (joined-append windowOf before (x ∷ [])),
+    length-append (joined (map windowOf before))
+        (joined (map windowOf (x ∷ []))),
+  )
+
+  more-rules : (x : Content) → length (rulesIn (before ++ (x ∷ []))) ≡ s .rules + length (rulesIn (x ∷ []))
+  unfolding rulesIn
+  more-rules x = omega (
+    arith,
+    c .rules,
+    ap length (joined-append ruleOf before (x ∷ [])),
+    length-append (joined (map ruleOf before))
+        (joined (map ruleOf (x ∷ []))),
+  )
+
+  -- questions 9 and 10 of a line that adds no unit, or no rule
+  nine : (x : Content) → length (unitsIn (x ∷ [])) ≡ 0 → leb (length (unitsIn (before ++ (x ∷ [])))) maxUnits ≡ true
+  nine x e = le-leb (length (unitsIn (before ++ (x ∷ [])))) maxUnits (omega (arith, more-units x, c .few-units))
+
+  ten : (x : Content) → length (rulesIn (x ∷ [])) ≡ 0 → leb (length (rulesIn (before ++ (x ∷ [])))) maxRules ≡ true
+  ten x e = le-leb (length (rulesIn (before ++ (x ∷ [])))) maxRules (omega (arith, more-rules x, c .few-rules))
+
+  -- and of one that adds one
+  nine-more : (x : Content) → length (unitsIn (x ∷ [])) ≡ 1 → leb (length (unitsIn (before ++ (x ∷ [])))) maxUnits ≡ ltb (s .units) maxUnits
+  nine-more x e = let k : length (unitsIn (before ++ (x ∷ []))) ≡ suc (s .units) = omega (arith, more-units x) in ap (λ (j : ℕ). leb j maxUnits) k
+
+  ten-more : (x : Content) → length (rulesIn (x ∷ [])) ≡ 1 → leb (length (rulesIn (before ++ (x ∷ [])))) maxRules ≡ ltb (s .rules) maxRules
+  ten-more x e = let k : length (rulesIn (before ++ (x ∷ []))) ≡ suc (s .rules) = omega (arith, more-rules x) in ap (λ (j : ℕ). leb j maxRules) k
+
+  -- the numbers with a line that is no sheet form
+  matches-more : (x : Content) (u r : ℕ) → isSheet x ≡ false → ((p : ℕ) → spanElse x p ≡ p) → u ≡ s .units + length (unitsIn (x ∷ []))
+      → r ≡ s .rules + length (rulesIn (x ∷ [])) → u ≤ maxUnits → r ≤ maxRules → Matches (sheetOf (s .span) u r) (before ++ (x ∷ []))
+  matches-more x u r e h a b k l =
+      record {
+        span = c .span ∙ sym (spanIn-same before x h);
+        sheeted = hasSheet-more before x ∙ ap (λ (t : Bool). hasSheet before || t) e ∙ or-false (hasSheet before) ∙ c .sheeted;
+        units = a ∙ sym (more-units x);
+        rules = b ∙ sym (more-rules x);
+        few-units = k;
+        few-rules = l;
+      }
+
+  matches-sheet : (p : List ℕ) → eqb (s .span) 0 ≡ true → within 1 maxSlots (value p) ≡ true
+      → Matches (sheetOf (value p) (s .units) (s .rules)) (before ++ (sheet p ∷ []))
+  unfolding unitsIn rulesIn
+  matches-sheet p z h =
+      let none : hasSheet before ≡ false = c .sheeted ∙ ap not z in
+      let some : 1 ≤ value p = leb-true 1 (value p) (and-left (leb 1 (value p)) (leb (value p) maxSlots) h) in
+      record {
+        span = sym (spanIn-first before p none);
+        sheeted = hasSheet-more before (sheet p) ∙ or-true (hasSheet before) ∙ sym (ap not (ne-eqb (value p) 0 (λ e. omega arith)));
+        units = omega (arith, more-units (sheet p));
+        rules = omega (arith, more-rules (sheet p));
+        few-units = c .few-units;
+        few-rules = c .few-rules;
+      }
+
+-- ---- the verdict on a line, by what it is: the code asks on the left what the definition asks on the right
+
+module _ (before : List Content) (n : ℕ) (w : Verdict) (m : Sheet) (x : Content) (line : Line) where
+  sheet-verdict : (z t₆ h g₉ g₁₀ : Bool) → h ≡ not z → g₉ ≡ true → g₁₀ ≡ true → (z ≡ true → t₆ ≡ true → Passed m before x line)
+      → Verdicts (cond z (cond t₆ (On m) (No 6)) (No 5)) line before x n
+      (cond (not h) (cond t₆ (cond g₉ (cond g₁₀ w (no 10 n)) (no 9 n)) (no 6 n)) (no 5 n)) w
+  sheet-verdict z t₆ h g₉ g₁₀ e₅ e₉ e₁₀ p = rw (e₅, e₉, e₁₀) (go z t₆ p)
+    where
+      go : (z t₆ : Bool) → (z ≡ true → t₆ ≡ true → Passed m before x line)
+          → Verdicts (cond z (cond t₆ (On m) (No 6)) (No 5)) line before x n (cond (not (not z)) (cond t₆ w (no 6 n)) (no 5 n)) w
+      go true true p = (refl, p refl refl)
+      go true false p = refl
+      go false t₆ p = refl
+
+  unit-verdict : (z t₇ t₉ h g₇ g₉ g₁₀ : Bool) → h ≡ not z → g₇ ≡ t₇ → g₉ ≡ t₉ → g₁₀ ≡ true → (t₉ ≡ true → Passed m before x line)
+      → Verdicts (cond z (No 5) (cond t₇ (cond t₉ (On m) (No 9)) (No 7))) line before x n
+      (cond h (cond g₇ (cond g₉ (cond g₁₀ w (no 10 n)) (no 9 n)) (no 7 n)) (no 5 n)) w
+  unit-verdict z t₇ t₉ h g₇ g₉ g₁₀ e₅ e₇ e₉ e₁₀ p = rw (e₅, e₇, e₉, e₁₀) (go z t₇ t₉ p)
+    where
+      go : (z t₇ t₉ : Bool) → (t₉ ≡ true → Passed m before x line)
+          → Verdicts (cond z (No 5) (cond t₇ (cond t₉ (On m) (No 9)) (No 7))) line before x n (cond (not z) (cond t₇ (cond t₉ w (no 9 n)) (no 7 n)) (no 5 n)) w
+      go true t₇ t₉ p = refl
+      go false false t₉ p = refl
+      go false true false p = refl
+      go false true true p = (refl, p refl)
+
+  rule-verdict : (z t₇ t₈ t₁₀ h g₇ g₉ g₁₀ : Bool) → h ≡ not z → g₇ ≡ t₇ → g₉ ≡ true → g₁₀ ≡ t₁₀ → (t₁₀ ≡ true → Passed m before x line)
+      → Verdicts (cond z (No 5) (cond t₇ (cond t₈ (cond t₁₀ (On m) (No 10)) (No 8)) (No 7))) line before x n
+      (cond h (cond g₇ (cond t₈ (cond g₉ (cond g₁₀ w (no 10 n)) (no 9 n)) (no 8 n)) (no 7 n)) (no 5 n)) w
+  rule-verdict z t₇ t₈ t₁₀ h g₇ g₉ g₁₀ e₅ e₇ e₉ e₁₀ p = rw (e₅, e₇, e₉, e₁₀) (go z t₇ t₈ t₁₀ p)
+    where
+      go : (z t₇ t₈ t₁₀ : Bool) → (t₁₀ ≡ true → Passed m before x line)
+          → Verdicts (cond z (No 5) (cond t₇ (cond t₈ (cond t₁₀ (On m) (No 10)) (No 8)) (No 7))) line before x n
+          (cond (not z) (cond t₇ (cond t₈ (cond t₁₀ w (no 10 n)) (no 8 n)) (no 7 n)) (no 5 n)) w
+      go true t₇ t₈ t₁₀ p = refl
+      go false false t₈ t₁₀ p = refl
+      go false true false t₁₀ p = refl
+      go false true true false p = refl
+      go false true true true p = (refl, p refl)
+
+module _ (s : Sheet) (before : List Content) (c : Matches s before) (n : ℕ) (w : Verdict) where
+  -- questions 5 to 10
+  abbrev later : Content → Verdict
+  later x =
+      cond (inOrder before x) (cond (spanFits x) (cond (inSpan (spanIn before) x) (cond (countFits x)
+      (cond (leb (length (unitsIn (before ++ (x ∷ [])))) maxUnits) (cond (leb (length (rulesIn (before ++ (x ∷ [])))) maxRules) w (no 10 n)) (no 9 n))
+      (no 8 n)) (no 7 n)) (no 6 n)) (no 5 n)
+
+  stretch-same : (f l : ℕ) → isStretch (spanIn before) f l ≡ isStretch (s .span) f l
+  stretch-same f l = ap (λ (p : ℕ). isStretch p f l) (sym (c .span))
+
+  both-yes : (a b : Bool) (y z : Verdict) → a ≡ true → b ≡ true → cond a (cond b w y) z ≡ w
+  both-yes a b y z p q = rw (p, q) refl
+
+  note-later : Verdicts (stepOf s Line.Note) Line.Note before note n (later note) w
+  unfolding stepOf unitsIn rulesIn unitStream ruleStream
+  note-later = (
+    both-yes _ _ (no 10 n) (no 9 n) (nine s before c note refl) (ten s before c note refl),
+    record {
+      counts = matches-more s before c note (s .units) (s .rules) refl (λ p. refl) (sym (add-zero (s .units))) (sym (add-zero (s .rules))) (c .few-units)
+          (c .few-rules);
+      units = refl;
+      rules = refl;
+    },
+  )
+
+  sheet-later : (p : List ℕ) → Verdicts (stepOf s (valuesOf (sheet p))) (valuesOf (sheet p)) before (sheet p) n (later (sheet p)) w
+  unfolding stepOf unitsIn rulesIn unitStream ruleStream
+  sheet-later p =
+      sheet-verdict before n w (sheetOf (value p) (s .units) (s .rules)) (sheet p) (valuesOf (sheet p)) (eqb (s .span) 0) (within 1 maxSlots (value p)) _ _ _
+      (c .sheeted) (nine s before c (sheet p) refl) (ten s before c (sheet p) refl)
+      (λ z t. record { counts = matches-sheet s before c p z t; units = refl; rules = refl })
+
+  unit-later : (f l : List ℕ) → Verdicts (stepOf s (valuesOf (unit f l))) (valuesOf (unit f l)) before (unit f l) n (later (unit f l)) w
+  unfolding stepOf unitsIn rulesIn unitStream ruleStream
+  unit-later f l =
+      unit-verdict before n w (sheetOf (s .span) (s .units + 1) (s .rules)) (unit f l) (valuesOf (unit f l))
+      (eqb (s .span) 0) (isStretch (s .span) (value f) (value l)) (ltb (s .units) maxUnits) _ _ _ _
+      (c .sheeted) (stretch-same (value f) (value l)) (nine-more s before c (unit f l) refl) (ten s before c (unit f l) refl)
+      (λ t. record {
+        counts =
+            matches-more s before c (unit f l) (s .units + 1) (s .rules) refl (λ p. refl) refl (sym (add-zero (s .rules)))
+            (omega (arith, ltb-true (s .units) maxUnits t)) (c .few-rules);
+        units = refl;
+        rules = refl;
+      })
+
+  rule-later : (a b lo hi : List ℕ) →
+      Verdicts (stepOf s (valuesOf (rule a b lo hi))) (valuesOf (rule a b lo hi)) before (rule a b lo hi) n (later (rule a b lo hi)) w
+  unfolding stepOf unitsIn rulesIn unitStream ruleStream
+  rule-later a b lo hi =
+      rule-verdict before n w (sheetOf (s .span) (s .units) (s .rules + 1)) (rule a b lo hi) (valuesOf (rule a b lo hi))
+      (eqb (s .span) 0) (isStretch (s .span) (value a) (value b)) (isCount (value lo) (value hi)) (ltb (s .rules) maxRules) _ _ _ _
+      (c .sheeted) (stretch-same (value a) (value b)) (nine s before c (rule a b lo hi) refl) (ten-more s before c (rule a b lo hi) refl)
+      (λ t. record {
+        counts =
+            matches-more s before c (rule a b lo hi) (s .units) (s .rules + 1) refl (λ p. refl) (sym (add-zero (s .units))) refl
+            (c .few-units) (omega (arith, ltb-true (s .rules) maxRules t));
+        units = refl;
+        rules = refl;
+      })
+
+  -- question 4 before them
+  plain-verdict : (t : Bool) (x : Content) (v : Verdict) → Verdicts (stepOf s (valuesOf x)) (valuesOf x) before x n v w
+      → Verdicts (stepOf s (cond t (valuesOf x) (Line.Refused 4))) (cond t (valuesOf x) (Line.Refused 4)) before x n (cond t v (no 4 n)) w
+  unfolding stepOf
+  plain-verdict true x v h = h
+  plain-verdict false x v h = refl
+
+  -- question 3 before it
+  form-verdict : (e : Bool) (x : Content)
+      → Verdicts (stepOf s (cond e (said x) (Line.Refused 3))) (cond e (said x) (Line.Refused 3)) before x n
+      (cond (isForm x && e) (cond (every plain (numbersIn x)) (later x) (no 4 n)) (no 3 n)) w
+  unfolding stepOf said
+  form-verdict false x = rw (and-false (isForm x)) refl
+  form-verdict true note = note-later
+  form-verdict true (sheet p) = plain-verdict (every plain (p ∷ [])) (sheet p) (later (sheet p)) (sheet-later p)
+  form-verdict true (unit f l) = plain-verdict (every plain (f ∷ l ∷ [])) (unit f l) (later (unit f l)) (unit-later f l)
+  form-verdict true (rule a b lo hi) = plain-verdict (every plain (a ∷ b ∷ lo ∷ hi ∷ [])) (rule a b lo hi) (later (rule a b lo hi)) (rule-later a b lo hi)
+  form-verdict true other = refl
+
+-- all questions of a line
+line-verdict : (s : Sheet) (before : List Content) → Matches s before → (n : ℕ) (l : TextLine) (rest : List Question) →
+    let x = contentOf (l .bytes) in
+    Verdicts (stepOf s (lineOf (l .bytes) (l .ended))) (lineOf (l .bytes) (l .ended)) before x n (firstNo (questionsOf n before l x ++ rest)) (firstNo rest)
+unfolding lineOf firstNo stepOf
+line-verdict s before c n l rest = go (printable (l .bytes)) (bracketsMatch (contentOf (l .bytes)) (l .bytes))
+  where
+    x : Content
+    x = contentOf (l .bytes)
+
+    line : Bool → Bool → Line
+    line p b = cond p (cond b (cond (l .ended) (said x) (Line.Refused 3)) (Line.Refused 11)) (Line.Refused 2)
+
+    go : (p b : Bool) → Verdicts (stepOf s (line p b)) (line p b) before x n
+        (cond p (cond b (cond (isForm x && (l .ended)) (cond (every plain (numbersIn x)) (later s before c n (firstNo rest) x) (no 4 n)) (no 3 n)) (no 11 n))
+        (no 2 n)) (firstNo rest)
+    go true true = form-verdict s before c n (firstNo rest) (l .ended) x
+    go true false = refl
+    go false b = refl
+
+-- ---- the pass over the text
+
+-- a stream goes on where its numbers end
+sets-append : (xs ys array : List ℕ) (i : ℕ) → sets array i (xs ++ ys) ≡ sets (sets array i xs) (i + length xs) ys
+sets-append [] ys array i = ap (λ (k : ℕ). sets array k ys) (sym (add-zero i))
+sets-append (x ∷ xs) ys array i =
+    let e : suc i + length xs ≡ i + suc (length xs) = omega arith in
+    sets-append xs ys (set array i x) (suc i) ∙ ap (λ (k : ℕ). sets (sets (set array i x) (suc i) xs) k ys) e
+
+stream-more : {A B : Type 0} (block : B → List ℕ) (k : ℕ) → ((b : B) → length (block b) ≡ k)
+    → (f : A → List B) (xs : List A) (x : A) (m : ℕ) (array₀ array array′ part : List ℕ)
+    → m ≡ length (joined (map f xs)) → array ≡ sets array₀ 0 (joined (map block (joined (map f xs)))) → array′ ≡ sets array (k * m) part
+    → part ≡ joined (map block (joined (map f (x ∷ [])))) → array′ ≡ sets array₀ 0 (joined (map block (joined (map f (xs ++ (x ∷ []))))))
+stream-more block k h f xs x m array₀ array array′ part c e e′ p =
+    let old = joined (map block (joined (map f xs))) in
+    let new = joined (map block (joined (map f (x ∷ [])))) in
+    let at : k * m ≡ 0 + length old = ap (λ (j : ℕ). k * j) c ∙ sym (zero-add (length old) ∙ stream-length block k h (joined (map f xs))) in
+    let cut : joined (map block (joined (map f (xs ++ (x ∷ []))))) ≡ old ++ new =
+    ap (λ (l : List _). joined (map block l)) (joined-append f xs (x ∷ [])) ∙ joined-append block (joined (map f xs)) (joined (map f (x ∷ []))) in
+    e′ ∙ ap₂ (λ (l : List ℕ) (j : ℕ). sets l j part) e at ∙ ap (sets (sets array₀ 0 old) (0 + length old)) p
+    ∙ sym (sets-append old new array₀ 0) ∙ ap (sets array₀ 0) (sym cut)
+
+-- at the place `at`, where line n begins: what is left to ask decides, and the arrays hold the numbers of the lines before
+pub record Asking (t : List ℕ) (at n : ℕ) (s : Sheet) (units₀ units rules₀ rules : List ℕ) : Type 0 where
+  pub before : List Content
+  pub place : at ≤ length t + 1
+  pub number : n ≤ at + 1
+  pub counts : Matches s before
+  pub left : firstNo (lineQuestions 1 [] (lines t)) ≡ firstNo (lineQuestions n before (lines (drop at t)))
+  pub whole : contents (lines t) ≡ before ++ contents (lines (drop at t))
+  pub in-units : units ≡ sets units₀ 0 (unitStream (unitsIn before))
+  pub in-rules : rules ≡ sets rules₀ 0 (ruleStream (rulesIn before))
+
+pub asking-start : (t : List ℕ) (s : Sheet) (units rules : List ℕ) → s ≡ sheetOf 0 0 0 → Asking t 0 1 s units units rules rules
+unfolding unitsIn rulesIn unitStream ruleStream
+asking-start t s units rules e =
+    record {
+      before = [];
+      place = omega arith;
+      number = omega arith;
+      counts = rw e matches-none;
+      left = refl;
+      whole = refl;
+      in-units = refl;
+      in-rules = refl;
+    }
+
+module _ (t : List ℕ) (at n : ℕ) (s : Sheet) (units₀ units rules₀ rules : List ℕ) (i : Asking t at n s units₀ units rules₀ rules) where
+  -- the line that starts here, and the questions that are left
+  here : TextLine
+  here = textLine (firstLine (drop at t)) (hasFeed (drop at t))
+
+  is : Content
+  is = contentOf (firstLine (drop at t))
+
+  rest : ℕ → List Question
+  rest next = lineQuestions (suc n) (i .before ++ (is ∷ [])) (lines (drop next t))
+
+  module _ (next : ℕ) (h : at < length t) (e : next ≡ lineEnd t at + 1) (line : Line) (k : line ≡ lineOf (firstLine (drop at t)) (hasFeed (drop at t))) where
+    all-left : firstNo (lineQuestions 1 [] (lines t)) ≡ firstNo (questionsOf n (i .before) here is ++ rest next)
+    unfolding lineQuestions here is rest
+    all-left = i .left ∙ ap (λ (ls : List TextLine). firstNo (lineQuestions n (i .before) ls)) (lines-at t at next h e)
+
+    verdict : (r : Step) → stepOf s line ≡ r → Verdicts r line (i .before) is n (firstNo (questionsOf n (i .before) here is ++ rest next)) (firstNo (rest next))
+    unfolding here is rest
+    verdict r q =
+        subst (λ (x : Line). Verdicts r x (i .before) is n (firstNo (questionsOf n (i .before) here is ++ rest next)) (firstNo (rest next))) (sym k)
+        (subst (λ (o : Step). Verdicts o (lineOf (here .bytes) (here .ended)) (i .before) is n (firstNo (questionsOf n (i .before) here is ++ rest next))
+        (firstNo (rest next)))
+        (ap (stepOf s) (sym k) ∙ q) (line-verdict s (i .before) (i .counts) n here (rest next)))
+
+    pub asking-no : (q : ℕ) → stepOf s line ≡ No q → refused q n ≡ passAnswer t
+    unfolding passAnswer
+    asking-no q r =
+        let v : firstNo (lineQuestions 1 [] (lines t)) ≡ no q n = all-left ∙ verdict (No q) r in
+        let last = ask 5 0 (hasSheet (contents (lines t))) ∷ [] in
+        let a : firstNo (passQuestions t) ≡ no q n = firstNo-append (lineQuestions 1 [] (lines t)) last ∙ ap (λ (x : Verdict). andThen x (firstNo last)) v in
+        sym (ap (λ (x : Verdict). concluded x (sheetIn t)) a)
+
+    pub asking-on : (m : Sheet) (units′ rules′ : List ℕ) → stepOf s line ≡ On m → units′ ≡ sets units (2 * s .units) (unitPart line)
+        → rules′ ≡ sets rules (4 * s .rules) (rulePart line) → Asking t next (n + 1) m units₀ units′ rules₀ rules′
+    unfolding unitsIn rulesIn unitStream ruleStream rest is contents
+    asking-on m units′ rules′ r u v =
+        let p = verdict (On m) r in
+        record {
+          before = i .before ++ (is ∷ []);
+          place = omega (arith, end-within t at (omega arith));
+          number = omega arith;
+          counts = p .1 .counts;
+          left = all-left ∙ p .0 ∙ ap (λ (j : ℕ). firstNo (lineQuestions j (i .before ++ (is ∷ [])) (lines (drop next t)))) (sym (add-one n));
+          whole = i .whole ∙ ap (λ (ls : List TextLine). i .before ++ contents ls) (lines-at t at next h e)
+              ∙ sym (append-assoc (i .before) (is ∷ []) (contents (lines (drop next t))));
+          in-units = stream-more windowNumbers 2 (λ w. refl) windowOf (i .before) is (s .units) units₀ units units′ (unitPart line) (i .counts .units)
+              (i .in-units) u (p .1 .units);
+          in-rules = stream-more ruleNumbers 4 (λ w. refl) ruleOf (i .before) is (s .rules) rules₀ rules rules′ (rulePart line) (i .counts .rules)
+              (i .in-rules) v (p .1 .rules);
+        }
+
+  module _ (h : length t ≤ at) where
+    all-before : contents (lines t) ≡ i .before
+    unfolding contents
+    all-before = i .whole ∙ ap (λ (ls : List TextLine). i .before ++ contents ls) (lines-none t at h) ∙ append-nil (i .before)
+
+    all-asked : firstNo (lineQuestions 1 [] (lines t)) ≡ allYes
+    unfolding lineQuestions firstNo
+    all-asked = i .left ∙ ap (λ (ls : List TextLine). firstNo (lineQuestions n (i .before) ls)) (lines-none t at h)
+
+    last-asked : (z : Bool) → eqb (s .span) 0 ≡ z → firstNo (passQuestions t) ≡ cond (not z) allYes (no 5 0)
+    unfolding firstNo
+    last-asked z e =
+        firstNo-append (lineQuestions 1 [] (lines t)) (ask 5 0 (hasSheet (contents (lines t))) ∷ [])
+        ∙ ap (λ (x : Verdict). andThen x (cond (hasSheet (contents (lines t))) allYes (no 5 0))) all-asked
+        ∙ ap (λ (b : Bool). cond b allYes (no 5 0)) (ap hasSheet all-before ∙ i .counts .sheeted ∙ ap not e)
+
+    pub asking-none : s .span ≡ 0 → refused 5 0 ≡ passAnswer t
+    unfolding passAnswer
+    asking-none e = sym (ap (λ (x : Verdict). concluded x (sheetIn t)) (last-asked true (eq-eqb (s .span) 0 e)))
+
+    pub asking-sheet : (s .span ≡ 0 → ⊥) → read (s .span) (s .units) (s .rules) ≡ passAnswer t
+    unfolding passAnswer sheetIn
+    asking-sheet e =
+        let c = i .counts in
+        let b = all-before in
+        rw (last-asked false (ne-eqb (s .span) 0 e)) (rw (b, c .span, c .units, c .rules) refl)
+
+    pub units-kept : units ≡ sets units₀ 0 (unitStream (sheetIn t .units))
+    unfolding sheetIn
+    units-kept = i .in-units ∙ ap (λ (xs : List Content). sets units₀ 0 (unitStream (unitsIn xs))) (sym all-before)
+
+    pub rules-kept : rules ≡ sets rules₀ 0 (ruleStream (sheetIn t .rules))
+    unfolding sheetIn
+    rules-kept = i .in-rules ∙ ap (λ (xs : List Content). sets rules₀ 0 (ruleStream (rulesIn xs))) (sym all-before)
+
+-- the arrays keep their lengths
+module _ (t : List ℕ) (at n : ℕ) (s : Sheet) (units₀ units rules₀ rules : List ℕ) (i : Asking t at n s units₀ units rules₀ rules) where
+  pub units-size : length units ≡ length units₀
+  units-size = ap length (i .in-units) ∙ length-sets units₀ 0 (unitStream (unitsIn (i .before)))
+
+  pub rules-size : length rules ≡ length rules₀
+  rules-size = ap length (i .in-rules) ∙ length-sets rules₀ 0 (ruleStream (rulesIn (i .before)))

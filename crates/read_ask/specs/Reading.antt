@@ -1,0 +1,208 @@
+-- What reading a text answers (document 01, "Questions a call asks"): the text's lines, what each line is, the questions in their order, and the first
+-- that is answered no. Definitions only, with no grid and no reading states.
+use Prim.Native.Nat.{ℕ, suc}
+use mathlib.Core.Bool.{Bool, true, false, _&&_, _||_, not, cond}
+use mathlib.Core.List.{List, [], _∷_, _++_, map}
+use lib.ListN.{length}
+use lib.Dec.{leb}
+use Rattle.lists.specs.Lists.{within, every, joined}
+use Rattle.sheet.specs.Sizes.{maxSlots, maxUnits, maxRules, maxCount, maxBytes}
+use Rattle.sheet.specs.Sheet.{Window, Rule, Sheet}
+use Rattle.forms.specs.Form.{printable, plain, value}
+use Rattle.forms.specs.Lines.{TextLine, lines}
+use Rattle.read_line.specs.Content.{Content, note, sheet, unit, rule, other, contentOf, bracketsMatch, numbersIn}
+use Rattle.read_ask.specs.declared.Reading.{Reading}
+use Rattle.read_ask.specs.declared.Reading.the-variants as Reading
+
+-- ---- what the lines say
+
+unfoldable pub contents : List TextLine → List Content
+contents ls = map (λ l. contentOf (l .bytes)) ls
+
+abbrev pub isSheet : Content → Bool
+isSheet note = false
+isSheet (sheet p) = true
+isSheet (unit f l) = false
+isSheet (rule a b lo hi) = false
+isSheet other = false
+
+unfoldable pub hasSheet : List Content → Bool
+hasSheet [] = false
+hasSheet (x ∷ xs) = isSheet x || hasSheet xs
+
+-- the span of the first sheet form, and 0 without one
+abbrev pub spanElse : Content → ℕ → ℕ
+spanElse note p = p
+spanElse (sheet q) p = value q
+spanElse (unit f l) p = p
+spanElse (rule a b lo hi) p = p
+spanElse other p = p
+
+unfoldable pub spanIn : List Content → ℕ
+spanIn [] = 0
+spanIn (x ∷ xs) = spanElse x (spanIn xs)
+
+-- the units and the rules, in order of lines
+abbrev pub windowOf : Content → List Window
+windowOf note = []
+windowOf (sheet p) = []
+windowOf (unit f l) = record { first = value f; last = value l } ∷ []
+windowOf (rule a b lo hi) = []
+windowOf other = []
+
+unfoldable pub unitsIn : List Content → List Window
+unitsIn xs = joined (map windowOf xs)
+
+abbrev pub ruleOf : Content → List Rule
+ruleOf note = []
+ruleOf (sheet p) = []
+ruleOf (unit f l) = []
+ruleOf (rule a b lo hi) = record { from = value a; to = value b; low = value lo; high = value hi } ∷ []
+ruleOf other = []
+
+unfoldable pub rulesIn : List Content → List Rule
+rulesIn xs = joined (map ruleOf xs)
+
+unfoldable pub sheetIn : List ℕ → Sheet
+sheetIn text =
+    let xs = contents (lines text) in
+    record { span = spanIn xs; units = unitsIn xs; rules = rulesIn xs }
+
+-- ---- the questions of a line
+
+pub record Question : Type 0 where
+  pub number : ℕ
+  pub line : ℕ
+  pub yes : Bool
+
+abbrev pub ask : ℕ → ℕ → Bool → Question
+ask q n y = record { number = q; line = n; yes = y }
+
+-- 3
+abbrev pub isForm : Content → Bool
+isForm note = true
+isForm (sheet p) = true
+isForm (unit f l) = true
+isForm (rule a b lo hi) = true
+isForm other = false
+
+-- 5, after these lines
+abbrev pub inOrder : List Content → Content → Bool
+inOrder before note = true
+inOrder before (sheet p) = not (hasSheet before)
+inOrder before (unit f l) = hasSheet before
+inOrder before (rule a b lo hi) = hasSheet before
+inOrder before other = true
+
+-- 6
+abbrev pub spanFits : Content → Bool
+spanFits note = true
+spanFits (sheet p) = within 1 maxSlots (value p)
+spanFits (unit f l) = true
+spanFits (rule a b lo hi) = true
+spanFits other = true
+
+-- 1 ≤ first ≤ last ≤ span
+abbrev pub isStretch : ℕ → ℕ → ℕ → Bool
+isStretch span first last = leb 1 first && (leb first last && leb last span)
+
+-- 7, with this span
+abbrev pub inSpan : ℕ → Content → Bool
+inSpan span note = true
+inSpan span (sheet p) = true
+inSpan span (unit f l) = isStretch span (value f) (value l)
+inSpan span (rule a b lo hi) = isStretch span (value a) (value b)
+inSpan span other = true
+
+-- low ≤ high ≤ 300
+abbrev pub isCount : ℕ → ℕ → Bool
+isCount low high = leb low high && leb high maxCount
+
+-- 8
+abbrev pub countFits : Content → Bool
+countFits note = true
+countFits (sheet p) = true
+countFits (unit f l) = true
+countFits (rule a b lo hi) = isCount (value lo) (value hi)
+countFits other = true
+
+-- what is asked of the line with this number that is this content and stands after these lines
+abbrev pub questionsOf : ℕ → List Content → TextLine → Content → List Question
+questionsOf n before l x =
+    let here = before ++ (x ∷ []) in
+    ask 2 n (printable (l .bytes)) ∷
+    ask 11 n (bracketsMatch x (l .bytes)) ∷
+    ask 3 n (isForm x && (l .ended)) ∷
+    ask 4 n (every plain (numbersIn x)) ∷
+    ask 5 n (inOrder before x) ∷
+    ask 6 n (spanFits x) ∷
+    ask 7 n (inSpan (spanIn before) x) ∷
+    ask 8 n (countFits x) ∷
+    ask 9 n (leb (length (unitsIn here)) maxUnits) ∷
+    ask 10 n (leb (length (rulesIn here)) maxRules) ∷
+    []
+
+-- of these lines, numbered from n on, which stand after others
+unfoldable pub lineQuestions : ℕ → List Content → List TextLine → List Question
+lineQuestions n before [] = []
+lineQuestions n before (l ∷ ls) =
+    let x = contentOf (l .bytes) in
+    questionsOf n before l x ++ lineQuestions (suc n) (before ++ (x ∷ [])) ls
+
+-- ---- the questions of a call
+
+-- one of these for each lent room
+pub record Rooms (A : Type 0) : Type 0 where
+  pub first : A
+  pub last : A
+  pub from : A
+  pub to : A
+  pub low : A
+  pub high : A
+
+abbrev pub rooms : {A : Type 0} → A → A → A → A → A → A → Rooms A
+rooms a b c d e f = record { first = a; last = b; from = c; to = d; low = e; high = f }
+
+-- 12, for so many units and rules
+abbrev pub roomsFit : ℕ → ℕ → Rooms ℕ → Bool
+roomsFit units rules sizes =
+    leb units (sizes .first) && (leb units (sizes .last) &&
+    (leb rules (sizes .from) && (leb rules (sizes .to) && (leb rules (sizes .low) && leb rules (sizes .high)))))
+
+-- rooms for as many units and rules as a sheet may have
+abbrev pub roomsForAll : Rooms ℕ
+roomsForAll = rooms maxUnits maxUnits maxRules maxRules maxRules maxRules
+
+unfoldable pub questions : List ℕ → Rooms ℕ → List Question
+questions text sizes =
+    (ask 1 0 (leb (length text) maxBytes) ∷ []) ++
+    (lineQuestions 1 [] (lines text) ++
+    (ask 5 0 (hasSheet (contents (lines text))) ∷ ask 12 0 (roomsFit (length (sheetIn text .units)) (length (sheetIn text .rules)) sizes) ∷ []))
+
+-- ---- the answer
+
+-- a refusal by this question at this line, or a sheet with this span and so many units and rules
+pub data Answer : Type 0 where
+  refused : (number line : ℕ) → Answer
+  read : (span units rules : ℕ) → Answer
+
+-- document 01's number and values for each case of the reply
+abbrev pub answerOf : Reading → Answer
+answerOf (Reading.Refused f) = refused (f .number) (f .line)
+answerOf (Reading.Sheet s) = read (s .span) (s .units) (s .rules)
+
+pub data Verdict : Type 0 where
+  no : (number line : ℕ) → Verdict
+  allYes : Verdict
+
+-- the first no decides
+unfoldable pub firstNo : List Question → Verdict
+firstNo [] = allYes
+firstNo (q ∷ qs) = cond (q .yes) (firstNo qs) (no (q .number) (q .line))
+
+abbrev pub concluded : Verdict → Sheet → Answer
+concluded (no q n) s = refused q n
+concluded allYes s = read (s .span) (length (s .units)) (length (s .rules))
+
+unfoldable pub reading : List ℕ → Rooms ℕ → Answer
+reading text sizes = concluded (firstNo (questions text sizes)) (sheetIn text)

@@ -1,0 +1,97 @@
+-- Texts read by the definitions alone: document 01's sheet, and a refusal by each question that a short text can fail. Each claim is computed.
+use Prim.Native.Nat.{ℕ, _+_}
+use mathlib.Core.Path.{_≡_, refl}
+use mathlib.Core.List.{List, [], _∷_, _++_, map}
+use Rattle.lists.specs.Lists.{joined}
+use Rattle.forms.specs.Words.{lineFeed, space, opening, closing, zeroDigit, openNote}
+use Rattle.forms.specs.Form.{printable, leading, past, valueFrom, plain, sheetForm, unitForm, ruleForm, written, matches, numbers}
+use Rattle.read_notes.specs.Note.{matched}
+use Rattle.forms.specs.Lines.{lines}
+use Rattle.read_line.specs.Content.{isNote, noteMatched, contentOf}
+use Rattle.read_ask.specs.Reading.{contents, hasSheet, spanIn, unitsIn, rulesIn, sheetIn, lineQuestions, Rooms, rooms, questions}
+use Rattle.read_ask.specs.Reading.{Answer, refused, read, firstNo, reading}
+
+-- ---- lines
+
+abbrev digit : ℕ → List ℕ
+digit n = (zeroDigit + n) ∷ []
+
+abbrev feed : List ℕ → List ℕ
+feed w = w ++ (lineFeed ∷ [])
+
+abbrev sheetLine : List ℕ → List ℕ
+sheetLine p = feed (written sheetForm (p ∷ []))
+
+abbrev unitLine : List ℕ → List ℕ → List ℕ
+unitLine f l = feed (written unitForm (f ∷ l ∷ []))
+
+abbrev ruleLine : List ℕ → List ℕ → List ℕ → List ℕ → List ℕ
+ruleLine a b lo hi = feed (written ruleForm (a ∷ b ∷ lo ∷ hi ∷ []))
+
+-- (note ..), (noted) and (note) with these bytes after the word
+abbrev noteLine : List ℕ → List ℕ
+noteLine w = feed (openNote ++ w)
+
+abbrev letter : ℕ
+letter = 97
+
+abbrev tab : ℕ
+tab = 9
+
+-- ---- texts and their answers
+
+pub record Sample : Type 0 where
+  pub text : List ℕ
+  pub sizes : Rooms ℕ
+  pub answer : Answer
+
+-- with rooms that are long enough
+abbrev sample : List (List ℕ) → Answer → Sample
+sample ls a = record { text = joined ls; sizes = rooms 300 300 60 60 60 60; answer = a }
+
+abbrev shownSheet : List (List ℕ)
+shownSheet =
+    sheetLine (digit 4) ∷ unitLine (digit 1) (digit 2) ∷ unitLine (digit 1) (digit 4) ∷ ruleLine (digit 1) (digit 2) (digit 1) (digit 1) ∷
+    ruleLine (digit 2) (digit 3) (digit 1) (digit 1) ∷ ruleLine (digit 3) (digit 4) (digit 1) (digit 1) ∷ []
+
+abbrev samples : List Sample
+samples =
+    sample shownSheet (read 4 2 3) ∷
+    -- 2: a tab in a note
+    sample (sheetLine (digit 4) ∷ noteLine (space ∷ tab ∷ closing ∷ []) ∷ []) (refused 2 2) ∷
+    -- 11: a bracket that is open, and one too many
+    sample (noteLine (space ∷ opening ∷ letter ∷ closing ∷ []) ∷ []) (refused 11 1) ∷
+    sample (noteLine (space ∷ closing ∷ closing ∷ []) ∷ []) (refused 11 1) ∷
+    -- 3: an empty line, a word that is not `(note`, a line without its line feed
+    sample ((lineFeed ∷ []) ∷ []) (refused 3 1) ∷
+    sample (noteLine (letter ∷ closing ∷ []) ∷ []) (refused 3 1) ∷
+    sample (noteLine (closing ∷ []) ∷ written sheetForm (digit 4 ∷ []) ∷ []) (refused 3 2) ∷
+    -- 4 before 5: a needless zero in a rule before the sheet form
+    sample (ruleLine (digit 0 ++ digit 5) (digit 6) (digit 0) (digit 1) ∷ []) (refused 4 1) ∷
+    -- 5 before 6: a second sheet form; and no sheet form at all
+    sample (noteLine (closing ∷ []) ∷ sheetLine (digit 4) ∷ sheetLine (digit 9 ++ digit 9) ∷ []) (refused 5 3) ∷
+    sample [] (refused 5 0) ∷
+    -- 6, 7, 8
+    sample (sheetLine (digit 4 ++ digit 9) ∷ []) (refused 6 1) ∷
+    sample (sheetLine (digit 4) ∷ unitLine (digit 4) (digit 3) ∷ []) (refused 7 2) ∷
+    sample (sheetLine (digit 3) ∷ ruleLine (digit 1) (digit 2) (digit 0) (digit 3 ++ (digit 0 ++ digit 1)) ∷ []) (refused 8 2) ∷
+    -- 12: a room that is too short
+    record { text = joined shownSheet; sizes = rooms 2 2 3 3 3 2; answer = refused 12 0 } ∷
+    []
+
+pub samples-read : map (λ s. reading (s .text) (s .sizes)) samples ≡ map (λ s. s .answer) samples
+unfolding printable leading past valueFrom plain written matches numbers matched lines isNote noteMatched contentOf
+    contents hasSheet spanIn unitsIn rulesIn sheetIn lineQuestions questions firstNo reading
+samples-read = refl
+
+-- the lists of document 01's sheet
+pub shown-lists :
+    sheetIn (joined shownSheet) ≡ record {
+      span = 4;
+      units = record { first = 1; last = 2 } ∷ record { first = 1; last = 4 } ∷ [];
+      rules =
+          record { from = 1; to = 2; low = 1; high = 1 } ∷ record { from = 2; to = 3; low = 1; high = 1 } ∷
+          record { from = 3; to = 4; low = 1; high = 1 } ∷ [];
+    }
+unfolding leading past valueFrom written matches numbers lines isNote contentOf contents spanIn unitsIn rulesIn sheetIn
+shown-lists = refl

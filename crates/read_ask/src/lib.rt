@@ -1,0 +1,181 @@
+ghost use mathlib.Core.Path.{_≡_};
+ghost use mathlib.Core.List.{[], _∷_};
+ghost use Prim.Native.Nat.{_*_, _≤_};
+ghost use lib.ListN.{length};
+ghost use Rattle.sheet.specs.Sizes.{maxUnits, maxRules};
+ghost use Rattle.read_ask.specs.Reading.{isStretch, isCount, answerOf};
+ghost use Rattle.read_ask.specs.Steps.{stepOf, unitPart, rulePart, keptBy, passAnswer, Kept};
+use read_line::Line;
+use sheet::Sheet;
+
+// Document 01's number of the question that was answered no, and the line; 0 where no line is to blame.
+pub struct Refusal {
+    pub number: usize,
+    pub line: usize,
+}
+
+pub enum Reading {
+    Refused(Refusal),
+    Sheet(Sheet),
+}
+
+// The question that a line fails, or the sheet with that line.
+pub enum Step {
+    No(usize),
+    On(Sheet),
+}
+
+fn wide(x: u16) -> usize
+    ensures { λ r. ⌜ r ≡ x ⌝ }
+{
+    x as usize
+}
+
+// Question 7.
+fn is_stretch(span: usize, first: u16, last: u16) -> bool
+    ensures { λ r. ⌜ r ≡ isStretch span first last ⌝ }
+{
+    if first < 1 {
+        return false;
+    }
+    if last < first {
+        return false;
+    }
+    wide(last) <= span
+}
+
+// Questions 5 and 6.
+fn sheet_step(s: Sheet, span: u16) -> Step
+    ensures { λ r. ⌜ r ≡ stepOf s (Line.Sheet span) ⌝ }
+{
+    if s.span != 0 {
+        return Step::No(5);
+    }
+    let p = wide(span);
+    if p < 1 {
+        return Step::No(6);
+    }
+    if Sheet::MAX_SLOTS < p {
+        return Step::No(6);
+    }
+    Step::On(Sheet {
+        span: p,
+        units: s.units,
+        rules: s.rules,
+    })
+}
+
+// Questions 5, 7 and 9; a unit that passes is kept.
+fn unit_step(s: Sheet, first: u16, last: u16, units: &mut [u16]) -> Step
+    requires { ⌜ 2 * maxUnits ≤ length (now units) ⌝ }
+    ensures { λ r. ⌜ r ≡ stepOf s (Line.Unit first last) ⌝ }
+    ensures { λ r. ⌜ now (units .exit) ≡ keptBy r (now (units .entry)) (2 * s .units) (first ∷ last ∷ []) ⌝ }
+{
+    let n = s.units;
+    if s.span == 0 {
+        return Step::No(5);
+    }
+    if !is_stretch(s.span, first, last) {
+        return Step::No(7);
+    }
+    if n < Sheet::MAX_UNITS {
+        let at = 2 * n;
+        units[at] = first;
+        units[at + 1] = last;
+        return Step::On(Sheet {
+            span: s.span,
+            units: n + 1,
+            rules: s.rules,
+        });
+    }
+    Step::No(9)
+}
+
+// Question 8.
+fn is_count(low: u16, high: u16) -> bool
+    ensures { λ r. ⌜ r ≡ isCount low high ⌝ }
+{
+    if high < low {
+        return false;
+    }
+    wide(high) <= Sheet::MAX_COUNT
+}
+
+// Questions 5, 7, 8 and 10; a rule that passes is kept.
+fn rule_step(s: Sheet, from: u16, to: u16, low: u16, high: u16, rules: &mut [u16]) -> Step
+    requires { ⌜ 4 * maxRules ≤ length (now rules) ⌝ }
+    ensures { λ r. ⌜ r ≡ stepOf s (Line.Rule from to low high) ⌝ }
+    ensures { λ r. ⌜ now (rules .exit) ≡ keptBy r (now (rules .entry)) (4 * s .rules) (from ∷ to ∷ low ∷ high ∷ []) ⌝ }
+{
+    let n = s.rules;
+    if s.span == 0 {
+        return Step::No(5);
+    }
+    if !is_stretch(s.span, from, to) {
+        return Step::No(7);
+    }
+    if !is_count(low, high) {
+        return Step::No(8);
+    }
+    if n < Sheet::MAX_RULES {
+        let at = 4 * n;
+        rules[at] = from;
+        rules[at + 1] = to;
+        rules[at + 2] = low;
+        rules[at + 3] = high;
+        return Step::On(Sheet {
+            span: s.span,
+            units: s.units,
+            rules: n + 1,
+        });
+    }
+    Step::No(10)
+}
+
+// A line after those of a sheet: questions 5 to 10, and its numbers into the arrays.
+fn line_step(s: Sheet, line: Line, units: &mut [u16], rules: &mut [u16]) -> Step
+    requires { ⌜ (2 * maxUnits ≤ length (now units)) × (4 * maxRules ≤ length (now rules)) ⌝ }
+    ensures { λ r. ⌜ r ≡ stepOf s line ⌝ }
+    ensures { λ r. ⌜ now (units .exit) ≡ keptBy r (now (units .entry)) (2 * s .units) (unitPart line) ⌝ }
+    ensures { λ r. ⌜ now (rules .exit) ≡ keptBy r (now (rules .entry)) (4 * s .rules) (rulePart line) ⌝ }
+{
+    match line {
+        Line::Refused(q) => Step::No(q),
+        Line::Note => Step::On(s),
+        Line::Sheet(span) => sheet_step(s, span),
+        Line::Unit(first, last) => unit_step(s, first, last, units),
+        Line::Rule(from, to, low, high) => rule_step(s, from, to, low, high, rules),
+    }
+}
+
+// The pass over the text: every question but 1 and 12. The numbers of units and rules go into the arrays.
+pub fn ask(text: &[u8], units: &mut [u16], rules: &mut [u16]) -> Reading
+    requires { ⌜ (2 * maxUnits ≤ length (now units)) × (4 * maxRules ≤ length (now rules)) ⌝ }
+    ensures { λ r. ⌜ answerOf r ≡ passAnswer (now (text .entry)) ⌝ }
+    ensures { λ r. ⌜ Kept r (now (text .entry)) (now (units .entry)) (now (units .exit)) (now (rules .entry)) (now (rules .exit)) ⌝ }
+{
+    let grid = read_form::grid_table();
+    let table = read_form::class_table();
+    let mut s = Sheet::empty();
+    let mut at: usize = 0;
+    let mut n: usize = 1;
+    while at < text.len() {
+        let found = read_line::line_at(text, at, &grid, &table);
+        let line = found.line;
+        let step = line_step(s, line, units, rules);
+        match step {
+            Step::No(q) => {
+                return Reading::Refused(Refusal { number: q, line: n });
+            }
+            Step::On(more) => {
+                s = more;
+            }
+        }
+        at = found.next;
+        n += 1;
+    }
+    if s.span == 0 {
+        return Reading::Refused(Refusal { number: 5, line: 0 });
+    }
+    Reading::Sheet(s)
+}

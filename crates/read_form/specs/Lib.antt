@@ -1,0 +1,4 @@
+pub mod Kinds
+pub mod Number
+pub mod Grid
+pub mod GridLaws

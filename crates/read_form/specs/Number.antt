@@ -1,0 +1,12 @@
+-- What the number reader answers at a place of a text.
+use Prim.Native.Nat.{ℕ, _+_}
+use mathlib.Core.Bool.{cond}
+use mathlib.Core.List.{List}
+use lib.ListN.{length}
+use Rattle.forms.specs.Form.{plain, value}
+use Rattle.read_form.specs.declared.Number.{Number}
+use Rattle.read_form.specs.declared.Number.the-variants.{Plain, Faulty}
+
+-- the number with these digits, which starts at a place
+unfoldable pub numberOf : List ℕ → ℕ → Number
+numberOf digits at = cond (plain digits) (Plain (value digits) (at + length digits)) Faulty

@@ -1,0 +1,118 @@
+ghost use mathlib.Core.Path.{_≡_};
+ghost use mathlib.Core.Bool.{true, false};
+ghost use Prim.Native.Nat.{_+_, _-_, _<_, _≤_};
+ghost use lib.ListN.{drop};
+ghost use Rattle.forms.specs.Form.{isDigit, leading};
+ghost use Rattle.read_form.specs.Grid.{grid, classes, states, nextOf, classOf, kindAt, Tables};
+ghost use Rattle.read_form.specs.Number.{numberOf};
+
+mod tables;
+
+// The two tables. A caller takes each once and lends it: a constant array that is indexed is rebuilt at each use.
+pub fn grid_table() -> [[u8; 19]; 59]
+    ensures { λ r. ⌜ r ≡ grid ⌝ }
+{
+    tables::GRID
+}
+
+pub fn class_table() -> [u8; 256]
+    ensures { λ r. ⌜ r ≡ classes ⌝ }
+{
+    tables::CLASSES
+}
+
+// The state in which the first byte of a line is read.
+pub const START: usize = 2;
+
+// What a line is, as far as its bytes alone tell.
+pub enum Kind {
+    Unprintable,
+    Sheet,
+    Unit,
+    Rule,
+    Other,
+}
+
+fn class_of(table: &[u8; 256], b: u8) -> usize
+    requires { ⌜ now table ≡ classes ⌝ }
+    ensures { λ r. ⌜ (r ≡ classOf b) × (r < 19) ⌝ }
+{
+    let c = table[b as usize];
+    c as usize
+}
+
+// One step of the form reader: the state after one byte more.
+pub fn next_state(grid: &[[u8; 19]; 59], table: &[u8; 256], state: usize, b: u8) -> usize
+    requires { ⌜ Tables (now grid) (now table) × (state < states) ⌝ }
+    ensures { λ r. ⌜ (r ≡ nextOf state (classOf b)) × (r < states) ⌝ }
+{
+    let c = class_of(table, b);
+    let next = grid[state][c];
+    next as usize
+}
+
+// What the line is whose last byte led to a state.
+pub fn kind_at(state: usize) -> Kind
+    ensures { λ r. ⌜ r ≡ kindAt state ⌝ }
+{
+    match state {
+        1 => Kind::Unprintable,
+        11 => Kind::Sheet,
+        29 => Kind::Unit,
+        58 => Kind::Rule,
+        _ => Kind::Other,
+    }
+}
+
+// A number's value and the place past it, or that question 4 is answered no.
+pub enum Number {
+    Plain { value: u16, next: usize },
+    Faulty,
+}
+
+fn is_digit(b: u8) -> bool
+    ensures { λ r. ⌜ r ≡ isDigit b ⌝ }
+{
+    if b < b'0' {
+        return false;
+    }
+    b <= b'9'
+}
+
+fn digit(b: u8) -> u16
+    requires { ⌜ isDigit b ≡ true ⌝ }
+    ensures { λ r. ⌜ (r ≡ b - 48) × (r ≤ 9) ⌝ }
+{
+    (b - b'0') as u16
+}
+
+// The largest value to which a digit may still be added: it has three digits.
+const MAX_PREFIX: u16 = 999;
+
+// The number whose digits start at a place.
+pub fn number_at(s: &[u8], at: usize) -> Number
+    ensures { λ r. ⌜ r ≡ numberOf (leading (drop at (now (s .entry)))) at ⌝ }
+{
+    if s.len() <= at {
+        return Number::Faulty;
+    }
+    if !is_digit(s[at]) {
+        return Number::Faulty;
+    }
+    let mut value = digit(s[at]);
+    let mut i = at + 1;
+    while i < s.len() {
+        if !is_digit(s[i]) {
+            return Number::Plain { value, next: i };
+        }
+        if value == 0 {
+            return Number::Faulty;
+        }
+        if MAX_PREFIX < value {
+            return Number::Faulty;
+        }
+        value = value * 10 + digit(s[i]);
+        i += 1;
+    }
+    Number::Plain { value, next: i }
+}

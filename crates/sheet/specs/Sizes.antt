@@ -1,0 +1,37 @@
+-- The sizes of a sheet, as its associated constants state them: the one place in specs where they stand. Boundaries are network's `maxBoundaries`, which
+-- `boundaries-max` ties to the slots.
+use Prim.Native.Nat.{ℕ, _+_, _*_}
+use mathlib.Core.Path.{_≡_, refl}
+use Rattle.network.specs.Table.{maxBoundaries}
+
+abbrev pub maxSlots : ℕ
+maxSlots = 48
+
+abbrev pub maxUnits : ℕ
+maxUnits = 300
+
+abbrev pub maxRules : ℕ
+maxRules = 60
+
+-- the largest count a rule may name
+abbrev pub maxCount : ℕ
+maxCount = 300
+
+-- the longest text
+abbrev pub maxBytes : ℕ
+maxBytes = 16000
+
+-- the entries of the largest table
+abbrev pub maxCells : ℕ
+maxCells = maxBoundaries * maxBoundaries
+
+-- the top boundary of a span, and how many boundaries it has: the one place where the two are counted from the slots
+abbrev pub topOf : ℕ → ℕ
+topOf span = span
+
+abbrev pub boundariesOf : ℕ → ℕ
+boundariesOf span = topOf span + 1
+
+-- the network's constant is the number of boundaries of the longest span
+pub boundaries-max : maxBoundaries ≡ boundariesOf maxSlots
+boundaries-max = refl
