@@ -9,7 +9,8 @@ use Rattle.network.specs.Table.{Passed, finished, stopped, outOfRange}
 use Rattle.sheet.specs.Sheet.{Sheet, isRing}
 use Rattle.read_ask.specs.Reading.{Verdict, no, allYes, firstNo, questions, roomsForAll, sheetIn}
 use Rattle.plan_ask.specs.Questions.{passed}
-use Rattle.print_bytes.specs.Writing.{text, digits, Written}
+use Rattle.forms.specs.Words.{text}
+use Rattle.print_bytes.specs.Writing.{digits, Written}
 use Rattle.print_answer.specs.Printing.{planBytes, ringBytes}
 
 -- the line of a refusal, as `(refused 7 (line 3))`

@@ -21,7 +21,8 @@ use Rattle.read_ask.specs.AcceptedLaws.{reading-accepts}
 use Rattle.read_ask.specs.RefusalLaws.{reading-refusals}
 use Rattle.plan_ask.specs.Questions.{passed}
 use Rattle.plan_solve.specs.PlanningLaws.{passed-solved, stopped-unlawful}
-use Rattle.print_bytes.specs.Writing.{text, digits, digitsWithin, planHead}
+use Rattle.forms.specs.Words.{text}
+use Rattle.print_bytes.specs.Writing.{digits, digitsWithin, planHead}
 use Rattle.print_page.specs.Page.{planPage, nonePage, maxPage}
 use Rattle.print_page.specs.PageBounds.{plan-short, none-short}
 use Rattle.print_page.specs.PageLines.{slot, unit, readLines, unitLinesWith}

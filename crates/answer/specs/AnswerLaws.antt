@@ -23,7 +23,8 @@ use Rattle.plan_solve.specs.Planning.{byPass, Left}
 use Rattle.plan_ask.specs.Asking.{Solvable}
 use Rattle.plan.specs.EntryLaws.{verdict-solvable}
 use Rattle.plan_solve.specs.declared.Answer.{Answer as Planned}
-use Rattle.print_bytes.specs.Writing.{text, onto, Room, Written}
+use Rattle.forms.specs.Words.{text}
+use Rattle.print_bytes.specs.Writing.{onto, Room, Written}
 use Rattle.print_page.specs.Page.{maxPage}
 use Rattle.print_page.specs.PageBounds.{five-at-most, plan-short, none-short}
 use Rattle.print_answer.specs.Printing.{planBytes, ringBytes, holds, Asked, Shown, Printing}

@@ -6,7 +6,7 @@ use mathlib.Core.List.{List, [], _∷_, _++_}
 use lib.ListN.{length, drop}
 use lib.Dec.{eqb, leb}
 use Rattle.lists.specs.Lists.{within, every}
-use Rattle.forms.specs.Words.{zeroDigit, nineDigit, firstPrintable, lastPrintable, openSheet, openUnit, openRule, openCount, between, close, closeTwo}
+use Rattle.forms.specs.Words.{zeroDigit, nineDigit, firstPrintable, lastPrintable}
 
 -- ---- bytes
 
@@ -57,19 +57,6 @@ plain (b ∷ l) = leb (length (b ∷ l)) maxDigits && (not (some l) || not (eqb 
 pub data Piece : Type 0 where
   word : List ℕ → Piece
   number : Piece
-
--- (sheet N)
-abbrev pub sheetForm : List Piece
-sheetForm = word openSheet ∷ number ∷ word close ∷ []
-
--- (unit (window N N))
-abbrev pub unitForm : List Piece
-unitForm = word openUnit ∷ number ∷ word between ∷ number ∷ word closeTwo ∷ []
-
--- (rule (slots N N) (count N N))
-abbrev pub ruleForm : List Piece
-ruleForm =
-    word openRule ∷ number ∷ word between ∷ number ∷ word openCount ∷ number ∷ word between ∷ number ∷ word closeTwo ∷ []
 
 -- a form written out with the digits of its numbers
 unfoldable pub written : List Piece → List (List ℕ) → List ℕ

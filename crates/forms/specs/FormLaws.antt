@@ -10,7 +10,8 @@ use lib.ListN.{length, drop}
 use lib.Seq.{drop-append-seam}
 use lib.Dec.{T, eqb}
 use borrow.Author.Tests.{eqb-true, eq-eqb, not-true}
-use Rattle.forms.specs.Form.{isDigit, some, leading, past, Piece, word, number, sheetForm, unitForm, ruleForm, startsWith, matches, numbers, written}
+use Rattle.forms.specs.Form.{isDigit, some, leading, past, Piece, word, number, startsWith, matches, numbers, written}
+use Rattle.forms.specs.Forms.{sheetForm, unitForm, ruleForm}
 
 -- ---- tests
 

@@ -1,5 +1,6 @@
 pub mod Words
 pub mod Form
+pub mod Forms
 pub mod FormLaws
 pub mod Lines
 pub mod LinesLaws

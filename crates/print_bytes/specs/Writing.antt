@@ -4,11 +4,10 @@ use mathlib.Core.Path.{_≡_}
 use mathlib.Core.Bool.{cond}
 use mathlib.Core.List.{List, [], _∷_, _++_}
 use Prim.Native.Nat.{ℕ, zero, suc, _+_, _/_, _%_, _≤_}
-use Prim.Native.Char.{code}
-use Prim.Native.String.{String, [] as end-of-text, _∷_ as _then_}
 use lib.Dec.{ltb}
 use lib.ListN.{length, take, drop}
 use Rattle.lists.specs.Lists.{joined}
+use Rattle.forms.specs.Words.{text}
 
 -- the page with these bytes from the place on, and nothing else changed
 unfoldable pub onto : List ℕ → ℕ → List ℕ → List ℕ
@@ -24,11 +23,6 @@ pub record Written (page : List ℕ) (at : ℕ) (bytes : List ℕ) (left : List 
   pub moved : next ≡ at + length bytes
 
 -- ---- words and numbers
-
--- the bytes of a text
-unfoldable pub text : String → List ℕ
-text end-of-text = []
-text (c then s) = code c ∷ text s
 
 -- the byte of a digit
 abbrev pub digit : ℕ → ℕ

@@ -12,7 +12,8 @@ use lib.ListN.{length, set, length-append, length-set}
 use lib.Seq.{sets, length-sets, sets-eq}
 use borrow.Author.Tests.{lt-ltb, le-ltb}
 use Rattle.lists.specs.Lists.{run, joined}
-use Rattle.print_bytes.specs.Writing.{onto, Room, Written, text, digit, digitsWithin, digits, oneNumber, fourNumbers, boundLine}
+use Rattle.forms.specs.Words.{text}
+use Rattle.print_bytes.specs.Writing.{onto, Room, Written, digit, digitsWithin, digits, oneNumber, fourNumbers, boundLine}
 
 -- ---- writing one thing after another
 sets-append : (page : List ℕ) (at : ℕ) (xs ys : List ℕ) → sets (sets page at xs) (at + length xs) ys ≡ sets page at (xs ++ ys)

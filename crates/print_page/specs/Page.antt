@@ -13,7 +13,8 @@ use Rattle.lists.specs.Values.{listOf}
 use Rattle.sheet.specs.Sizes.{maxSlots, maxUnits, maxCount}
 use Rattle.network.specs.Network.{Weights, around}
 use Rattle.network.specs.Table.{entry, maxBoundaries}
-use Rattle.print_bytes.specs.Writing.{text, planHead, unitLine, slotLine, boundLine, shortfallLine}
+use Rattle.forms.specs.Words.{text}
+use Rattle.print_bytes.specs.Writing.{planHead, unitLine, slotLine, boundLine, shortfallLine}
 
 -- ---- the page of a plan
 

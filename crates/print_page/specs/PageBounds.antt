@@ -30,7 +30,8 @@ use Rattle.sheet.specs.LimitLaws.{countIn-length}
 use Rattle.limits.specs.LimitTableLaws.{limit-small}
 use Rattle.sheet.specs.Questions.{accepted}
 use Rattle.sheet.specs.QuestionLaws.{accepted-sized, accepted-valid}
-use Rattle.print_bytes.specs.Writing.{text, digits, oneNumber, fourNumbers, planHead, unitLine, slotLine}
+use Rattle.forms.specs.Words.{text}
+use Rattle.print_bytes.specs.Writing.{digits, oneNumber, fourNumbers, planHead, unitLine, slotLine}
 use Rattle.print_bytes.specs.WritingLaws.{length-one, length-two, length-three, length-four, length-five, oneNumber-length, fourNumbers-length, boundLine-length}
 use Rattle.print_page.specs.Page.{unitLineAt, unitLines, slotLineAt, slotLines, unitsIn, planPage, maxUnitLine, maxSlotLine}
 use Rattle.print_page.specs.Page.{stepLine, stepLines, ringLines, shortfallOf, nonePage, maxStepLine, maxPage}

@@ -19,7 +19,8 @@ use Rattle.network.specs.Network.{Weights, via, around}
 use Rattle.network.specs.NetworkLaws.{Upto, via-same}
 use Rattle.network.specs.Table.{maxBoundaries}
 use Rattle.sheet.specs.Sizes.{maxSlots}
-use Rattle.print_bytes.specs.Writing.{text, digits, planHead, boundLine, shortfallLine}
+use Rattle.forms.specs.Words.{text}
+use Rattle.print_bytes.specs.Writing.{digits, planHead, boundLine, shortfallLine}
 use Rattle.print_page.specs.Page.{unitsIn, tally, unitLines, slotLineAt, slotLines, planPage, stepLine, stepLines, ringLines, shortfallOf, nonePage}
 
 -- a page is three parts

@@ -11,7 +11,7 @@ use Rattle.integers.specs.Parts.{up}
 use Rattle.network.specs.Network.{Weights}
 use Rattle.forms.specs.Form.{Piece, word, number, matches, numbers, value}
 use Rattle.forms.specs.Lines.{lines}
-use Rattle.print_bytes.specs.Writing.{text}
+use Rattle.forms.specs.Words.{text}
 
 -- what a line says, with its numbers in their order
 pub data Said : Type 0 where

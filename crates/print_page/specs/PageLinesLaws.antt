@@ -22,7 +22,8 @@ use Rattle.forms.specs.Words.{lineFeed, zeroDigit}
 use Rattle.forms.specs.Form.{Piece, word, number, isDigit, some, matches, numbers, written, value, valueFrom}
 use Rattle.forms.specs.FormLaws.{and-left, Digits, Number, Suits, separated, written-matches}
 use Rattle.forms.specs.Lines.{textLine, inFront, lines}
-use Rattle.print_bytes.specs.Writing.{onto, Room, Written, text, digit, digits, unitLine, slotLine, planHead, boundLine, shortfallLine}
+use Rattle.forms.specs.Words.{text}
+use Rattle.print_bytes.specs.Writing.{onto, Room, Written, digit, digits, unitLine, slotLine, planHead, boundLine, shortfallLine}
 use Rattle.print_bytes.specs.WritingLaws.{digits-one, digits-last}
 use Rattle.print_page.specs.Page.{unitLineAt, unitLines, slotLineAt, slotLines, unitsIn, planPage, stepLine, stepLines, ringLines, shortfallOf, nonePage}
 use Rattle.print_page.specs.PageLines.{Said, plan, unit, slot, none, atMost, atLeast, shortfall, other}

@@ -9,7 +9,8 @@ use denote.Ref.{now}
 use Rattle.lists.specs.Lists.{joined}
 use Rattle.network.specs.Network.{Weights}
 use Rattle.sheet.specs.Sizes.{maxSlots}
-use Rattle.print_bytes.specs.Writing.{Room, Written, text, planHead, shortfallLine}
+use Rattle.forms.specs.Words.{text}
+use Rattle.print_bytes.specs.Writing.{Room, Written, planHead, shortfallLine}
 use Rattle.print_bytes.specs.WritingLaws.{Pending, onto-length, pending-whole, pending-room, pending-after, pending-nothing}
 use Rattle.print_page.specs.Page.{unitLines, headAndUnits, slotLines, tally, leastFrom, greatestFrom, tablePage, ringLines, headAndSteps, shortfallOf, nonePage}
 use Rattle.print_page.specs.PageLaws.{page-counted}

@@ -4,7 +4,8 @@ use mathlib.Core.Path.{_≡_, refl}
 use mathlib.Core.List.{List, [], _∷_, _++_, map}
 use Rattle.lists.specs.Lists.{joined}
 use Rattle.forms.specs.Words.{lineFeed, space, opening, closing, zeroDigit, openNote}
-use Rattle.forms.specs.Form.{printable, leading, past, valueFrom, plain, sheetForm, unitForm, ruleForm, written, matches, numbers}
+use Rattle.forms.specs.Form.{printable, leading, past, valueFrom, plain, written, matches, numbers}
+use Rattle.forms.specs.Forms.{sheetForm, unitForm, ruleForm}
 use Rattle.read_notes.specs.Note.{matched}
 use Rattle.forms.specs.Lines.{lines}
 use Rattle.read_line.specs.Content.{isNote, noteMatched, contentOf}

@@ -12,7 +12,8 @@ use borrow.Author.Tests.{eqb-true, ne-eqb}
 use Rattle.lists.specs.Lists.{run, every}
 use Rattle.lists.specs.Members.{left, right, every-in, run-in}
 use Rattle.forms.specs.Words.{classBytes}
-use Rattle.forms.specs.Form.{isPrintable, isDigit, printable, some, leading, past, Piece, word, number, sheetForm, unitForm, ruleForm, startsWith}
+use Rattle.forms.specs.Form.{isPrintable, isDigit, printable, some, leading, past, Piece, word, number, startsWith}
+use Rattle.forms.specs.Forms.{sheetForm, unitForm, ruleForm}
 use Rattle.forms.specs.Form.{matches}
 use Rattle.read_form.specs.Kinds.{formOf, kindOf}
 use Rattle.read_form.specs.Grid.{grid, states, unprintable, start, sheetEnd, unitEnd, kindAt, place, member, classOf, nextOf, runOf}

@@ -2,7 +2,8 @@
 use Prim.Native.Nat.{ℕ}
 use mathlib.Core.Bool.{cond}
 use mathlib.Core.List.{List}
-use Rattle.forms.specs.Form.{printable, sheetForm, unitForm, ruleForm, matches}
+use Rattle.forms.specs.Form.{printable, matches}
+use Rattle.forms.specs.Forms.{sheetForm, unitForm, ruleForm}
 use Rattle.read_form.specs.declared.Kind.{Kind}
 use Rattle.read_form.specs.declared.Kind.the-variants.{Unprintable, Sheet, Unit, Rule, Other}
 

@@ -12,7 +12,8 @@ use lib.Seq.{drop-cons, drop-drop}
 use lib.Dec.{eqb}
 use borrow.Author.Tests.{eq-eqb, ne-eqb}
 use Rattle.forms.specs.Words.{lineFeed}
-use Rattle.forms.specs.Form.{printable, leading, past, plain, value, startsWith, matches, numbers, sheetForm, unitForm, ruleForm}
+use Rattle.forms.specs.Form.{printable, leading, past, plain, value, startsWith, matches, numbers}
+use Rattle.forms.specs.Forms.{sheetForm, unitForm, ruleForm}
 use Rattle.read_form.specs.Kinds.{formOf, kindOf}
 use Rattle.forms.specs.FormLaws.{past-drop, leading-short, false-not-true}
 use Rattle.read_form.specs.Grid.{runOf, kindAt, nextOf, classOf, start, states}

@@ -4,7 +4,8 @@ use mathlib.Core.Bool.{Bool, true, _||_, cond}
 use mathlib.Core.List.{List, [], _∷_, _++_}
 use lib.ListN.{drop, getD}
 use Rattle.forms.specs.Words.{space, closing, openNote}
-use Rattle.forms.specs.Form.{sheetForm, unitForm, ruleForm, startsWith, matches, numbers}
+use Rattle.forms.specs.Form.{startsWith, matches, numbers}
+use Rattle.forms.specs.Forms.{sheetForm, unitForm, ruleForm}
 use Rattle.read_notes.specs.Note.{matched}
 
 -- a note, a form with the digits of its numbers, or neither

@@ -4,7 +4,8 @@ use mathlib.Core.Bool.{Bool, true, false, _&&_, cond}
 use mathlib.Core.List.{List}
 use lib.ListN.{length, drop}
 use Rattle.lists.specs.Lists.{every}
-use Rattle.forms.specs.Form.{printable, leading, past, plain, value, numbers, sheetForm, unitForm, ruleForm}
+use Rattle.forms.specs.Form.{printable, leading, past, plain, value, numbers}
+use Rattle.forms.specs.Forms.{sheetForm, unitForm, ruleForm}
 use Rattle.read_form.specs.declared.Kind.{Kind}
 use Rattle.read_form.specs.declared.Kind.the-variants as Kind
 use Rattle.read_line.specs.Content.{Content, note, sheet, unit, rule, other, bracketsMatch, contentOf, numbersIn, sheetWith, unitWith, ruleWith}

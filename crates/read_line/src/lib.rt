@@ -1,7 +1,8 @@
 ghost use mathlib.Core.Path.{_≡_};
 ghost use Prim.Native.Nat.{_+_, _≤_};
 ghost use lib.ListN.{length, drop};
-ghost use Rattle.forms.specs.Form.{startsWith, sheetForm, unitForm, ruleForm, numbers};
+ghost use Rattle.forms.specs.Form.{startsWith, numbers};
+ghost use Rattle.forms.specs.Forms.{sheetForm, unitForm, ruleForm};
 ghost use Rattle.read_form.specs.Kinds.{kindOf};
 ghost use Rattle.read_form.specs.Grid.{Tables};
 ghost use Rattle.forms.specs.Lines.{firstLine, hasFeed};

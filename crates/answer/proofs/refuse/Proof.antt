@@ -4,7 +4,8 @@ use mathlib.Core.List.{List, [], _∷_}
 use Prim.Native.Nat.{ℕ}
 use native.Mathlib.Omega.{arith}
 use denote.Ref.{now}
-use Rattle.print_bytes.specs.Writing.{text, digits}
+use Rattle.forms.specs.Words.{text}
+use Rattle.print_bytes.specs.Writing.{digits}
 use Rattle.print_bytes.specs.WritingLaws.{Pending, pending-whole, pending-room, pending-pair, pending-after, pending-nothing}
 use Rattle.answer.specs.Answer.{refusedLine}
 use Rattle.answer.specs.AnswerLaws.{refused-room}

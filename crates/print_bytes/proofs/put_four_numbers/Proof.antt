@@ -3,7 +3,8 @@ use mathlib.Core.Path.{_∙_, refl}
 use mathlib.Core.List.{List, [], _∷_}
 use Prim.Native.Nat.{ℕ}
 use denote.Ref.{now}
-use Rattle.print_bytes.specs.Writing.{text, digits, fourNumbers}
+use Rattle.forms.specs.Words.{text}
+use Rattle.print_bytes.specs.Writing.{digits, fourNumbers}
 use Rattle.print_bytes.specs.WritingLaws.{Pending, pending-whole, pending-room, pending-pair, pending-after, pending-nothing}
 use Rattle.print_bytes.proofs.put_four_numbers.Statement.{statement}
 use Rattle.print_bytes.proofs.put_four_numbers.Tie as tie

@@ -2,7 +2,8 @@
 use mathlib.Core.Path.{_∙_, refl}
 use mathlib.Core.List.{[], _∷_}
 use denote.Ref.{now}
-use Rattle.print_bytes.specs.Writing.{text, digits, oneNumber}
+use Rattle.forms.specs.Words.{text}
+use Rattle.print_bytes.specs.Writing.{digits, oneNumber}
 use Rattle.print_bytes.specs.WritingLaws.{Pending, pending-whole, pending-room, pending-pair, pending-after, pending-nothing}
 use Rattle.print_bytes.proofs.put_one_number.Statement.{statement}
 use Rattle.print_bytes.proofs.put_one_number.Tie as tie

@@ -1,6 +1,7 @@
 -- The line is four numbers with its own words between them.
 use mathlib.Core.Path.{refl}
-use Rattle.print_bytes.specs.Writing.{unitLine, fourNumbers, text}
+use Rattle.forms.specs.Words.{text}
+use Rattle.print_bytes.specs.Writing.{unitLine, fourNumbers}
 use Rattle.print_bytes.proofs.put_unit.Statement.{statement}
 use Rattle.print_bytes.proofs.put_unit.Tie as tie
 

@@ -1,6 +1,7 @@
 -- The words of the line, and the digits of its four numbers.
 use native.Mathlib.Omega.{arith}
-use Rattle.print_bytes.specs.Writing.{text, fourNumbers, slotLine}
+use Rattle.forms.specs.Words.{text}
+use Rattle.print_bytes.specs.Writing.{fourNumbers, slotLine}
 use Rattle.print_bytes.specs.WritingLaws.{fourNumbers-length}
 use Rattle.print_bytes.proofs.slot_length.Statement.{statement}
 use Rattle.print_bytes.proofs.slot_length.Tie as tie

@@ -4,7 +4,8 @@ use Prim.Native.Nat.{ℕ, _+_}
 use native.Mathlib.Omega.{arith}
 use denote.Ref.{now}
 use lib.ListN.{length}
-use Rattle.print_bytes.specs.Writing.{text, digits, oneNumber, planHead}
+use Rattle.forms.specs.Words.{text}
+use Rattle.print_bytes.specs.Writing.{digits, oneNumber, planHead}
 use Rattle.print_page.specs.Page.{leastFrom, greatestFrom}
 use Rattle.print_bytes.specs.WritingLaws.{oneNumber-length}
 use Rattle.print_page.specs.PageLaws.{tally-length, page-counted-length}

@@ -4,7 +4,7 @@ use mathlib.Core.List.{[], _∷_}
 use denote.Ref.{now}
 use Rattle.lists.specs.Lists.{joined}
 use Rattle.network.specs.Table.{entry}
-use Rattle.print_bytes.specs.Writing.{text}
+use Rattle.forms.specs.Words.{text}
 use Rattle.print_page.specs.Page.{ringLines, headAndSteps}
 use Rattle.print_bytes.specs.WritingLaws.{Pending, pending-two, pending-room, pending-after, pending-nothing}
 use Rattle.print_page.proofs.put_head_and_steps.Statement.{statement}

@@ -4,7 +4,8 @@ use mathlib.Core.Path.{refl, _∙_}
 use mathlib.Core.List.{[], _∷_}
 use denote.Ref.{now}
 use lib.ListN.{length}
-use Rattle.print_bytes.specs.Writing.{text, oneNumber, planHead}
+use Rattle.forms.specs.Words.{text}
+use Rattle.print_bytes.specs.Writing.{oneNumber, planHead}
 use Rattle.print_page.specs.Page.{unitLines, headAndUnits}
 use Rattle.print_bytes.specs.WritingLaws.{Pending, pending-two, pending-room, pending-after, pending-nothing}
 use Rattle.print_page.proofs.put_head_and_units.Statement.{statement}

@@ -2,7 +2,8 @@
 use mathlib.Core.Path.{_≡_, refl, sym, ap, subst}
 use denote.Ref.{now}
 use Rattle.network.specs.Table.{entry}
-use Rattle.print_bytes.specs.Writing.{Room, Written, text, oneNumber, shortfallLine}
+use Rattle.forms.specs.Words.{text}
+use Rattle.print_bytes.specs.Writing.{Room, Written, oneNumber, shortfallLine}
 use Rattle.print_page.specs.Page.{shortfallOf}
 use Rattle.print_page.proofs.put_shortfall.Statement.{statement}
 use Rattle.print_page.proofs.put_shortfall.Tie as tie

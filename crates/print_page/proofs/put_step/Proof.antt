@@ -9,7 +9,8 @@ use denote.Ref.{now}
 use Rattle.integers.specs.Parts.{up, dn}
 use Rattle.network.specs.Network.{Weights}
 use Rattle.network.specs.Table.{entry}
-use Rattle.print_bytes.specs.Writing.{Room, Written, text, boundLine}
+use Rattle.forms.specs.Words.{text}
+use Rattle.print_bytes.specs.Writing.{Room, Written, boundLine}
 use Rattle.print_page.specs.Page.{stepLine}
 use Rattle.print_page.specs.PageLaws.{step-forward, step-backward}
 use Rattle.print_page.proofs.put_step.Statement.{statement}

@@ -9,7 +9,8 @@ use mir.Syntax.{w16}
 use mir.Facts.{toZ-ofZ}
 use Rattle.integers.specs.Parts.{up, dn}
 use Rattle.network.specs.Table.{entry}
-use Rattle.print_bytes.specs.Writing.{text, digits}
+use Rattle.forms.specs.Words.{text}
+use Rattle.print_bytes.specs.Writing.{digits}
 use Rattle.print_bytes.specs.WritingLaws.{boundLine-length}
 use Rattle.print_page.specs.PageLaws.{step-forward, step-backward}
 use Rattle.print_page.proofs.step_length.Statement.{statement}
