@@ -10,6 +10,7 @@ use lib.ListN.{length, drop}
 use lib.Seq.{drop-append-seam}
 use lib.Dec.{T, eqb}
 use borrow.Author.Tests.{eqb-true, eq-eqb, not-true}
+use Rattle.forms.specs.Words.{text}
 use Rattle.forms.specs.Form.{isDigit, some, leading, past, Piece, word, number, startsWith, matches, numbers, written}
 use Rattle.forms.specs.Forms.{sheetForm, unitForm, ruleForm}
 
@@ -178,10 +179,13 @@ written-matches (number ∷ f) (n ∷ ns) h s =
     record { matched = rw (a, b) (rw (s .0 .not-empty) (r .matched)); found = rw (a, b) (ap (λ (ms : List (List ℕ)). n ∷ ms) (r .found)) }
 
 pub sheet-separated : separated sheetForm ≡ true
+unfolding text
 sheet-separated = refl
 
 pub unit-separated : separated unitForm ≡ true
+unfolding text
 unit-separated = refl
 
 pub rule-separated : separated ruleForm ≡ true
+unfolding text
 rule-separated = refl

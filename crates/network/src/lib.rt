@@ -5,7 +5,7 @@ ghost use Prim.Native.Nat.{_+_, _-_, _*_, _≤_, _<_, min};
 ghost use lib.ListN.{length, take, drop};
 ghost use lib.IntN.{ℤ, pos, negsuc, _+ℤ_};
 ghost use lib.Signed.{leZ};
-ghost use Rattle.network.specs.Table.{maxBoundaries, passFrom, passOf, After, cleared};
+ghost use Rattle.network.specs.Table.{maxBoundaries, entry, passFrom, passOf, After, cleared};
 ghost use Rattle.network.specs.Row.{leastOf, greatestOf, relaxed, SumsInRange, Loaded, Ran};
 
 // The largest number of boundaries, as sheets have them (sheet/specs/Sizes.antt ties the two).
@@ -97,6 +97,14 @@ pub fn relax_row(row: &mut [i16], mid: &[i16], am: i16)
     for b in 0..row.len() {
         row[b] = integers::lesser(row[b], am + mid[b]);
     }
+}
+
+// Entry (a, b) of a table with w numbers a row.
+pub fn entry_at(t: &[i16], w: usize, a: usize, b: usize) -> i16
+    requires { ⌜ a * w + b < length (now t) ⌝ }
+    ensures { λ r. ⌜ r ≡ entry w (now (t .entry)) a b ⌝ }
+{
+    t[a * w + b]
 }
 
 // The first n places become 0.

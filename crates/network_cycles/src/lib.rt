@@ -125,19 +125,12 @@ fn fill_levels(d: &[i16], w: usize, levels: &mut [i16])
     }
 }
 
-fn entry_at(t: &[i16], w: usize, a: usize, b: usize) -> i16
-    requires { ⌜ a * w + b < length (now t) ⌝ }
-    ensures { λ r. ⌜ r ≡ entry w (now (t .entry)) a b ⌝ }
-{
-    t[a * w + b]
-}
-
 // What the step from u leaves v at level k + 1.
 fn left_by(d: &[i16], w: usize, levels: &[i16], k: usize, u: usize, v: usize) -> i16
     requires { ⌜ Ready w (now d) (now levels) × (k < w) × (u < w) × (v < w) ⌝ }
     ensures { λ r. ⌜ r ≡ level w (entry w (now (d .entry))) k u +ℤ entry w (now (d .entry)) u v ⌝ }
 {
-    entry_at(levels, w, k, u) + entry_at(d, w, u, v)
+    network::entry_at(levels, w, k, u) + network::entry_at(d, w, u, v)
 }
 
 // A boundary from which v has its level k.
@@ -146,7 +139,7 @@ fn source_of(d: &[i16], w: usize, levels: &[i16], k: usize, v: usize) -> usize
     ensures { λ r. ⌜ Source w (now (d .entry)) (k - 1) v r ⌝ }
 {
     let above = k - 1;
-    let target = entry_at(levels, w, k, v);
+    let target = network::entry_at(levels, w, k, v);
     let mut u = 0;
     while u < w {
         let x = left_by(d, w, levels, above, u, v);

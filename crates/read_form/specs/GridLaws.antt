@@ -11,7 +11,7 @@ use lib.Dec.{T, eqb, eqb→eq, eqb·suc-zero, leb, ltb, ltb→lt}
 use borrow.Author.Tests.{eqb-true, ne-eqb}
 use Rattle.lists.specs.Lists.{run, every}
 use Rattle.lists.specs.Members.{left, right, every-in, run-in}
-use Rattle.forms.specs.Words.{classBytes}
+use Rattle.forms.specs.Words.{classBytes, text}
 use Rattle.forms.specs.Form.{isPrintable, isDigit, printable, some, leading, past, Piece, word, number, startsWith}
 use Rattle.forms.specs.Forms.{sheetForm, unitForm, ruleForm}
 use Rattle.forms.specs.Form.{matches}
@@ -145,7 +145,7 @@ place-inside (x ∷ xs) b m = go (eqb x b) m (place-inside xs b)
     go false m h = let k = h m in omega arith
 
 pub class-small : (b : ℕ) → classOf b < 19
-unfolding classOf
+unfolding classOf text
 class-small b = go (isPrintable b) (isDigit b) (member b classBytes) refl
   where
     go : (p d e : Bool) → member b classBytes ≡ e → cond p (cond d 5 (cond e (place classBytes b) 1)) 0 < 19
@@ -169,7 +169,7 @@ digit-apart : (x b : ℕ) → isDigit x ≡ false → isDigit b ≡ true → eqb
 digit-apart x b f t = ne-eqb x b (λ e. let z : false ≡ true = sym f ∙ ap isDigit e ∙ t in subst T (sym z) tt)
 
 agree : (x b : ℕ) → T (shown x) → isPrintable b ≡ true → eqb x b ≡ eqb x (stands (classOf b))
-unfolding classOf
+unfolding classOf text
 agree x b h p = rw p (go (isDigit b) (member b classBytes) refl refl)
   where
     others : T (not (isDigit x) && not (eqb x 33))
@@ -186,7 +186,7 @@ agree x b h p = rw p (go (isDigit b) (member b classBytes) refl refl)
         ∙ sym (fails-false (eqb x 33) (right (not (isDigit x)) (not (eqb x 33)) others))
 
 agree-digit : (b : ℕ) → isPrintable b ≡ true → isDigit b ≡ isDigit (stands (classOf b))
-unfolding classOf
+unfolding classOf text
 agree-digit b p = rw p (go (isDigit b) (member b classBytes) refl refl)
   where
     go : (d e : Bool) → isDigit b ≡ d → member b classBytes ≡ e → isDigit b ≡ isDigit (stands (cond d 5 (cond e (place classBytes b) 1)))
@@ -317,7 +317,7 @@ entryRight q c =
     (not (eqb (nextOf q c) unprintable) && (ltb (nextOf q c) states && eqWays (over (waysOf q) (stands c)) (waysOf (nextOf q c)))))
 
 entry-right : (q c : ℕ) → q < states → c < 19 → T (entryRight q c)
-unfolding grid over waysOf
+unfolding grid over waysOf text
 entry-right q c hq hc = below 19 (λ j. entryRight q j) (below states (λ i. every (λ j. entryRight i j) (run 0 19)) tt q hq) c hc
 
 record Step (q c : ℕ) : Type 0 where
@@ -355,7 +355,7 @@ met-unprintable q hq = eqb→eq (nextOf q 0) unprintable (go (eqb q unprintable)
     go false h = h
 
 all-shown : (q : ℕ) → q < states → T (shownFirsts (waysOf q))
-unfolding waysOf
+unfolding waysOf text
 all-shown q h = below states (λ i. shownFirsts (waysOf i)) tt q h
 
 -- where a line ends in a state, the state tells its form
@@ -367,7 +367,7 @@ unless true t e h = absurd (subst T e tt)
 unless false t e h = h
 
 ends : (q : ℕ) → q < states → eqb q unprintable ≡ false → kindAt q ≡ firstOf (waysOf q) []
-unfolding waysOf firstOf kindAt fits leading past
+unfolding waysOf firstOf kindAt fits leading past text
 ends q h e = code-eq (kindAt q) (firstOf (waysOf q) []) (unless (eqb q unprintable) _ e (below states endRight tt q h))
 
 stays-unprintable : (l : List ℕ) → runOf unprintable l ≡ unprintable
@@ -410,5 +410,5 @@ runs (b ∷ l) q h e = go (isPrintable b) refl (λ r i n. runs l r i n)
 
 -- the state after a line tells what the line is
 pub grid-reads : (l : List ℕ) → kindAt (runOf start l) ≡ kindOf l
-unfolding kindOf formOf firstOf waysOf
+unfolding kindOf formOf firstOf waysOf fits text
 grid-reads l = rw (← signs-fit sheetForm l, ← signs-fit unitForm l, ← signs-fit ruleForm l) (runs l start (ltb→lt start states tt) refl)

@@ -11,7 +11,7 @@ use lib.ListN.{length, getD, drop, length-drop, drop-of-length-le}
 use lib.Seq.{drop-cons, drop-drop}
 use lib.Dec.{eqb}
 use borrow.Author.Tests.{eq-eqb, ne-eqb}
-use Rattle.forms.specs.Words.{lineFeed}
+use Rattle.forms.specs.Words.{lineFeed, text}
 use Rattle.forms.specs.Form.{printable, leading, past, plain, value, startsWith, matches, numbers}
 use Rattle.forms.specs.Forms.{sheetForm, unitForm, ruleForm}
 use Rattle.read_form.specs.Kinds.{formOf, kindOf}
@@ -182,15 +182,15 @@ got-no-two l at h = go (plain (leading l) && plain (secondOf l)) refl h
 -- ---- the three forms
 
 pub sheet-read : (s : List ℕ) (v next : ℕ) → numberOf (leading (drop 7 s)) 7 ≡ Number.Plain v next → Sheet v ≡ said (sheetWith (numbers sheetForm s))
-unfolding said numbers
+unfolding said numbers text
 sheet-read s v next h = let p = got (leading (drop 7 s)) 7 v next h in simp (p .is-plain, ← p .is-value)
 
 pub sheet-faulty : (s : List ℕ) → numberOf (leading (drop 7 s)) 7 ≡ Number.Faulty → Refused 4 ≡ said (sheetWith (numbers sheetForm s))
-unfolding said numbers
+unfolding said numbers text
 sheet-faulty s h = simp (got-none (leading (drop 7 s)) 7 h)
 
 pub unit-read : (s : List ℕ) (v w next : ℕ) → pairOf (drop 14 s) 14 ≡ Both v w next → Unit v w ≡ said (unitWith (numbers unitForm s))
-unfolding said numbers
+unfolding said numbers text
 unit-read s v w next h =
     let p = got-two (drop 14 s) 14 v w next h in
     simp (p .first-plain, p .second-plain, ← p .first-value, ← p .second-value)
@@ -199,7 +199,7 @@ and-last : (p q : Bool) → (p && (q && true)) ≡ (p && q)
 and-last p q = simp (and-true q)
 
 pub unit-faulty : (s : List ℕ) → pairOf (drop 14 s) 14 ≡ Faulty → Refused 4 ≡ said (unitWith (numbers unitForm s))
-unfolding said numbers
+unfolding said numbers text
 unit-faulty s h = simp (and-last, got-no-two (drop 14 s) 14 h)
 
 module _ (s : List ℕ) (v w next : ℕ) (h : pairOf (drop 13 s) 13 ≡ Both v w next) where
@@ -223,7 +223,7 @@ module _ (s : List ℕ) (v w next : ℕ) (h : pairOf (drop 13 s) 13 ≡ Both v w
       ap (λ (l : List ℕ). drop 9 (past l)) second-at ∙ past-at s (13 + length (leading (drop 13 s)) + 1) next e 9
 
   pub rule-read : (x y end : ℕ) → pairOf (drop (next + 9) s) (next + 9) ≡ Both x y end → Rule v w x y ≡ said (ruleWith (numbers ruleForm s))
-  unfolding said numbers
+  unfolding said numbers text
   rule-read x y end k =
       let p = stretch in
       let q = got-two (drop (next + 9) s) (next + 9) x y end k in
@@ -240,13 +240,13 @@ module _ (s : List ℕ) (v w next : ℕ) (h : pairOf (drop 13 s) 13 ≡ Both v w
       )
 
   pub count-faulty : pairOf (drop (next + 9) s) (next + 9) ≡ Faulty → Refused 4 ≡ said (ruleWith (numbers ruleForm s))
-  unfolding said numbers
+  unfolding said numbers text
   count-faulty k =
       let p = stretch in
       simp (count-at, p .first-plain, p .second-plain, and-last, got-no-two (drop (next + 9) s) (next + 9) k)
 
 pub stretch-faulty : (s : List ℕ) → pairOf (drop 13 s) 13 ≡ Faulty → Refused 4 ≡ said (ruleWith (numbers ruleForm s))
-unfolding said numbers
+unfolding said numbers text
 stretch-faulty s h = simp (← and-assoc, got-no-two (drop 13 s) 13 h)
 
 -- ---- a note's end
@@ -269,7 +269,7 @@ note-open s e = go (afterList (drop 1 s) zero 1) e ∙ list-matched (drop 1 s) z
     go unmatched e = refl
 
 pub note-some : (s : List ℕ) → isNote s ≡ true → 1 ≤ length s
-unfolding isNote
+unfolding isNote text
 note-some [] h = false-not-true h
 note-some (b ∷ l) h = omega arith
 

@@ -10,9 +10,10 @@ use Rattle.read_form.specs.Grid.{classOf, classes, place}
 use Rattle.read_form.specs.GridLaws.{below, class-small}
 use Rattle.read_form.proofs.class_of.Statement.{statement}
 use Rattle.read_form.proofs.class_of.Tie as tie
+use Rattle.forms.specs.Words.{text}
 
 right : (b : ℕ) → b < 256 → getD classes b 0 ≡ classOf b
-unfolding classes classOf place
+unfolding classes classOf place text
 right b h = eqb→eq (getD classes b 0) (classOf b) (below 256 (λ k. eqb (getD classes k 0) (classOf k)) tt b h)
 
 at : (table : List ℕ) (b : ℕ) → table ≡ classes → b < 256 → getD table b 0 ≡ classOf b
