@@ -3,7 +3,7 @@ use Prim.Native.Nat.{ℕ, _+_}
 use mathlib.Core.Path.{_≡_, refl}
 use mathlib.Core.List.{List, [], _∷_, _++_, map}
 use Rattle.lists.specs.Lists.{joined}
-use Rattle.forms.specs.Words.{lineFeed, space, opening, closing, zeroDigit, openNote}
+use Rattle.forms.specs.Words.{lineFeed, space, opening, closing, zeroDigit, openNote, text}
 use Rattle.forms.specs.Form.{printable, leading, past, valueFrom, plain, written, matches, numbers}
 use Rattle.forms.specs.Forms.{sheetForm, unitForm, ruleForm}
 use Rattle.read_notes.specs.Note.{matched}
@@ -82,7 +82,7 @@ samples =
 
 pub samples-read : map (λ s. reading (s .text) (s .sizes)) samples ≡ map (λ s. s .answer) samples
 unfolding printable leading past valueFrom plain written matches numbers matched lines isNote noteMatched contentOf
-    contents hasSheet spanIn unitsIn rulesIn sheetIn lineQuestions questions firstNo reading
+    contents hasSheet spanIn unitsIn rulesIn sheetIn lineQuestions questions firstNo reading text
 samples-read = refl
 
 -- the lists of document 01's sheet
@@ -94,5 +94,5 @@ pub shown-lists :
           record { from = 1; to = 2; low = 1; high = 1 } ∷ record { from = 2; to = 3; low = 1; high = 1 } ∷
           record { from = 3; to = 4; low = 1; high = 1 } ∷ [];
     }
-unfolding leading past valueFrom written matches numbers lines isNote contentOf contents spanIn unitsIn rulesIn sheetIn
+unfolding leading past valueFrom written matches numbers lines isNote contentOf contents spanIn unitsIn rulesIn sheetIn text
 shown-lists = refl

@@ -31,4 +31,4 @@ put-slots-spec 𝓤 H 𝓜 𝓖 𝓡 =
     (λ κs a. slotLines (a .0) (λ t. getD (now (a .1 .0)) t 0) (leastFrom (a .0 + 1) (now (a .1 .1 .0))) (greatestFrom (a .0 + 1) (now (a .1 .1 .0))))
     𝓤 H (𝓖 .A) (givenOf 𝓤 H 𝓜 𝓖) #page·put-slots (tablesOf 𝓤 H 𝓜 (tables 𝓤 H 𝓜 𝓡 code.env))
     (cited 𝓤 H (tripleOf 𝓤 H (𝓖 .A) callee.signature (callee.spec 𝓤 H (𝓖 .A) (𝓜 .mem) (𝓡 .run))) 𝓜 𝓡 code.env #page·put-slots callee-def.routine
-    code.calls-page·put-slots (callee-thm.met 𝓤 H 𝓜 𝓖 𝓡)))
+    code.calls-print-page·put-slots (callee-thm.met 𝓤 H 𝓜 𝓖 𝓡)))
