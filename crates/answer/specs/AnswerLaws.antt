@@ -14,7 +14,8 @@ use Rattle.lists.specs.Members.{within-iff}
 use Rattle.network.specs.Table.{Passed, finished, stopped, outOfRange}
 use Rattle.sheet.specs.Sheet.{Sheet, isRing}
 use Rattle.sheet.specs.declared.Sheet.{Sheet as Read}
-use Rattle.read_ask.specs.Reading.{maxBytes, Rooms, roomsForAll, Answer, refused, read, reading, Verdict, no, allYes, firstNo, questions, concluded, sheetIn}
+use Rattle.sheet.specs.Sizes.{maxBytes}
+use Rattle.read_ask.specs.Reading.{Rooms, roomsForAll, Answer, refused, read, reading, Verdict, no, allYes, firstNo, questions, concluded, sheetIn}
 use Rattle.read_ask.specs.AcceptedLaws.{reading-accepts}
 use Rattle.read_ask.specs.RefusalLaws.{reading-refusals}
 use Rattle.read.specs.Rooms.{sizesOf, leaves, roomsAfter}
