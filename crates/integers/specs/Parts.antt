@@ -2,17 +2,17 @@
 -- Key idea: an integer z is `up z` less `dn z`, its positive and its negative part, two natural numbers that omega takes as unknowns. Each order,
 -- equation or test of ℤ has a law that turns it into a fact of the parts, and one that turns it back; the ruleset `ints` holds them all.
 -- `omega (ints, sum a b, neg c)` reads the hypotheses and proves an order, an equation or a test's flag; sums and negations go in by their laws.
-use mathlib.Core.Path.{_≡_, refl, sym, ap, _∙_, subst}
-use mathlib.Core.Logic.{_⊎_, inl, inr}
+use mathlib.Core.Path.{_≡_, refl, sym, ap, subst}
+use mathlib.Core.Logic.{_⊎_, inl, inr, ⊎-elim}
 use mathlib.Core.Bool.{Bool, true, false, not, cond}
 use Prim.Native.Nat.{ℕ, zero, suc, _+_, _-_, _≤_, _<_, _^_}
 use native.Mathlib.Omega.{arith}
-use lib.Dec.{T, ltb, leb, leb→le, le→leb, ltb→lt, lt→ltb, nltb→le}
+use native.Mathlib.Decide.{decLe}
+use lib.Dec.{T, ltb, leb→le, le→leb, ltb→lt, lt→ltb, nltb→le}
 use lib.IntN.{ℤ, pos, negsuc, negℤ, subℕ, _+ℤ_, _-ℤ_}
 use lib.Signed.{leZ, ltZ, mag, _≤ℤ_, _<ℤ_}
 use mir.Syntax.{Width, w16, w32}
 use mir.Val.{SFits, hbits}
-use borrow.Author.Tests.{ltb-true, ltb-false, leb-true, leb-false, lt-ltb, le-ltb, le-leb, lt-leb}
 
 -- the positive part
 abbrev pub up : ℤ → ℕ
@@ -73,8 +73,15 @@ pub ≡-make : (a b : ℤ) → up a + dn b ≡ up b + dn a → a ≡ b
 
 -- ---- the flags of tests, as a branch hands them over and as a definition by tests asks them
 holds : (t : Bool) → t ≡ true → T t
-holds true e = tt
-holds false e = subst T (sym e) tt
+holds t e = subst T (sym e) tt
+
+raised : (t : Bool) → T t → t ≡ true
+raised true h = refl
+raised false h = absurd h
+
+unraised : (t : Bool) → (T t → ⊥) → t ≡ false
+unraised true h = absurd (h tt)
+unraised false h = refl
 
 pub ltZ-true : (a b : ℤ) → ltZ a b ≡ true → up a + dn b < up b + dn a
 ltZ-true a b e = lt-to a b (holds (ltZ a b) e)
@@ -82,41 +89,23 @@ ltZ-true a b e = lt-to a b (holds (ltZ a b) e)
 pub leZ-true : (a b : ℤ) → leZ a b ≡ true → up a + dn b ≤ up b + dn a
 leZ-true a b e = le-to a b (holds (leZ a b) e)
 
-pub ltZ-false : (a b : ℤ) → ltZ a b ≡ false → up b + dn a ≤ up a + dn b
-ltZ-false (pos a) (pos b) e = omega (arith, ltb-false a b e)
-ltZ-false (pos a) (negsuc b) e = omega arith
-ltZ-false (negsuc a) (pos b) e = absurd (subst T e tt)
-ltZ-false (negsuc a) (negsuc b) e = omega (arith, ltb-false b a e)
-
-pub leZ-false : (a b : ℤ) → leZ a b ≡ false → up b + dn a < up a + dn b
-leZ-false (pos a) (pos b) e = omega (arith, leb-false a b e)
-leZ-false (pos a) (negsuc b) e = omega arith
-leZ-false (negsuc a) (pos b) e = absurd (subst T e tt)
-leZ-false (negsuc a) (negsuc b) e = omega (arith, leb-false b a e)
-
 pub true-ltZ : (a b : ℤ) → up a + dn b < up b + dn a → ltZ a b ≡ true
-true-ltZ (pos a) (pos b) h = lt-ltb a b (omega arith)
-true-ltZ (pos a) (negsuc b) h = absurd (omega arith)
-true-ltZ (negsuc a) (pos b) h = refl
-true-ltZ (negsuc a) (negsuc b) h = lt-ltb b a (omega arith)
-
-pub false-ltZ : (a b : ℤ) → up b + dn a ≤ up a + dn b → ltZ a b ≡ false
-false-ltZ (pos a) (pos b) h = le-ltb a b (omega arith)
-false-ltZ (pos a) (negsuc b) h = refl
-false-ltZ (negsuc a) (pos b) h = absurd (omega arith)
-false-ltZ (negsuc a) (negsuc b) h = le-ltb b a (omega arith)
+true-ltZ a b h = raised (ltZ a b) (to-lt a b h)
 
 pub true-leZ : (a b : ℤ) → up a + dn b ≤ up b + dn a → leZ a b ≡ true
-true-leZ (pos a) (pos b) h = le-leb a b (omega arith)
-true-leZ (pos a) (negsuc b) h = absurd (omega arith)
-true-leZ (negsuc a) (pos b) h = refl
-true-leZ (negsuc a) (negsuc b) h = le-leb b a (omega arith)
+true-leZ a b h = raised (leZ a b) (to-le a b h)
+
+pub false-ltZ : (a b : ℤ) → up b + dn a ≤ up a + dn b → ltZ a b ≡ false
+false-ltZ a b h = unraised (ltZ a b) (λ t. omega (arith, lt-to a b t))
 
 pub false-leZ : (a b : ℤ) → up b + dn a < up a + dn b → leZ a b ≡ false
-false-leZ (pos a) (pos b) h = lt-leb a b (omega arith)
-false-leZ (pos a) (negsuc b) h = refl
-false-leZ (negsuc a) (pos b) h = absurd (omega arith)
-false-leZ (negsuc a) (negsuc b) h = lt-leb b a (omega arith)
+false-leZ a b h = unraised (leZ a b) (λ t. omega (arith, le-to a b t))
+
+pub ltZ-false : (a b : ℤ) → ltZ a b ≡ false → up b + dn a ≤ up a + dn b
+ltZ-false a b e = elim (decLe (up b + dn a) (up a + dn b)) [ yes h ↦ h | no h ↦ absurd (subst T e (to-lt a b (omega arith))) ]
+
+pub leZ-false : (a b : ℤ) → leZ a b ≡ false → up b + dn a < up a + dn b
+leZ-false a b e = elim (decLe (up a + dn b) (up b + dn a)) [ yes h ↦ absurd (subst T e (to-le a b h)) | no h ↦ omega arith ]
 
 -- ---- the set
 pub ruleset ints = (arith, ≤-read, ≤-make, <-read, <-make, ≡-read, ≡-make, ltZ-true, ltZ-false, leZ-true, leZ-false, true-ltZ, false-ltZ)
@@ -125,7 +114,8 @@ pub ruleset ints = (arith, ≤-read, ≤-make, <-read, <-make, ≡-read, ≡-mak
 pub sub : (a b : ℕ) → up (subℕ a b) + b ≡ a + dn (subℕ a b)
 sub a b = go (ltb a b) (ltb→lt a b) (nltb→le a b)
   where
-    go : (c : Bool) → (T c → a < b) → (T (not c) → b ≤ a) → up (cond c (negsuc (b - suc a)) (pos (a - b))) + b ≡ a + dn (cond c (negsuc (b - suc a)) (pos (a - b)))
+    go : (c : Bool) → (T c → a < b) → (T (not c) → b ≤ a)
+        → up (cond c (negsuc (b - suc a)) (pos (a - b))) + b ≡ a + dn (cond c (negsuc (b - suc a)) (pos (a - b)))
     go true f g = omega (arith, f tt)
     go false f g = omega (arith, g tt)
 
@@ -149,15 +139,7 @@ apart (pos n) = inr refl
 apart (negsuc n) = inl refl
 
 pub nonneg : {a : ℤ} → pos 0 ≤ℤ a → dn a ≡ 0
-nonneg {a} h = go a (h .le)
-  where
-    go : (a : ℤ) → T (leZ (pos 0) a) → dn a ≡ 0
-    go (pos n) t = refl
-    go (negsuc n) t = absurd t
-
-pub sign : (a : ℤ) → (a <ℤ pos 0) ⊎ (pos 0 ≤ℤ a)
-sign (pos n) = inr (record { le = le→leb 0 n (omega arith) })
-sign (negsuc n) = inl (record { lt = tt })
+nonneg {a} h = ⊎-elim (λ e. omega ints) (λ e. e) (apart a)
 
 -- ---- the smaller and the greater of two
 abbrev pub minℤ : ℤ → ℤ → ℤ

@@ -99,7 +99,7 @@ count-empty zero t f = omega arith
 count-empty (suc n) t f = omega (arith, oneIf-none (t n) (f n (omega arith)), count-empty n t (λ j h. f j (omega arith)))
 
 -- counted from the front
-pub count-front : (n : ℕ) (t : ℕ → Bool) → count (suc n) t ≡ oneIf (t 0) + count n (λ j. t (suc j))
+count-front : (n : ℕ) (t : ℕ → Bool) → count (suc n) t ≡ oneIf (t 0) + count n (λ j. t (suc j))
 unfolding count
 count-front zero t = refl
 count-front (suc n) t = omega (arith, count-front n t)

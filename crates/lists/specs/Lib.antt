@@ -3,5 +3,6 @@ pub mod Members
 pub mod Extremes
 pub mod Counts
 pub mod Values
-pub mod Parts
+pub mod Fill
+pub mod Slices
 pub mod First

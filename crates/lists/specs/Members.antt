@@ -1,15 +1,15 @@
 -- Membership in the lists that definitions are written with: keep, map, joined, fromTo; and a test of every entry, by place and by member.
-use mathlib.Core.Path.{_≡_, refl, sym, ap, subst}
+use mathlib.Core.Path.{_≡_, refl, sym, ap, subst, _∙_}
 use mathlib.Core.Logic.{_⊎_, inl, inr, ⊎-elim, ⊎-map, _↔_}
-use mathlib.Core.Bool.{Bool, true, false, _&&_}
-use mathlib.Core.List.{List, [], _∷_, map, List·Memᴰ, Memᴰ·append-left, Memᴰ·append-right}
+use mathlib.Core.Bool.{Bool, true, false, _&&_, cond, and-assoc}
+use mathlib.Core.List.{List, [], _∷_, map, List·Memᴰ, Memᴰ·append-left, Memᴰ·append-right, _++_}
 use mathlib.Core.List.{List·Memᴰ·head, List·Memᴰ·tail, List·Memᴰ·not-nil, List·Memᴰ·cases-cons, List·Memᴰ·append-cases}
 use Prim.Native.Nat.{ℕ, zero, suc, _+_, _-_, _≤_, _<_}
 use native.Mathlib.Omega.{arith}
 use native.Mathlib.Nat.{eq-or-lt-of-le}
-use lib.Dec.{T, leb, leb→le, le→leb}
+use lib.Dec.{T, leb, eqb, leb→le, le→leb, eqb→eq, eqb-refl}
 use lib.ListN.{length, getD}
-use Rattle.lists.specs.Lists.{run, fromTo, within, every, keep, consIf, joined}
+use Rattle.lists.specs.Lists.{run, fromTo, within, every, member, keep, consIf, joined}
 
 abbrev pub In {ℓ} : {A : Type ℓ} → A → List A → Type ℓ
 In x xs = List·Memᴰ x xs
@@ -26,6 +26,18 @@ left false b p = p
 pub right : (a b : Bool) → T (a && b) → T b
 right true b p = p
 right false b p = absurd p
+
+-- the same of tests that are known to be true
+pub false-not-true : {A : Type 0} → false ≡ true → A
+false-not-true h = absurd (subst T (sym h) tt)
+
+pub and-left : (a b : Bool) → (a && b) ≡ true → a ≡ true
+and-left true b h = refl
+and-left false b h = h
+
+pub and-right : (a b : Bool) → (a && b) ≡ true → b ≡ true
+and-right true b h = h
+and-right false b h = false-not-true h
 
 pub within-iff : (a b x : ℕ) → T (within a b x) ↔ ((a ≤ x) × (x ≤ b))
 within-iff a b x = (
@@ -118,9 +130,35 @@ pub in-every : {A : Type 0} (t : A → Bool) (xs : List A) → ((x : A) → In x
 in-every t [] f = tt
 in-every t (x ∷ xs) f = both (t x) (every t xs) (f x (List·Memᴰ·head refl)) (in-every t xs (λ y m. f y (List·Memᴰ·tail m)))
 
+-- ---- the test for an entry
+pub member-in : (x : ℕ) (xs : List ℕ) → T (member x xs) → In x xs
+member-in x [] t = absurd t
+member-in x (y ∷ ys) t = go (eqb y x) (eqb→eq y x) (member-in x ys) t
+  where
+    go : (c : Bool) → (T c → y ≡ x) → (T (member x ys) → In x ys) → T (cond c true (member x ys)) → In x (y ∷ ys)
+    go true f g h = List·Memᴰ·head (sym (f tt))
+    go false f g h = List·Memᴰ·tail (g h)
+
+pub in-member : (x : ℕ) (xs : List ℕ) → In x xs → T (member x xs)
+in-member x [] m = absurd (List·Memᴰ·not-nil m)
+in-member x (y ∷ ys) m = go (eqb y x) (⊎-map (λ e. subst (λ z. T (eqb z x)) e (eqb-refl x)) (in-member x ys) (List·Memᴰ·cases-cons m))
+  where
+    go : (c : Bool) → T c ⊎ T (member x ys) → T (cond c true (member x ys))
+    go true h = tt
+    go false (inl h) = absurd h
+    go false (inr h) = h
+
 -- ---- a chain of tests, as code asks them: the first that fails decides
 pub fails-here : (a b : Bool) → a ≡ false → false ≡ (a && b)
 fails-here a b e = rw e
 
 pub holds-here : (a b c : Bool) → a ≡ true → c ≡ b → c ≡ (a && b)
 holds-here a b c e f = rw e f
+
+-- ---- a test of every entry of one list and then of another
+pub every-append : {A : Type 0} (t : A → Bool) (xs ys : List A) → every t (xs ++ ys) ≡ (every t xs && every t ys)
+every-append t [] ys = refl
+every-append t (x ∷ xs) ys = ap (λ (b : Bool). t x && b) (every-append t xs ys) ∙ sym (and-assoc (t x) (every t xs) (every t ys))
+
+pub every-both : {A : Type 0} (t : A → Bool) (xs ys : List A) → T (every t xs) → T (every t ys) → T (every t (xs ++ ys))
+every-both t xs ys h k = subst T (sym (every-append t xs ys)) (both (every t xs) (every t ys) h k)

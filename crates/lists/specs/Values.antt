@@ -23,7 +23,7 @@ module _ {A : Type 0} (xs : List A) (n : ℕ) (l : length xs ≡ n) (t₀ t : Li
   pub front-length : n ≤ length t₀ → length t ≡ length t₀
   front-length h = ap length f ∙ length-append xs (drop n t₀) ∙ (omega (arith, length-drop n t₀))
 
-  pub front-take : take n t ≡ xs
+  front-take : take n t ≡ xs
   front-take = ap (take n) f ∙ take-at xs (drop n t₀) n l
 
   pub front-rest : drop n t ≡ drop n t₀
@@ -34,7 +34,7 @@ module _ {A : Type 0} (xs : List A) (n : ℕ) (l : length xs ≡ n) (t₀ t : Li
       let e : n + (k - n) ≡ k = omega arith in
       ap (λ (i : ℕ). drop i t) (sym e) ∙ sym (drop-drop (k - n) n t) ∙ ap (drop (k - n)) front-rest ∙ drop-drop (k - n) n t₀ ∙ ap (λ (i : ℕ). drop i t₀) e
 
-  pub front-old : (j : ℕ) (d : A) → n ≤ j → getD t j d ≡ getD t₀ j d
+  front-old : (j : ℕ) (d : A) → n ≤ j → getD t j d ≡ getD t₀ j d
   front-old j d h =
       let e : n + (j - n) ≡ j = omega arith in
       ap (λ (i : ℕ). getD t i d) (sym e) ∙ sym (getD-drop n t (j - n) d) ∙ ap (λ (l : List A). getD l (j - n) d) front-rest
@@ -55,7 +55,7 @@ module _ {A : Type 0} (g : ℕ → A) where
   values-at i (suc k) zero d h = let e : i ≡ i + 0 = omega arith in ap g e
   values-at i (suc k) (suc j) d h = let e : suc i + j ≡ i + suc j = omega arith in values-at (suc i) k j d (omega arith) ∙ ap g e
 
-  pub values-append : (i j k : ℕ) → map g (run i (j + k)) ≡ map g (run i j) ++ map g (run (i + j) k)
+  values-append : (i j k : ℕ) → map g (run i (j + k)) ≡ map g (run i j) ++ map g (run (i + j) k)
   values-append i zero k =
       let e : i ≡ i + 0 = omega arith in
       let f : 0 + k ≡ k = omega arith in

@@ -1,7 +1,7 @@
 -- The three loops of the pass, one turn at a time.
 -- Key idea: while the rows are rewritten, the table is its new rows in front and its old ones behind; while a row's stretches are rewritten, the row is its
 -- new values in front and its old ones behind. What is still to be asked of the rows left gives the pass's whole answer, so a break keeps it at hand.
-use mathlib.Core.Path.{_≡_, refl, sym, ap, _∙_, subst}
+use mathlib.Core.Path.{_≡_, refl, sym, ap, ap₂, _∙_, subst}
 use mathlib.Core.Bool.{Bool, true, false, _&&_, cond}
 use mathlib.Core.List.{List, _++_, map}
 use Prim.Native.Nat.{ℕ, suc, _+_, _-_, _*_, _≤_, _<_}
@@ -15,17 +15,17 @@ use lib.Signed.{leZ, ltZ}
 use Rattle.integers.specs.Parts.{ints, minℤ, min≤l}
 use Rattle.lists.specs.Lists.{run, joined}
 use Rattle.lists.specs.Members.{every-at}
-use Rattle.lists.specs.Parts.{part-at, part-length, back, back-length}
+use Rattle.lists.specs.Slices.{part-at, part-length, back, back-length}
 use Rattle.lists.specs.Values.{listOf, length-listOf, listOf-at, listOf-is, values-are}
 use Rattle.lists.specs.Values.{Filled, filled-old, filled-new, filled-part, front-rest, front-past, front-part}
 use Rattle.network.specs.Closure.{step}
-use Rattle.network.specs.Table.{entry, middle, sumInRange, rowInRange}
+use Rattle.network.specs.Table.{maxBoundaries, entry, middle, sumInRange, rowInRange}
 use Rattle.network.specs.Table.{Passed, finished, stopped, outOfRange, afterRows, passFrom, outcomeOf, cleared, After}
 use Rattle.network.specs.TableLaws.{length-rows, rows-snoc, drop-middle}
-use Rattle.network.specs.Row.{leastOf, greatestOf, lowered, relaxed, SumsInRange, Loaded, Ran}
+use Rattle.network.specs.RowStep.{leastOf, greatestOf, relaxedAt, relaxed, SumsInRange, Loaded, Ran}
 use Rattle.network.specs.declared.Outcome.{Outcome}
 use Rattle.network.specs.declared.Outcome.the-variants.{Finished}
-use Rattle.network.specs.RowLaws.{ends-ask-all}
+use Rattle.network.specs.RowStepLaws.{ends-ask-all}
 
 -- ---- the middle row, copied, and its extremes
 pub record MidIs (w m : ℕ) (t mid : List ℤ) (least greatest : ℤ) : Type 0 where
@@ -34,16 +34,16 @@ pub record MidIs (w m : ℕ) (t mid : List ℤ) (least greatest : ℤ) : Type 0 
   pub least-is : least ≡ leastOf (listOf w (entry w t m))
   pub greatest-is : greatest ≡ greatestOf (listOf w (entry w t m))
 
-pub mid-is : (w m k : ℕ) (t mid₀ mid : List ℤ) (least greatest : ℤ) → k ≡ w → m * w + k ≤ length t → w ≤ length mid
-    → Loaded (take k (drop (m * w) t)) mid₀ least greatest mid → MidIs w m t mid least greatest
-mid-is w m k t mid₀ mid least greatest e h r v =
-    let xs = take k (drop (m * w) t) in
-    let long : length xs ≡ w = part-length (m * w) k t h ∙ e in
-    let is : xs ≡ listOf w (entry w t m) = listOf-is (entry w t m) (pos 0) w xs long (λ j l. part-at (m * w) k t (pos 0) j (omega arith)) in
+pub mid-is : {w m : ℕ} {t mid₀ mid : List ℤ} {least greatest : ℤ} → m * w + w ≤ length t → w ≤ length mid
+    → Loaded (take w (drop (m * w) t)) mid₀ least greatest mid → MidIs w m t mid least greatest
+mid-is {w} {m} {t} {mid₀} h r v =
+    let xs = take w (drop (m * w) t) in
+    let long : length xs ≡ w = part-length (m * w) w t h in
+    let is : xs ≡ listOf w (entry w t m) = listOf-is (entry w t m) (pos 0) w xs long (λ j l. part-at (m * w) w t (pos 0) j l) in
     record {
       room = r;
       at = λ j l. ap (λ (x : List ℤ). getD x j (pos 0)) (v .front) ∙ List·getD-append xs (drop (length xs) mid₀) (pos 0) j (omega arith)
-          ∙ part-at (m * w) k t (pos 0) j (omega arith);
+          ∙ part-at (m * w) w t (pos 0) j l;
       least-is = v .low ∙ ap leastOf is;
       greatest-is = v .high ∙ ap greatestOf is;
     }
@@ -53,28 +53,12 @@ pub record RowIs (w a : ℕ) (t row : List ℤ) : Type 0 where
   pub long : length row ≡ w
   pub at : (j : ℕ) → j < w → getD row j (pos 0) ≡ entry w t a j
 
--- asking the extremes asks every sum of the row
-pub row-asked : (w m a : ℕ) (t mid : List ℤ) (least greatest am : ℤ) → 0 < w → MidIs w m t mid least greatest → am ≡ entry w t a m
-    → rowInRange w m t a ≡ (leZ (negsuc 29999) (am +ℤ least) && leZ (am +ℤ greatest) (pos 30000))
-unfolding rowInRange
-row-asked w m a t mid least greatest am h v e =
-    let xs = listOf w (entry w t m) in
-    ends-ask-all (entry w t a m) xs (omega (arith, length-listOf (entry w t m) w))
-    ∙ ap (λ (z : ℤ). leZ (negsuc 29999) (z +ℤ leastOf xs) && leZ (z +ℤ greatestOf xs) (pos 30000)) (sym e)
-    ∙ ap (λ (z : ℤ). leZ (negsuc 29999) (am +ℤ z) && leZ (am +ℤ greatestOf xs) (pos 30000)) (sym (v .least-is))
-    ∙ ap (λ (z : ℤ). leZ (negsuc 29999) (am +ℤ least) && leZ (am +ℤ z) (pos 30000)) (sym (v .greatest-is))
-
--- so the sums with a stretch of the middle row are in range
-pub stretch-in-range : (w m a : ℕ) (t mid : List ℤ) (least greatest am : ℤ) → MidIs w m t mid least greatest → am ≡ entry w t a m
-    → rowInRange w m t a ≡ true → (b k : ℕ) → b + k ≤ w → SumsInRange am (take k (drop b mid))
-unfolding rowInRange
-stretch-in-range w m a t mid least greatest am v e r b k h j l =
-    let hj : j < k = omega (arith, length-take k (drop b mid)) in
-    let g = entry w t m in
-    let y : getD (take k (drop b mid)) j (pos 0) ≡ getD (listOf w g) (b + j) (pos 0) =
-    part-at b k mid (pos 0) j hj ∙ v .at (b + j) (omega arith) ∙ sym (listOf-at g w (b + j) (pos 0) (omega arith)) in
-    let test = every-at (λ x. sumInRange (entry w t a m +ℤ x)) (pos 0) (listOf w g) (subst T (sym r) tt) (b + j) (omega (arith, length-listOf g w)) in
-    subst (λ (x : ℤ). T (sumInRange (am +ℤ x))) (sym y) (subst (λ (x : ℤ). T (sumInRange (x +ℤ getD (listOf w g) (b + j) (pos 0)))) (sym e) test)
+-- that row over the middle boundary m
+pub record RowOver (w m a : ℕ) (t mid old : List ℤ) (least greatest am : ℤ) : Type 0 where
+  pub inside : a < w
+  pub middle : MidIs w m t mid least greatest
+  pub row : RowIs w a t old
+  pub over : am ≡ entry w t a m
 
 -- ---- the stretches of one row
 pub record ColsInv (am : ℤ) (mid old : List ℤ) (w a : ℕ) (outcome : Outcome) (row : List ℤ) (b : ℕ) : Type 0 where
@@ -82,52 +66,55 @@ pub record ColsInv (am : ℤ) (mid old : List ℤ) (w a : ℕ) (outcome : Outcom
   pub none : outcome ≡ Finished
   pub wide : length old ≡ w
   pub long : length row ≡ w
-  pub form : Filled (lowered am mid old) b old row
-  pub fine : a < b → ltZ (lowered am mid old a) (pos 0) ≡ false
+  pub form : Filled (relaxedAt am mid old) b old row
+  pub fine : a < b → ltZ (relaxedAt am mid old a) (pos 0) ≡ false
 
-pub cols-start : (am : ℤ) (mid old : List ℤ) (w a : ℕ) (outcome : Outcome) → outcome ≡ Finished → length old ≡ w → ColsInv am mid old w a outcome old 0
-cols-start am mid old w a outcome n l = record { at-most = omega arith; none = n; wide = l; long = l; form = refl; fine = λ h. absurd (omega arith) }
+pub cols-start : {am : ℤ} {mid old : List ℤ} {w a : ℕ} {outcome : Outcome} → outcome ≡ Finished → length old ≡ w → ColsInv am mid old w a outcome old 0
+cols-start n l = record { at-most = omega arith; none = n; wide = l; long = l; form = refl; fine = λ h. absurd (omega arith) }
 
-module _ (am : ℤ) (mid old : List ℤ) (w a : ℕ) (outcome : Outcome) (row : List ℤ) (b e k : ℕ) (ys : List ℤ) (v : ColsInv am mid old w a outcome row b)
-    (ke : k ≡ e - b) (hb : b < e) (he : e ≤ w) (ey : ys ≡ relaxed am (take k (drop b mid)) (take k (drop b row))) where
-  stretch-length : length ys ≡ k
-  stretch-length = ap length ey ∙ length-listOf (lowered am (take k (drop b mid)) (take k (drop b row))) (length (take k (drop b row)))
-      ∙ part-length b k row (omega (arith, v .long))
+module _ {am : ℤ} {mid old : List ℤ} {w a : ℕ} {outcome : Outcome} {row : List ℤ} {b : ℕ} (v : ColsInv am mid old w a outcome row b)
+    (e : ℕ) (hb : b < e) (he : e ≤ w) {ys : List ℤ} (ey : ys ≡ relaxed am (take (e - b) (drop b mid)) (take (e - b) (drop b row))) where
+  fits : b + (e - b) ≤ length row
+  fits = omega (arith, v .long)
 
-  stretch-form : Filled (lowered am mid old) e old (back b k ys row)
+  stretch-length : length ys ≡ e - b
+  stretch-length = ap length ey ∙ length-listOf (relaxedAt am (take (e - b) (drop b mid)) (take (e - b) (drop b row))) (length (take (e - b) (drop b row)))
+      ∙ part-length b (e - b) row fits
+
+  stretch-form : Filled (relaxedAt am mid old) e old (back b (e - b) ys row)
   stretch-form =
-      let part = take k (drop b row) in
-      let h : b + k ≤ length row = omega (arith, v .long) in
-      let values : ys ≡ map (lowered am mid old) (run b k) = values-are (lowered am mid old) (pos 0) b k ys stretch-length (λ j l.
+      let part = take (e - b) (drop b row) in
+      let values : ys ≡ map (relaxedAt am mid old) (run b (e - b)) = values-are (relaxedAt am mid old) (pos 0) b (e - b) ys stretch-length (λ j l.
       let y : getD part j (pos 0) ≡ getD old (b + j) (pos 0) =
-      part-at b k row (pos 0) j l ∙ filled-old (lowered am mid old) b old row (v .form) (b + j) (pos 0) (omega arith) in
+      part-at b (e - b) row (pos 0) j l ∙ filled-old (relaxedAt am mid old) b old row (v .form) (b + j) (pos 0) (omega arith) in
       ap (λ (zs : List ℤ). getD zs j (pos 0)) ey
-      ∙ listOf-at (lowered am (take k (drop b mid)) part) (length part) j (pos 0) (omega (arith, part-length b k row h))
-      ∙ ap (λ (x : ℤ). minℤ x (am +ℤ getD (take k (drop b mid)) j (pos 0))) y
-      ∙ ap (λ (x : ℤ). minℤ (getD old (b + j) (pos 0)) (am +ℤ x)) (part-at b k mid (pos 0) j l)) in
-      let q : b + k ≡ e = omega arith in
-      subst (λ (n : ℕ). Filled (lowered am mid old) n old (back b k ys row)) q (filled-part (lowered am mid old) b old row (v .form) k ys values)
+      ∙ listOf-at (relaxedAt am (take (e - b) (drop b mid)) part) (length part) j (pos 0) (omega (arith, part-length b (e - b) row fits))
+      ∙ ap₂ (λ (x y : ℤ). minℤ x (am +ℤ y)) y (part-at b (e - b) mid (pos 0) j l)) in
+      let q : b + (e - b) ≡ e = omega arith in
+      subst (λ (n : ℕ). Filled (relaxedAt am mid old) n old (back b (e - b) ys row)) q (filled-part (relaxedAt am mid old) b old row (v .form) (e - b) ys values)
 
-  pub cols-long : length (back b k ys row) ≡ w
-  cols-long = back-length b k ys row (omega (arith, v .long)) stretch-length ∙ v .long
+  pub cols-long : length (back b (e - b) ys row) ≡ w
+  cols-long = back-length b (e - b) ys row fits stretch-length ∙ v .long
 
-  pub cols-again : ltZ (getD (back b k ys row) a (pos 0)) (pos 0) ≡ false → ColsInv am mid old w a outcome (back b k ys row) e
+  new-at : a < e → getD (back b (e - b) ys row) a (pos 0) ≡ relaxedAt am mid old a
+  new-at = filled-new (relaxedAt am mid old) e old (back b (e - b) ys row) stretch-form a (pos 0)
+
+  pub cols-again : ltZ (getD (back b (e - b) ys row) a (pos 0)) (pos 0) ≡ false → ColsInv am mid old w a outcome (back b (e - b) ys row) e
   cols-again f = record {
     at-most = he;
     none = v .none;
     wide = v .wide;
     long = cols-long;
     form = stretch-form;
-    fine = λ h.
-        ap (λ (x : ℤ). ltZ x (pos 0)) (sym (filled-new (lowered am mid old) e old (back b k ys row) stretch-form a (pos 0) h)) ∙ f;
+    fine = λ h. ap (λ (x : ℤ). ltZ x (pos 0)) (sym (new-at h)) ∙ f;
   }
 
   -- an entry below 0 is one of the new values, or an old one that the new value is not above
-  pub cols-low : ltZ (getD (back b k ys row) a (pos 0)) (pos 0) ≡ true → ltZ (lowered am mid old a) (pos 0) ≡ true
+  pub cols-low : ltZ (getD (back b (e - b) ys row) a (pos 0)) (pos 0) ≡ true → ltZ (relaxedAt am mid old a) (pos 0) ≡ true
   cols-low f = elim (decLe e a) [
-    | no h ↦ ap (λ (x : ℤ). ltZ x (pos 0)) (sym (filled-new (lowered am mid old) e old (back b k ys row) stretch-form a (pos 0) (omega arith))) ∙ f
+    | no h ↦ ap (λ (x : ℤ). ltZ x (pos 0)) (sym (new-at (omega arith))) ∙ f
     | yes h ↦
-        let q = filled-old (lowered am mid old) e old (back b k ys row) stretch-form a (pos 0) h in
+        let q = filled-old (relaxedAt am mid old) e old (back b (e - b) ys row) stretch-form a (pos 0) h in
         let l = min≤l (getD old a (pos 0)) (am +ℤ getD mid a (pos 0)) in
         omega (ints, f, q)
   ]
@@ -136,18 +123,39 @@ module _ (am : ℤ) (mid old : List ℤ) (w a : ℕ) (outcome : Outcome) (row : 
 abbrev pub newRow : ℕ → ℕ → List ℤ → ℕ → List ℤ
 newRow w m t a = listOf w (step m (entry w t) a)
 
-module _ (w m a : ℕ) (t mid old : List ℤ) (least greatest am : ℤ) (v : MidIs w m t mid least greatest) (o : RowIs w a t old) (e : am ≡ entry w t a m) where
-  pub lowered-is : (j : ℕ) → j < w → lowered am mid old j ≡ step m (entry w t) a j
+module _ {w m a : ℕ} {t mid old : List ℤ} {least greatest am : ℤ} (s : RowOver w m a t mid old least greatest am) where
+  -- asking the extremes asks every sum of the row
+  pub row-asked : rowInRange w m t a ≡ (leZ (negsuc 29999) (am +ℤ least) && leZ (am +ℤ greatest) (pos 30000))
+  unfolding rowInRange
+  row-asked =
+      let xs = listOf w (entry w t m) in
+      let v = s .middle in
+      ends-ask-all (entry w t a m) xs (omega (arith, length-listOf (entry w t m) w, s .inside))
+      ∙ ap (λ (z : ℤ). leZ (negsuc 29999) (z +ℤ leastOf xs) && leZ (z +ℤ greatestOf xs) (pos 30000)) (sym (s .over))
+      ∙ ap₂ (λ (x y : ℤ). leZ (negsuc 29999) (am +ℤ x) && leZ (am +ℤ y) (pos 30000)) (sym (v .least-is)) (sym (v .greatest-is))
+
+  -- so the sums with a stretch of the middle row are in range
+  pub stretch-in-range : rowInRange w m t a ≡ true → (b k : ℕ) → b + k ≤ w → SumsInRange am (take k (drop b mid))
+  unfolding rowInRange
+  stretch-in-range r b k h j l =
+      let hj : j < k = omega (arith, length-take k (drop b mid)) in
+      let g = entry w t m in
+      let y : getD (take k (drop b mid)) j (pos 0) ≡ getD (listOf w g) (b + j) (pos 0) =
+      part-at b k mid (pos 0) j hj ∙ s .middle .at (b + j) (omega arith) ∙ sym (listOf-at g w (b + j) (pos 0) (omega arith)) in
+      let test = every-at (λ x. sumInRange (entry w t a m +ℤ x)) (pos 0) (listOf w g) (subst T (sym r) tt) (b + j) (omega (arith, length-listOf g w)) in
+      subst T (ap₂ (λ (x y : ℤ). sumInRange (x +ℤ y)) (sym (s .over)) (sym y)) test
+
+  relaxed-is : (j : ℕ) → j < w → relaxedAt am mid old j ≡ step m (entry w t) a j
   unfolding step
-  lowered-is j h = ap (λ (x : ℤ). minℤ x (am +ℤ getD mid j (pos 0))) (o .at j h)
-      ∙ ap (λ (x : ℤ). minℤ (entry w t a j) (x +ℤ getD mid j (pos 0))) e ∙ ap (λ (x : ℤ). minℤ (entry w t a j) (entry w t a m +ℤ x)) (v .at j h)
+  relaxed-is j h = ap₂ (λ (x y : ℤ). minℤ x (am +ℤ y)) (s .row .at j h) (s .middle .at j h)
+      ∙ ap (λ (x : ℤ). minℤ (entry w t a j) (x +ℤ entry w t m j)) (s .over)
 
-  pub row-done : (outcome : Outcome) (row : List ℤ) (b : ℕ) → ColsInv am mid old w a outcome row b → w ≤ b → row ≡ newRow w m t a
-  row-done outcome row b i h = listOf-is (step m (entry w t) a) (pos 0) w row (i .long)
-      (λ j l. filled-new (lowered am mid old) b old row (i .form) j (pos 0) (omega arith) ∙ lowered-is j l)
+  pub row-done : {outcome : Outcome} {row : List ℤ} {b : ℕ} → ColsInv am mid old w a outcome row b → w ≤ b → row ≡ newRow w m t a
+  row-done {outcome} {row} {b} i h = listOf-is (step m (entry w t) a) (pos 0) w row (i .long)
+      (λ j l. filled-new (relaxedAt am mid old) b old row (i .form) j (pos 0) (omega arith) ∙ relaxed-is j l)
 
-  pub row-low : a < w → (f : Bool) → ltZ (lowered am mid old a) (pos 0) ≡ f → ltZ (step m (entry w t) a a) (pos 0) ≡ f
-  row-low h f q = ap (λ (x : ℤ). ltZ x (pos 0)) (sym (lowered-is a h)) ∙ q
+  pub row-low : (f : Bool) → ltZ (relaxedAt am mid old a) (pos 0) ≡ f → ltZ (step m (entry w t) a a) (pos 0) ≡ f
+  row-low f q = ap (λ (x : ℤ). ltZ x (pos 0)) (sym (relaxed-is a (s .inside))) ∙ q
 
 -- ---- the rows of one middle boundary
 pub record RowsInv (w m : ℕ) (t₁ : List ℤ) (outcome : Outcome) (t : List ℤ) (a : ℕ) : Type 0 where
@@ -160,13 +168,13 @@ pub record RowsInv (w m : ℕ) (t₁ : List ℤ) (outcome : Outcome) (t : List �
 wide : (w m : ℕ) (t : List ℤ) (a : ℕ) → length (newRow w m t a) ≡ w
 wide w m t a = length-listOf (step m (entry w t) a) w
 
-pub rows-start : (w m : ℕ) (t : List ℤ) (outcome : Outcome) → outcome ≡ Finished → RowsInv w m t outcome t 0
-rows-start w m t outcome n =
+pub rows-start : {w m : ℕ} {t : List ℤ} {outcome : Outcome} → outcome ≡ Finished → RowsInv w m t outcome t 0
+rows-start {w} {m} {t} n =
     let z : 0 * w ≡ 0 = omega arith in
     let k : w ≡ w - 0 = omega arith in
     record { at-most = omega arith; none = n; long = refl; form = rw z refl; rest = λ next. ap (λ (i : ℕ). afterRows i 0 w m t next) k }
 
-module _ (w m : ℕ) (t₁ t : List ℤ) (outcome : Outcome) (a : ℕ) (v : RowsInv w m t₁ outcome t a) where
+module _ {w m : ℕ} {t₁ t : List ℤ} {outcome : Outcome} {a : ℕ} (v : RowsInv w m t₁ outcome t a) where
   done-long : length (joined (map (newRow w m t₁) (run 0 a))) ≡ a * w
   done-long = length-rows w (newRow w m t₁) (wide w m t₁) 0 a
 
@@ -190,16 +198,16 @@ module _ (w m : ℕ) (t₁ t : List ℤ) (outcome : Outcome) (a : ℕ) (v : Rows
     unfolding afterRows
     next-row next = v .rest next ∙ ap (λ (i : ℕ). afterRows i a w m t₁ next) left
 
-    pub rows-out : (next : Passed) → rowInRange w m t₁ a ≡ false → afterRows w 0 w m t₁ next ≡ outOfRange
-    rows-out next r = next-row next ∙ (rw r refl)
+    pub rows-out : rowInRange w m t₁ a ≡ false → (next : Passed) → afterRows w 0 w m t₁ next ≡ outOfRange
+    rows-out r next = next-row next ∙ (rw r refl)
 
-    pub rows-low : (next : Passed) → rowInRange w m t₁ a ≡ true → ltZ (step m (entry w t₁) a a) (pos 0) ≡ true → afterRows w 0 w m t₁ next ≡ stopped
-    rows-low next r l = next-row next ∙ (rw (r, l) refl)
+    pub rows-low : rowInRange w m t₁ a ≡ true → ltZ (step m (entry w t₁) a a) (pos 0) ≡ true → (next : Passed) → afterRows w 0 w m t₁ next ≡ stopped
+    rows-low r l next = next-row next ∙ (rw (r, l) refl)
 
-    pub rows-again : (next-outcome : Outcome) (k : ℕ) (ys : List ℤ) → next-outcome ≡ Finished → k ≡ w → a * w + k ≤ length t
+    pub rows-again : {next-outcome : Outcome} (k : ℕ) {ys : List ℤ} → next-outcome ≡ Finished → k ≡ w → a * w + k ≤ length t
         → ys ≡ newRow w m t₁ a → rowInRange w m t₁ a ≡ true
         → ltZ (step m (entry w t₁) a a) (pos 0) ≡ false → RowsInv w m t₁ next-outcome (back (a * w) k ys t) (a + 1)
-    rows-again next-outcome k ys n e fits y r l =
+    rows-again k {ys} n e fits y r l =
         let long : length ys ≡ k = ap length y ∙ wide w m t₁ a ∙ sym e in
         let i : a * w + k ≡ (a + 1) * w = omega arith in
         let z : 0 + a ≡ a = omega arith in
@@ -220,11 +228,11 @@ module _ (w m : ℕ) (t₁ t : List ℤ) (outcome : Outcome) (a : ℕ) (v : Rows
     all : a ≡ w
     all = omega arith
 
-    pub rows-done : t ≡ middle w m t₁
+    rows-done : t ≡ middle w m t₁
     unfolding middle
     rows-done = v .form ∙ ap (λ (n : ℕ). joined (map (newRow w m t₁) (run 0 n)) ++ drop (n * w) t₁) all
 
-    pub rows-on : (next : Passed) → afterRows w 0 w m t₁ next ≡ next
+    rows-on : (next : Passed) → afterRows w 0 w m t₁ next ≡ next
     unfolding afterRows
     rows-on next = let z : w - a ≡ 0 = omega arith in v .rest next ∙ ap (λ (i : ℕ). afterRows i a w m t₁ next) z
 
@@ -233,27 +241,27 @@ pub record PassInv (t₀ : List ℤ) (w from to : ℕ) (t : List ℤ) (outcome :
   pub at-least : from ≤ m
   pub at-most : m ≤ to
   pub none : outcome ≡ Finished
-  pub room : length mid ≡ 49
+  pub room : length mid ≡ maxBoundaries
   pub long : length t ≡ length t₀
   pub past : drop (w * w) t ≡ drop (w * w) t₀
   pub rest : passFrom (to - from) from w t₀ ≡ passFrom (to - m) m w t
 
-module _ (t₀ t₁ : List ℤ) (w from to : ℕ) (outcome₁ : Outcome) (mid₁ : List ℤ) (m : ℕ) (p : PassInv t₀ w from to t₁ outcome₁ mid₁ m) where
+module _ {t₀ t₁ : List ℤ} {w from to : ℕ} {outcome₁ : Outcome} {mid₁ : List ℤ} {m : ℕ} (p : PassInv t₀ w from to t₁ outcome₁ mid₁ m) where
   next-middle : m < to → passFrom (to - from) from w t₀ ≡ afterRows w 0 w m t₁ (passFrom (to - (m + 1)) (suc m) w (middle w m t₁))
   unfolding passFrom
   next-middle h = let k : to - m ≡ suc (to - (m + 1)) = omega arith in p .rest ∙ ap (λ (i : ℕ). passFrom i m w t₁) k
 
-  pub middle-again : m < to → (t : List ℤ) (outcome : Outcome) (a : ℕ) → RowsInv w m t₁ outcome t a → w ≤ a → (mid : List ℤ) → length mid ≡ 49
+  pub middle-again : m < to → {t : List ℤ} {outcome : Outcome} {a : ℕ} → RowsInv w m t₁ outcome t a → w ≤ a → {mid : List ℤ} → length mid ≡ maxBoundaries
       → PassInv t₀ w from to t outcome mid (m + 1)
-  middle-again h t outcome a v ha mid l = record {
+  middle-again h {t} v ha l = record {
     at-least = omega (arith, p .at-least);
     at-most = omega arith;
     none = v .none;
     room = l;
     long = v .long ∙ p .long;
-    past = ap (drop (w * w)) (rows-done w m t₁ t outcome a v ha) ∙ drop-middle w m t₁ ∙ p .past;
-    rest = next-middle h ∙ rows-on w m t₁ t outcome a v ha (passFrom (to - (m + 1)) (suc m) w (middle w m t₁))
-        ∙ ap (λ (x : List ℤ). passFrom (to - (m + 1)) (suc m) w x) (sym (rows-done w m t₁ t outcome a v ha))
+    past = ap (drop (w * w)) (rows-done v ha) ∙ drop-middle w m t₁ ∙ p .past;
+    rest = next-middle h ∙ rows-on v ha (passFrom (to - (m + 1)) (suc m) w (middle w m t₁))
+        ∙ ap (λ (x : List ℤ). passFrom (to - (m + 1)) (suc m) w x) (sym (rows-done v ha))
         ∙ ap (λ (n : ℕ). passFrom (to - (m + 1)) n w t) (sym (add-one m));
   }
 
@@ -271,20 +279,20 @@ module _ (t₀ t₁ : List ℤ) (w from to : ℕ) (outcome₁ : Outcome) (mid₁
 
   -- the pass ends at a row, with the table half done
   pub pass-left : m < to → (end : Passed) (r : Outcome) (u : List ℤ) → ((x : List ℤ) → end ≡ finished x → ⊥)
-      → afterRows w 0 w m t₁ (passFrom (to - (m + 1)) (suc m) w (middle w m t₁)) ≡ end → r ≡ outcomeOf end
+      → ((next : Passed) → afterRows w 0 w m t₁ next ≡ end) → r ≡ outcomeOf end
       → length u ≡ length t₁ → drop (w * w) u ≡ drop (w * w) t₁ → Ran w t₀ (passFrom (to - from) from w t₀) r u
   pass-left h end r u other e o l q =
-      let g = next-middle h ∙ e in
+      let g = next-middle h ∙ e (passFrom (to - (m + 1)) (suc m) w (middle w m t₁)) in
       record { outcome = o ∙ sym (ap outcomeOf g); table = λ x y. absurd (other x (sym g ∙ y)); long = l ∙ p .long; past = q ∙ p .past }
 
 -- ---- what the caller finds: the table of a pass that finished, and zeros otherwise
-pub after-finished : (w : ℕ) (t : List ℤ) (p : Passed) (r : Outcome) (u : List ℤ) → Ran w t p r u → r ≡ Finished → After w t p r u
-after-finished w t (finished x) r u v e = record { outcome = v .outcome; table = v .table x refl }
-after-finished w t stopped r u v e = let o = v .outcome in let z : _≡_ {A = ℕ} 0 1 = cc in let f : ⊥ = omega arith in absurd f
-after-finished w t outOfRange r u v e = let o = v .outcome in let z : _≡_ {A = ℕ} 0 1 = cc in let f : ⊥ = omega arith in absurd f
+pub after-finished : {w : ℕ} {t : List ℤ} {p : Passed} {r : Outcome} {u : List ℤ} → Ran w t p r u → r ≡ Finished → After w t p r u
+after-finished {p = finished x} v e = record { outcome = v .outcome; table = v .table x refl }
+after-finished {p = stopped} v e = let o = v .outcome in let z : _≡_ {A = ℕ} 0 1 = cc in let f : ⊥ = omega arith in absurd f
+after-finished {p = outOfRange} v e = let o = v .outcome in let z : _≡_ {A = ℕ} 0 1 = cc in let f : ⊥ = omega arith in absurd f
 
-pub after-cleared : (w : ℕ) (t : List ℤ) (p : Passed) (r : Outcome) (u x : List ℤ) → Ran w t p r u → (r ≡ Finished → ⊥)
+pub after-cleared : {w : ℕ} {t : List ℤ} {p : Passed} {r : Outcome} {u x : List ℤ} → Ran w t p r u → (r ≡ Finished → ⊥)
     → x ≡ cleared (w * w) u → After w t p r x
-after-cleared w t (finished y) r u x v other e = absurd (other (v .outcome))
-after-cleared w t stopped r u x v other e = record { outcome = v .outcome; table = e ∙ ap (λ (l : List ℤ). replicate (w * w) (pos 0) ++ l) (v .past) }
-after-cleared w t outOfRange r u x v other e = record { outcome = v .outcome; table = e ∙ ap (λ (l : List ℤ). replicate (w * w) (pos 0) ++ l) (v .past) }
+after-cleared {p = finished y} v other e = absurd (other (v .outcome))
+after-cleared {w} {p = stopped} v other e = record { outcome = v .outcome; table = e ∙ ap (λ (l : List ℤ). replicate (w * w) (pos 0) ++ l) (v .past) }
+after-cleared {w} {p = outOfRange} v other e = record { outcome = v .outcome; table = e ∙ ap (λ (l : List ℤ). replicate (w * w) (pos 0) ++ l) (v .past) }

@@ -21,7 +21,7 @@ le-sum-min x p q r s e f g h =
     (λ _. min-cases r s (λ z. x ≤ℤ (q +ℤ z)) (λ _. g) (λ _. h))
 
 -- ---- one step
-pub step-below : (m : ℕ) (P : Weights) (a b : ℕ) → step m P a b ≤ℤ P a b
+step-below : (m : ℕ) (P : Weights) (a b : ℕ) → step m P a b ≤ℤ P a b
 unfolding step
 step-below m P a b = min≤l (P a b) (P a m +ℤ P m b)
 
@@ -69,7 +69,7 @@ module _ (top m : ℕ) (P : Weights) (hm : m ≤ top) (d : pos 0 ≤ℤ P m m) w
       (omega (ints, c k m b hk hm hb, sum mk kb, sum (am +ℤ mk) kb, sum am mk, sum am mb))
       (omega (ints, c k m m hk hm hm, sum mk km, sum (am +ℤ mk) (km +ℤ mb), sum am mk, sum km mb, sum am mb))
 
-  pub step-closed : ClosedBelow top m P → ClosedBelow top (suc m) (step m P)
+  step-closed : ClosedBelow top m P → ClosedBelow top (suc m) (step m P)
   step-closed c k a b hk ha hb =
       ⊎-elim (λ (e : k ≡ m). subst (λ j. step m P a b ≤ℤ (step m P a j +ℤ step m P j b)) (sym e) (over-middle a b))
       (λ h. over-earlier c k a b h ha hb) (eq-or-lt-of-le (le-of-suc-le-suc hk))

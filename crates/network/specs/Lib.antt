@@ -6,5 +6,5 @@ pub mod Table
 pub mod TableLaws
 pub mod PassLaws
 pub mod PassFront
-pub mod Row
-pub mod RowLaws
+pub mod RowStep
+pub mod RowStepLaws

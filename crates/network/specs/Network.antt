@@ -1,4 +1,4 @@
--- Weights between boundaries, potentials, walks and negative cycles: a temporal constraint network (001, section 2.4).
+-- Weights between boundaries, potentials, walks and negative cycles: a temporal constraint network (Chabert and Demassey, section 2.4).
 -- Definitions only. Boundaries run 0 to top; `d a b` bounds the rise from boundary a to boundary b.
 use mathlib.Core.Bool.{Bool, true, _&&_, not}
 use mathlib.Core.List.{List, [], _∷_}
@@ -37,7 +37,7 @@ abbrev pub lowestFirst : List ℕ → Bool
 lowestFirst [] = true
 lowestFirst (a ∷ bs) = every (ltb a) bs
 
--- two or more boundaries, none twice, lowest first, whose weights around add up to less than 0 (01: ring)
+-- two or more boundaries, none twice, lowest first, whose weights around add up to less than 0 (docs/RULES.md: ring)
 unfoldable pub isNegativeCycle : ℕ → Weights → List ℕ → Bool
 isNegativeCycle top d c =
     leb 2 (length c) && (every (λ b. leb b top) c && (distinct c && (lowestFirst c && ltZ (around d c) (pos 0))))

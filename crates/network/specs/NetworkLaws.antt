@@ -1,17 +1,22 @@
 -- What potentials and walks say of each other.
 -- Key idea: along a walk a feasible potential rises by at most the weights of the steps, so around a closed walk these add up to at least 0. A negative
--- cycle therefore leaves no feasible potential. And the smaller of two feasible potentials, one of them shifted, is feasible again.
+-- cycle therefore leaves no feasible potential. And the smaller of two feasible potentials, one of them shifted, is feasible again. A list without a boundary
+-- twice has at most as many entries as there are boundaries.
 use mathlib.Core.Path.{_≡_, refl, sym, ap, ap₂, _∙_}
-use mathlib.Core.Bool.{_&&_}
-use mathlib.Core.List.{List, [], _∷_, _++_, append-nil}
-use Prim.Native.Nat.{ℕ, _≤_}
-use lib.Dec.{T, leb, leb→le, le→leb}
+use mathlib.Core.Logic.{⊎-elim}
+use mathlib.Core.Bool.{Bool, true, false, not, _&&_}
+use mathlib.Core.List.{List, [], _∷_, _++_, append-nil, Memᴰ·append-left, Memᴰ·append-right, Memᴰ·cast}
+use mathlib.Core.List.{List·Memᴰ·head, List·Memᴰ·tail, List·Memᴰ·not-nil, List·Memᴰ·cases-cons, List·Memᴰ·append-cases}
+use Prim.Native.Nat.{ℕ, suc, _≤_}
+use native.Mathlib.Omega.{arith}
+use lib.Dec.{T, leb, eqb, leb→le, le→leb, eqb→eq, eqb-refl, not-T}
 use lib.ListN.{length}
 use lib.IntN.{ℤ, pos, _+ℤ_, +ℤ-comm}
 use lib.Signed.{_≤ℤ_, _<ℤ_, ltZ}
 use Rattle.integers.specs.Parts.{ints, sum, minℤ, min-cases, min≤l, min≤r}
-use Rattle.lists.specs.Lists.{every}
-use Rattle.lists.specs.Members.{both, left, right}
+use Rattle.lists.specs.Lists.{every, member}
+use Rattle.lists.specs.Members.{In, both, left, right, in-every, every-in, member-in, in-member}
+use Rattle.lists.specs.Counts.{count, count-lt, count-most}
 use Rattle.network.specs.Network.{Weights, Potential, Feasible, via, around, distinct, lowestFirst, isNegativeCycle}
 
 -- ---- the lattice of feasible potentials
@@ -50,6 +55,80 @@ pub upto-right : (top : ℕ) (us vs : List ℕ) → Upto top (us ++ vs) → Upto
 upto-right top [] vs h = h
 upto-right top (u ∷ us) vs h = upto-right top us vs (h .1)
 
+-- ---- no boundary twice
+abbrev pub Distinct : List ℕ → Type 0
+Distinct [] = Unit {0}
+Distinct (a ∷ bs) = (In a bs → ⊥) × Distinct bs
+
+pub distinct-left : (us vs : List ℕ) → Distinct (us ++ vs) → Distinct us
+distinct-left [] vs g = tt
+distinct-left (u ∷ us) vs g = ((λ m. g .0 (Memᴰ·append-left vs m)), distinct-left us vs (g .1))
+
+pub distinct-right : (us vs : List ℕ) → Distinct (us ++ vs) → Distinct vs
+distinct-right [] vs g = g
+distinct-right (u ∷ us) vs g = distinct-right us vs (g .1)
+
+pub distinct-apart : (us vs : List ℕ) → Distinct (us ++ vs) → (x : ℕ) → In x us → In x vs → ⊥
+distinct-apart [] vs g x p q = List·Memᴰ·not-nil p
+distinct-apart (u ∷ us) vs g x p q =
+    ⊎-elim (λ e. g .0 (Memᴰ·append-right us (Memᴰ·cast (sym e) q))) (λ r. distinct-apart us vs (g .1) x r q) (List·Memᴰ·cases-cons p)
+
+pub distinct-join : (us vs : List ℕ) → Distinct us → Distinct vs → ((x : ℕ) → In x us → In x vs → ⊥) → Distinct (us ++ vs)
+distinct-join [] vs g h f = h
+distinct-join (u ∷ us) vs g h f =
+    ((λ m. ⊎-elim (g .0) (λ q. f u (List·Memᴰ·head refl) q) (List·Memᴰ·append-cases us m)), distinct-join us vs (g .1) h (λ x p. f x (List·Memᴰ·tail p)))
+
+-- the test asks just this
+pub distinct-test : (c : List ℕ) → Distinct c → T (distinct c)
+distinct-test [] g = tt
+distinct-test (a ∷ bs) g = both (every (λ b. not (eqb a b)) bs) (distinct bs)
+    (in-every (λ (b : ℕ). not (eqb a b)) bs (λ b m. not-T (eqb a b) (λ t. g .0 (Memᴰ·cast (eqb→eq a b t) m)))) (distinct-test bs (g .1))
+
+pub distinct-read : (c : List ℕ) → T (distinct c) → Distinct c
+distinct-read [] h = tt
+distinct-read (a ∷ bs) h =
+    let apart = left (every (λ b. not (eqb a b)) bs) (distinct bs) h in
+    (λ m. clash (eqb a a) (eqb-refl a) (every-in (λ b. not (eqb a b)) a bs m apart), distinct-read bs (right (every (λ b. not (eqb a b)) bs) (distinct bs) h))
+  where
+    clash : (b : Bool) → T b → T (not b) → ⊥
+    clash true p q = q
+    clash false p q = p
+
+-- each is at most top, so there are at most top + 1 of them: each is counted at a place of its own
+length-count : (top : ℕ) (c : List ℕ) → Upto top c → Distinct c → length c ≤ count (suc top) (λ v. member v c)
+length-count top [] u g = omega arith
+length-count top (a ∷ bs) u g = omega (
+  arith,
+  length-count top bs (u .1) (g .1),
+  count-lt (suc top) (λ v. member v bs) (λ v. member v (a ∷ bs)) a (omega arith) (in-member a (a ∷ bs) (List·Memᴰ·head refl))
+      (λ t. g .0 (member-in a bs t)) (λ v h t. in-member v (a ∷ bs) (List·Memᴰ·tail (member-in v bs t))),
+)
+
+pub distinct-length : (top : ℕ) (c : List ℕ) → Upto top c → Distinct c → length c ≤ suc top
+distinct-length top c u g = omega (arith, length-count top c u g, count-most (suc top) (λ v. member v c))
+
+-- ---- a negative cycle, wherever it starts
+pub record Cycle (top : ℕ) (d : Weights) (c : List ℕ) : Type 0 where
+  pub long : 2 ≤ length c
+  pub upto : Upto top c
+  pub apart : Distinct c
+  pub negative : around d c <ℤ pos 0
+
+-- the test asks this, and that the lowest boundary comes first
+pub cycle-read : (top : ℕ) (d : Weights) (c : List ℕ) → T (isNegativeCycle top d c) → Cycle top d c
+unfolding isNegativeCycle
+cycle-read top d c h =
+    let e = every (λ b. leb b top) c in
+    let n = ltZ (around d c) (pos 0) in
+    let h₁ = right (leb 2 (length c)) (e && (distinct c && (lowestFirst c && n))) h in
+    let h₂ = right e (distinct c && (lowestFirst c && n)) h₁ in
+    record {
+      long = leb→le 2 (length c) (left (leb 2 (length c)) (e && (distinct c && (lowestFirst c && n))) h);
+      upto = upto-of-every top c (left e (distinct c && (lowestFirst c && n)) h₁);
+      apart = distinct-read c (left (distinct c) (lowestFirst c && n) h₂);
+      negative = record { lt = right (lowestFirst c) n (right (distinct c) (lowestFirst c && n) h₂) };
+    }
+
 -- ---- two weights that agree up to the top boundary
 module _ (top : ℕ) (d e : Weights) (same : (a b : ℕ) → a ≤ top → b ≤ top → d a b ≡ e a b) where
   pub via-same : (a : ℕ) (bs : List ℕ) (z : ℕ) → a ≤ top → Upto top bs → z ≤ top → via d a bs z ≡ via e a bs z
@@ -62,7 +141,7 @@ module _ (top : ℕ) (d e : Weights) (same : (a b : ℕ) → a ≤ top → b ≤
 
 -- ---- walks
 module _ (d : Weights) where
-  pub via-append : (a : ℕ) (us : List ℕ) (m : ℕ) (vs : List ℕ) (e : ℕ) → via d a (us ++ m ∷ vs) e ≡ via d a us m +ℤ via d m vs e
+  via-append : (a : ℕ) (us : List ℕ) (m : ℕ) (vs : List ℕ) (e : ℕ) → via d a (us ++ m ∷ vs) e ≡ via d a us m +ℤ via d m vs e
   via-append a [] m vs e = refl
   via-append a (u ∷ us) m vs e = omega (
     ints,
@@ -79,7 +158,7 @@ module _ (d : Weights) where
   around-turned (a ∷ us) m vs = via-append a us m vs a ∙ +ℤ-comm (via d a us m) (via d m vs a) ∙ sym (via-append m vs a us m)
 
   module _ (top : ℕ) (z : Potential) (f : Feasible top d z) where
-    pub walk-bounds-rise : (a : ℕ) (bs : List ℕ) (e : ℕ) → a ≤ top → Upto top bs → e ≤ top → z e ≤ℤ (z a +ℤ via d a bs e)
+    walk-bounds-rise : (a : ℕ) (bs : List ℕ) (e : ℕ) → a ≤ top → Upto top bs → e ≤ top → z e ≤ℤ (z a +ℤ via d a bs e)
     walk-bounds-rise a [] e ha h he = f a e ha he
     walk-bounds-rise a (b ∷ bs) e ha h he = omega (
       ints,
@@ -91,18 +170,10 @@ module _ (d : Weights) where
       sum (d a b) (via d b bs e),
     )
 
-    pub closed-walk-nonneg : (c : List ℕ) → Upto top c → pos 0 ≤ℤ around d c
+    closed-walk-nonneg : (c : List ℕ) → Upto top c → pos 0 ≤ℤ around d c
     closed-walk-nonneg [] h = omega ints
     closed-walk-nonneg (a ∷ bs) h = omega (ints, walk-bounds-rise a bs a (h .0) (h .1) (h .0), sum (z a) (via d a bs a))
 
     -- a negative cycle leaves no feasible potential
     pub cycle-infeasible : (c : List ℕ) → T (isNegativeCycle top d c) → ⊥
-    unfolding isNegativeCycle
-    cycle-infeasible c h =
-        let e = every (λ b. leb b top) c in
-        let n = ltZ (around d c) (pos 0) in
-        let h₁ = right (leb 2 (length c)) (e && (distinct c && (lowestFirst c && n))) h in
-        let h₂ = right e (distinct c && (lowestFirst c && n)) h₁ in
-        let h₃ = right (distinct c) (lowestFirst c && n) h₂ in
-        let below : around d c <ℤ pos 0 = record { lt = right (lowestFirst c) n h₃ } in
-        omega (ints, closed-walk-nonneg c (upto-of-every top c (left e (distinct c && (lowestFirst c && n)) h₁)))
+    cycle-infeasible c h = let r = cycle-read top d c h in omega (ints, closed-walk-nonneg c (r .upto), r .negative)

@@ -65,7 +65,7 @@ module _ (top w : ℕ) (size : w ≡ suc top) (d : Weights) where
       (λ a b ha hb. entry-middle w m t a b (omega arith) (omega arith)) (level-step top d m (entry w t) (omega arith) l (λ a ha. f a (omega arith)))
 
   -- k middle boundaries that finish take the table k levels up
-  pub finished-level : (k m : ℕ) (t u : List ℤ) → m + k ≤ w → Level top d m (entry w t) → passFrom k m w t ≡ finished u → Level top d (m + k) (entry w u)
+  finished-level : (k m : ℕ) (t u : List ℤ) → m + k ≤ w → Level top d m (entry w t) → passFrom k m w t ≡ finished u → Level top d (m + k) (entry w u)
   unfolding passFrom
   finished-level zero m t u h l e =
       let i : m ≡ m + 0 = omega arith in
@@ -78,7 +78,7 @@ module _ (top w : ℕ) (size : w ≡ suc top) (d : Weights) where
       (⊎-elim (λ (y : StoppedAt w m t w 0 (finished u)). let q = y .is in never (cc)) (λ q. never (cc)))
       (rows-cases w m t w 0 (passFrom k (suc m) w (middle w m t)) (finished u) e)
 
-  pub stopped-infeasible-from : (k m : ℕ) (t : List ℤ) → m + k ≤ w → Level top d m (entry w t) → passFrom k m w t ≡ stopped
+  stopped-infeasible-from : (k m : ℕ) (t : List ℤ) → m + k ≤ w → Level top d m (entry w t) → passFrom k m w t ≡ stopped
       → (z : Potential) → Feasible top d z → ⊥
   unfolding passFrom
   stopped-infeasible-from zero m t h l e = never (cc)
@@ -108,11 +108,11 @@ module _ (top w : ℕ) (size : w ≡ suc top) (t : List ℤ) (zeros : (a : ℕ) 
   stopped-infeasible e = stopped-infeasible-from top w size (entry w t) w 0 t (omega arith) start e
 
 -- ---- the list that a pass leaves: as long as before, and the same past the table
-pub record Kept (w : ℕ) (t u : List ℤ) : Type 0 where
+pub record PastKept (w : ℕ) (t u : List ℤ) : Type 0 where
   pub long : length u ≡ length t
   pub past : drop (w * w) u ≡ drop (w * w) t
 
-pub finished-kept : (w k m : ℕ) (t u : List ℤ) → w * w ≤ length t → passFrom k m w t ≡ finished u → Kept w t u
+pub finished-kept : (w k m : ℕ) (t u : List ℤ) → w * w ≤ length t → passFrom k m w t ≡ finished u → PastKept w t u
 unfolding passFrom
 finished-kept w zero m t u h e = let q : u ≡ t = cc in record { long = ap length q; past = ap (drop (w * w)) q }
 finished-kept w (suc k) m t u h e =

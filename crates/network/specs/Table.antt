@@ -29,7 +29,7 @@ entry w t a b = getD t (a * w + b) (pos 0)
 unfoldable pub middle : ℕ → ℕ → List ℤ → List ℤ
 middle w m t = tableOf w (step m (entry w t)) ++ drop (w * w) t
 
--- a sum lies from -30000 to 30000 (01, question 14)
+-- a sum lies from -30000 to 30000 (question 14)
 abbrev pub sumInRange : ℤ → Bool
 sumInRange z = leZ (negsuc 29999) z && leZ z (pos 30000)
 

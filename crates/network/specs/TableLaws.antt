@@ -11,7 +11,6 @@ use lib.IntN.{ℤ, pos}
 use Rattle.lists.specs.Lists.{run, joined}
 use Rattle.network.specs.Network.{Weights}
 use Rattle.network.specs.Closure.{step}
-pub use Rattle.lists.specs.Values.{length-values, values-at}
 use Rattle.lists.specs.Values.{listOf, length-listOf, listOf-at}
 use Rattle.network.specs.Table.{tableOf, entry, middle}
 
@@ -21,7 +20,7 @@ module _ (w : ℕ) (F : ℕ → List ℤ) (wide : (a : ℕ) → length (F a) ≡
   length-rows i zero = omega arith
   length-rows i (suc k) = length-append (F i) (joined (map F (run (suc i) k))) ∙ (omega (arith, wide i, length-rows (suc i) k))
 
-  pub rows-at : (i k a b : ℕ) (d : ℤ) → a < k → b < w → getD (joined (map F (run i k))) (a * w + b) d ≡ getD (F (i + a)) b d
+  rows-at : (i k a b : ℕ) (d : ℤ) → a < k → b < w → getD (joined (map F (run i k))) (a * w + b) d ≡ getD (F (i + a)) b d
   rows-at i zero a b d h l = absurd (omega arith)
   rows-at i (suc k) zero b d h l =
       let e : 0 * w + b ≡ b = omega arith in

@@ -6,7 +6,7 @@ ghost use lib.ListN.{length, take, drop};
 ghost use lib.IntN.{ℤ, pos, negsuc, _+ℤ_};
 ghost use lib.Signed.{leZ};
 ghost use Rattle.network.specs.Table.{maxBoundaries, entry, passFrom, passOf, After, cleared};
-ghost use Rattle.network.specs.Row.{leastOf, greatestOf, relaxed, SumsInRange, Loaded, Ran};
+ghost use Rattle.network.specs.RowStep.{leastOf, greatestOf, relaxed, SumsInRange, Loaded, Ran};
 
 // The largest number of boundaries, as sheets have them (sheet/specs/Sizes.antt ties the two).
 pub const MAX_BOUNDARIES: usize = 49;
@@ -56,7 +56,7 @@ fn load_row(t: &[i16], m: usize, w: usize, out: &mut [i16]) -> Extremes
     ends_of(&t[first..last])
 }
 
-// All sums of a row fit exactly when the two extreme ones do, so asking these asks every sum (01, question 14).
+// All sums of a row fit exactly when the two extreme ones do, so asking these asks every sum (question 14).
 fn sums_fit(ends: Extremes, am: i16) -> bool
     ensures { λ r. ⌜ r ≡ (leZ (negsuc 29999) (am +ℤ ends .0) && leZ (am +ℤ ends .1) (pos 30000)) ⌝ }
 {
@@ -155,7 +155,11 @@ fn capped(w: usize) -> usize
     requires { ⌜ w ≤ maxBoundaries ⌝ }
     ensures { λ r. ⌜ r ≡ w ⌝ }
 {
-    if w < MAX_BOUNDARIES { w } else { MAX_BOUNDARIES }
+    if w < MAX_BOUNDARIES {
+        w
+    } else {
+        MAX_BOUNDARIES
+    }
 }
 
 // The middle boundaries from..to. Where they do not all finish, the table's places become 0; places past the table never change.

@@ -1,4 +1,4 @@
 mod SinkLaws
-mod CarryLaws
+mod SumLaws
 mod SettleLaws
 mod SearchLaws

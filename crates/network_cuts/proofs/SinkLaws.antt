@@ -2,7 +2,7 @@
 -- Key idea: z starts as the row of the boundary before the window, the highest feasible potential that is 0 there. An arc that z does not keep forces
 -- its end b down to k, and the table carries that on: every z(c) becomes min(z(c), k + D(b, c)), which is feasible again and still above all that
 -- keep the arcs. Where this takes z below 0 at its start, nothing keeps the arcs. It ends because z stays above what the table allows.
-use mathlib.Core.Path.{_≡_, subst}
+use mathlib.Core.Path.{_≡_, subst, _∙_}
 use mathlib.Core.Logic.{⊎-elim}
 use Prim.Native.Nat.{ℕ, zero, suc, _-_, _≤_, _<_}
 use native.Mathlib.Omega.{arith}
@@ -15,20 +15,22 @@ use Rattle.network.specs.NetworkLaws.{lesser-feasible}
 use Rattle.network_cuts.specs.Cut.{Keeps, Admits}
 use Rattle.network_cuts.specs.Sink.{Within, Closed, Sunk, height}
 
-module _ (top : ℕ) (D E : Weights) (net : Closed top D) (f v l : ℕ) (hf : 1 ≤ f) (ht : f ≤ top) where
-  row : (b : ℕ) → b ≤ top → Feasible top D (D b)
-  row b hb p q hp hq = net .closed p b q (omega arith) hb hq
+-- every row of a closed table is feasible
+row : {top : ℕ} {D : Weights} → Closed top D → (b : ℕ) → b ≤ top → Feasible top D (D b)
+row net b hb p q hp hq = net .closed p b q (omega arith) hb hq
 
-  pub sunk-row : Sunk top D E f v l (D (f - 1))
-  sunk-row = record {
-    feasible = row (f - 1) (omega arith);
-    start = net .diagonal (f - 1) (omega arith);
-    above = λ y g k c hc. omega (ints, g (f - 1) c (omega arith) hc, sum (y (f - 1)) (D (f - 1) c), sum (D (f - 1) c) (y (f - 1)));
+module _ {top : ℕ} {D E : Weights} {f v l : ℕ} (net : Closed top D) (hf : 1 ≤ f) (ht : f ≤ top) where
+  -- the row of the boundary before the window
+  pub sunk-row : {z : Potential} → ((c : ℕ) → c ≤ top → z c ≡ D (f - 1) c) → Sunk top D E f v l z
+  sunk-row {z} is = record {
+    feasible = λ a b ha hb. omega (ints, row net (f - 1) (omega arith) a b ha hb, is a ha, is b hb, sum (z a) (D a b), sum (D (f - 1) a) (D a b));
+    start = is (f - 1) (omega arith) ∙ net .diagonal (f - 1) (omega arith);
+    above = λ y g k c hc. omega (ints, g (f - 1) c (omega arith) hc, is c hc, sum (y (f - 1)) (D (f - 1) c), sum (z c) (y (f - 1)));
   }
 
-  module _ (z : Potential) (s : Sunk top D E f v l z) where
+  module _ {z : Potential} (s : Sunk top D E f v l z) where
     -- z lies between what the table allows
-    pub sunk-low : (c : ℕ) → c ≤ top → pos 0 ≤ℤ (z c +ℤ D c (f - 1))
+    sunk-low : (c : ℕ) → c ≤ top → pos 0 ≤ℤ (z c +ℤ D c (f - 1))
     sunk-low c hc = omega (ints, s .feasible c (f - 1) hc (omega arith), s .start)
 
     pub sunk-small : (c : ℕ) → c ≤ top → Within 300 (z c)
@@ -43,7 +45,7 @@ module _ (top : ℕ) (D E : Weights) (net : Closed top D) (f v l : ℕ) (hf : 1 
         (carried : (c : ℕ) → c ≤ top → y c ≡ minℤ (z c) (k +ℤ D b c)) where
       carried-feasible : Feasible top D y
       carried-feasible p q hp hq =
-          let m : Feasible top D (λ c. minℤ (z c) (k +ℤ D b c)) = lesser-feasible top D z (D b) k (s .feasible) (row b (omega arith)) in
+          let m : Feasible top D (λ c. minℤ (z c) (k +ℤ D b c)) = lesser-feasible top D z (D b) k (s .feasible) (row net b (omega arith)) in
           let r = m p q hp hq in
           omega (ints, carried p hp, carried q hq, sum (y p) (D p q), sum (minℤ (z p) (k +ℤ D b p)) (D p q))
 

@@ -8,7 +8,7 @@ use lib.IntN.{ℤ}
 use Rattle.network.specs.Network.{Weights}
 use Rattle.network_cuts.specs.Cut.{Admits}
 use Rattle.network.specs.Table.{entry}
-use Rattle.network_cuts.specs.Carry.{into, Barred, LeastCutAt}
+use Rattle.network_cuts.specs.Decider.{into, Barred, LeastCutAt}
 
 -- fewer arcs are easier to keep
 pub admits-later : (top : ℕ) (D E : Weights) (f u v l : ℕ) → u ≤ v → Admits top D E f u l → Admits top D E f v l

@@ -1,4 +1,4 @@
 pub mod Cut
 pub mod Sink
-pub mod Carry
+pub mod Decider
 pub mod CutLaws

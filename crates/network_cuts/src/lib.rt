@@ -2,24 +2,13 @@ use integers::less;
 use integers::lesser;
 ghost use Prim.Native.Nat.{_+_, _<_, _≤_};
 ghost use lib.ListN.{length};
-ghost use Rattle.network_cuts.specs.Sink.{Within};
-ghost use Rattle.network_cuts.specs.Carry.{Modest, Carried, LeastSum, Network, Cuts, SunkAt, AdmitsAt, Settling, Decides, Barred, LeastCutAt};
+ghost use Rattle.network_cuts.specs.Decider.{Modest, LeastSum, CutNetwork, Cuts, Sinking, AdmitsAt, Settling, Decides, Barred, LeastCutAt};
 
 // What lowering a potential to the arcs of a cut comes to: it keeps them, it fell, or no potential keeps them.
 enum Settled {
     Still,
     Lower,
     Lost,
-}
-
-// Each z[c] becomes the smaller of itself and k + row[c].
-fn carry(z: &mut [i16], row: &[i16], k: i16)
-    requires { ⌜ (length (now row) ≤ length (now z)) × Modest (now row) × Within 1000 k ⌝ }
-    ensures { λ _. ⌜ Carried (length (now (row .entry))) k (now (row .entry)) (now (z .entry)) (now (z .exit)) ⌝ }
-{
-    for c in 0..row.len() {
-        z[c] = lesser(z[c], k + row[c]);
-    }
 }
 
 // The least sum of two numbers at one place.
@@ -45,7 +34,7 @@ fn settle(
     b: usize,
     z: &mut [i16],
 ) -> Settled
-    requires { ⌜ Network w (now d) (now m) × Cuts w f v l × (b < f) × (w ≤ length (now z)) × SunkAt w (now d) (now m) f v l (now z) ⌝ }
+    requires { ⌜ Sinking w (now d) (now m) f v l (now z) × (b < f) ⌝ }
     ensures { λ r. ⌜ Settling w (now (d .entry)) (now (m .entry)) f v l b (b + 1) (now (z .entry)) (now (z .exit)) r ⌝ }
 {
     let row = b * w;
@@ -54,7 +43,7 @@ fn settle(
     let arcs_end = row + l;
     let k = least_sum(&z[v..l], &m[arcs..arcs_end]);
     if less(k, z[b]) {
-        carry(z, &d[row..end], k);
+        network::relax_row(z, &d[row..end], k);
         if less(z[f - 1], 0) {
             return Settled::Lost;
         }
@@ -65,7 +54,7 @@ fn settle(
 
 // Settles every boundary before the window once.
 fn sweep(d: &[i16], m: &[i16], w: usize, f: usize, v: usize, l: usize, z: &mut [i16]) -> Settled
-    requires { ⌜ Network w (now d) (now m) × Cuts w f v l × (w ≤ length (now z)) × SunkAt w (now d) (now m) f v l (now z) ⌝ }
+    requires { ⌜ Sinking w (now d) (now m) f v l (now z) ⌝ }
     ensures { λ r. ⌜ Settling w (now (d .entry)) (now (m .entry)) f v l 0 f (now (z .entry)) (now (z .exit)) r ⌝ }
 {
     let mut lower = false;
@@ -88,17 +77,13 @@ fn sweep(d: &[i16], m: &[i16], w: usize, f: usize, v: usize, l: usize, z: &mut [
     }
 }
 
-// Whether the network admits the cut of the window f..l at v. The potential starts as the highest that is 0 before the window.
-pub fn admits(d: &[i16], m: &[i16], w: usize, f: usize, v: usize, l: usize) -> bool
-    requires { ⌜ Network w (now d) (now m) × Cuts w f v l ⌝ }
+// Lowers z until it keeps the arcs of the cut, or until no potential does.
+fn sink(d: &[i16], m: &[i16], w: usize, f: usize, v: usize, l: usize, z: &mut [i16]) -> bool
+    requires { ⌜ Sinking w (now d) (now m) f v l (now z) ⌝ }
     ensures { λ r. ⌜ Decides r (AdmitsAt w (now (d .entry)) (now (m .entry)) f v l) ⌝ }
 {
-    let mut z = [1000i16; network::MAX_BOUNDARIES];
-    let row = (f - 1) * w;
-    let end = row + w;
-    carry(&mut z, &d[row..end], 0);
     loop {
-        let s = sweep(d, m, w, f, v, l, &mut z);
+        let s = sweep(d, m, w, f, v, l, z);
         match s {
             Settled::Still => {
                 return true;
@@ -109,6 +94,18 @@ pub fn admits(d: &[i16], m: &[i16], w: usize, f: usize, v: usize, l: usize) -> b
             Settled::Lower => {}
         }
     }
+}
+
+// Whether the network admits the cut of the window f..l at v. The potential starts as the highest that is 0 before the window.
+pub fn admits(d: &[i16], m: &[i16], w: usize, f: usize, v: usize, l: usize) -> bool
+    requires { ⌜ CutNetwork w (now d) (now m) × Cuts w f v l ⌝ }
+    ensures { λ r. ⌜ Decides r (AdmitsAt w (now (d .entry)) (now (m .entry)) f v l) ⌝ }
+{
+    let mut z = [0i16; network::MAX_BOUNDARIES];
+    let row = (f - 1) * w;
+    let end = row + w;
+    network::copy_row(&d[row..end], &mut z);
+    sink(d, m, w, f, v, l, &mut z[..w])
 }
 
 // The least admitted cut of the window f..l: `known` is an admitted one, and none below `low` is. Mostly `low` is the one, so it is tried
@@ -122,7 +119,7 @@ pub fn least_cut(
     low: usize,
     known: usize,
 ) -> usize
-    requires { ⌜ Network w (now d) (now m) × (1 ≤ f) × (f ≤ low) × (f ≤ known) × (known ≤ l) × (l < w) ⌝ }
+    requires { ⌜ CutNetwork w (now d) (now m) × (1 ≤ f) × (f ≤ low) × (f ≤ known) × (known ≤ l) × (l < w) ⌝ }
     requires { ⌜ AdmitsAt w (now d) (now m) f known l × Barred w (now d) (now m) f l low ⌝ }
     ensures { λ r. ⌜ LeastCutAt w (now (d .entry)) (now (m .entry)) f l r ⌝ }
 {

@@ -15,14 +15,14 @@ use lib.IntN.{ℤ, pos, _+ℤ_}
 use lib.Signed.{ltZ}
 use Rattle.integers.specs.Parts.{ints}
 use Rattle.lists.specs.First.{firstPlace, first-before, first-at}
-use Rattle.lists.specs.Parts.{part-at, part-length, back, back-before, back-inside}
+use Rattle.lists.specs.Slices.{part-at, part-length, back, back-before, back-inside}
 use Rattle.lists.specs.Values.{listOf, length-listOf, listOf-at}
 use Rattle.network.specs.Network.{Potential, Feasible}
-use Rattle.network.specs.Table.{entry, sumInRange}
+use Rattle.network.specs.Table.{maxBoundaries, entry, sumInRange}
 use Rattle.network_cycles.specs.Levels.{leastOver, lower, level}
 use Rattle.network_cycles.specs.LevelLaws.{least-same, level-step, level-source, level-feasible}
-use Rattle.network_cycles.specs.Finder.{SumsFit, LevelsUpTo, Weighed, Ready, Fallen, Source}
-use Rattle.network_cycles.proofs.RangeLaws.{level-sum-in-range}
+use Rattle.network_cycles.specs.Finder.{SumsFit, LevelsUpTo, Weighed, Leveled, Fallen, Source}
+use Rattle.network_cycles.proofs.LevelRange.{level-sum-in-range}
 
 pub copied-whole : (xs ys : List ℤ) → length ys ≤ length xs → xs ++ drop (length xs) ys ≡ xs
 copied-whole xs ys h = ap (λ (l : List ℤ). xs ++ l) (drop-of-length-le ys h) ∙ append-nil xs
@@ -47,7 +47,7 @@ row-copied w k n d levels copy old size fits room made v = record {
       ∙ part-at (k * w) n levels (pos 0) j (omega arith) ∙ v k j (omega arith) h;
 }
 
-module _ (w k : ℕ) (d prev : List ℤ) (c : Copied w k d prev) where
+module _ {w k : ℕ} {d prev : List ℤ} (c : Copied w k d prev) where
   pub copied-sums : Weighed w d → k < w → SumsFit w d prev
   copied-sums q h a b ha hb =
       subst (λ (x : ℤ). T (sumInRange (x +ℤ entry w d a b))) (sym (c .at a ha))
@@ -75,11 +75,11 @@ module _ (w k : ℕ) (d prev : List ℤ) (c : Copied w k d prev) where
       ]
 
 -- ---- a boundary that fell at the last level
-pub fallen-found : (w : ℕ) (d levels low high : List ℤ) (r : ℕ) → Ready w d levels → ((z : Potential) → Feasible (w - 1) (entry w d) z → ⊥)
+pub fallen-found : {w : ℕ} {d levels : List ℤ} (low high : List ℤ) (r : ℕ) → Leveled w d levels → ((z : Potential) → Feasible (w - 1) (entry w d) z → ⊥)
     → length low ≡ w → ((v : ℕ) → v < w → getD low v (pos 0) ≡ level w (entry w d) w v)
     → ((v : ℕ) → v < w → getD high v (pos 0) ≡ level w (entry w d) (w - 1) v)
     → r ≡ firstPlace (length low) (λ v. ltZ (getD low v (pos 0)) (getD high v (pos 0))) → Fallen w d r
-fallen-found w d levels low high r q infeasible long lows highs e =
+fallen-found {w} {d} low high r q infeasible long lows highs e =
     let t : ℕ → Bool = (λ v. ltZ (getD low v (pos 0)) (getD high v (pos 0))) in
     let s : w ≡ suc (w - 1) = omega (arith, q .weights .some) in
     let last : (v : ℕ) → v < w → getD low v (pos 0) ≡ level w (entry w d) (suc (w - 1)) v = (λ v h.
@@ -95,7 +95,7 @@ fallen-found w d levels low high r q infeasible long lows highs e =
     ]
 
 -- ---- a level read from its row
-module _ (w : ℕ) (d levels : List ℤ) (q : Ready w d levels) where
+module _ {w : ℕ} {d levels : List ℤ} (q : Leveled w d levels) where
   pub level-inside : (k v : ℕ) → k ≤ w → v < w → k * w + v < length levels
   level-inside k v hk hv = let h : k * w ≤ w * w = mul-le-mul-right w hk in omega (arith, q .long)
 
@@ -113,7 +113,7 @@ module _ (w : ℕ) (d levels : List ℤ) (q : Ready w d levels) where
 abbrev pub leavesMore : ℕ → List ℤ → List ℤ → ℕ → ℕ → ℕ → Bool
 leavesMore w d levels k v u = ltZ (entry w levels k v) (level w (entry w d) (k - 1) u +ℤ entry w d u v)
 
-module _ (w : ℕ) (d levels : List ℤ) (k v : ℕ) (q : Ready w d levels) (pk : 0 < k) (hk : k ≤ w) (hv : v < w) where
+module _ {w : ℕ} {d levels : List ℤ} (q : Leveled w d levels) (k v : ℕ) (pk : 0 < k) (hk : k ≤ w) (hv : v < w) where
   target-is : entry w levels k v ≡ level w (entry w d) (suc (k - 1)) v
   target-is = let e : k ≡ suc (k - 1) = omega arith in q .levels-are k v hk hv ∙ ap (λ (n : ℕ). level w (entry w d) n v) e
 
@@ -136,5 +136,5 @@ pub first-level : (n w : ℕ) (d : List ℤ) → LevelsUpTo w d (replicate n (po
 unfolding level
 first-level n w d i v h l = let e : 0 ≡ i = omega arith in zero-at n (i * w + v) ∙ ap (λ (k : ℕ). level w (entry w d) k v) e
 
-pub levels-fit : (w : ℕ) → w ≤ 49 → w * w + w ≤ 2450
-levels-fit w h = let q : w * w ≤ 49 * w = mul-le-mul-right w h in omega arith
+pub levels-fit : (w : ℕ) → w ≤ maxBoundaries → w * w + w ≤ (maxBoundaries + 1) * maxBoundaries
+levels-fit w h = let q : w * w ≤ maxBoundaries * w = mul-le-mul-right w h in omega arith

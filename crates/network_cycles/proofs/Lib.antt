@@ -1,6 +1,5 @@
-pub mod PlaceLaws
-pub mod TurnLaws
-pub mod StepLaws
-pub mod RangeLaws
+pub mod CycleTurnLaws
+pub mod NextLevelLaws
+pub mod LevelRange
 pub mod LevelSteps
 pub mod WalkSteps

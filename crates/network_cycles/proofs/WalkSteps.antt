@@ -12,11 +12,11 @@ use lib.Seq.{drop-cons, drop-set-lt, getD-drop, getD-set-same}
 use lib.IntN.{ℤ, _+ℤ_}
 use Rattle.lists.specs.First.{firstFrom, From, first-from}
 use Rattle.lists.specs.Members.{In}
-use Rattle.network.specs.NetworkLaws.{Upto}
+use Rattle.network.specs.NetworkLaws.{Upto, Distinct, distinct-length, Cycle}
 use Rattle.network.specs.Table.{entry}
 use Rattle.network_cycles.specs.Levels.{level}
-use Rattle.network_cycles.specs.CycleLaws.{Distinct, distinct-length, at-in, Cycle}
-use Rattle.network_cycles.specs.WalkLaws.{Walked, met-again}
+use Rattle.network_cycles.specs.CycleLaws.{at-in}
+use Rattle.network_cycles.specs.WalkLaws.{WalkedBack, met-again}
 use Rattle.network_cycles.specs.Finder.{Weighed, Fallen, Source, Found}
 
 pub record WalkInv (w : ℕ) (d : List ℤ) (walk : List ℕ) (k v : ℕ) : Type 0 where
@@ -24,13 +24,13 @@ pub record WalkInv (w : ℕ) (d : List ℤ) (walk : List ℕ) (k v : ℕ) : Type
   pub most : k ≤ w
   pub long : length walk ≡ w + 1
   pub at : getD walk k 0 ≡ v
-  pub walked : Walked w (entry w d) (k - 1) v (drop (suc k) walk)
+  pub walked : WalkedBack w (entry w d) (k - 1) v (drop (suc k) walk)
   pub upto : Upto (w - 1) (v ∷ drop (suc k) walk)
   pub apart : Distinct (v ∷ drop (suc k) walk)
 
-pub walk-start : (w : ℕ) (d : List ℤ) (walk : List ℕ) (last : ℕ) → Weighed w d → Fallen w d last → length walk ≡ w + 1 → WalkInv w d (set walk w last) w last
-unfolding Walked
-walk-start w d walk last q f l =
+pub walk-start : {w : ℕ} {d : List ℤ} (walk : List ℕ) {last : ℕ} → Weighed w d → Fallen w d last → length walk ≡ w + 1 → WalkInv w d (set walk w last) w last
+unfolding WalkedBack
+walk-start {w} {d} walk {last} q f l =
     let t = set walk w last in
     let n = length-set walk w last in
     let h : length t ≤ suc w = omega arith in
@@ -41,12 +41,12 @@ walk-start w d walk last q f l =
       most = omega arith;
       long = n ∙ l;
       at = getD-set-same walk w last 0 (omega arith);
-      walked = subst (λ (xs : List ℕ). Walked w (entry w d) (w - 1) last xs) (sym none) (f .inside, f .fell);
+      walked = subst (λ (xs : List ℕ). WalkedBack w (entry w d) (w - 1) last xs) (sym none) (f .inside, f .fell);
       upto = subst (λ (xs : List ℕ). Upto (w - 1) (last ∷ xs)) (sym none) (below, tt);
       apart = subst (λ (xs : List ℕ). Distinct (last ∷ xs)) (sym none) ((λ m. let r = at-in last [] m in omega (arith, r .inside)), tt);
     }
 
-module _ (w : ℕ) (d : List ℤ) (walk : List ℕ) (k v u j : ℕ) (q : Weighed w d) (i : WalkInv w d walk k v) (s : Source w d (k - 1) v u)
+module _ {w : ℕ} {d : List ℤ} {walk : List ℕ} {k v u j : ℕ} (q : Weighed w d) (i : WalkInv w d walk k v) (s : Source w d (k - 1) v u)
     (ej : j ≡ firstFrom (length walk - k) k (λ p. eqb (getD walk p 0) u)) where
   whole : drop k walk ≡ v ∷ drop (suc k) walk
   whole = drop-cons walk k 0 (omega (arith, i .long, i .most)) ∙ ap (λ (x : ℕ). x ∷ drop (suc k) walk) (i .at)
@@ -83,7 +83,7 @@ module _ (w : ℕ) (d : List ℤ) (walk : List ℕ) (k v u j : ℕ) (q : Weighed
 
   -- it does not, and becomes the walk's first
   pub walk-next : w < j → WalkInv w d (set walk (k - 1) u) (k - 1) u
-  unfolding Walked
+  unfolding WalkedBack
   walk-next h =
       let t = set walk (k - 1) u in
       let e : suc (k - 1) ≡ k = omega (arith, i .low) in
@@ -99,17 +99,17 @@ module _ (w : ℕ) (d : List ℤ) (walk : List ℕ) (k v u j : ℕ) (q : Weighed
       let room = distinct-length (w - 1) (u ∷ (v ∷ drop (suc k) walk)) upto apart in
       let two : 2 ≤ k = omega (arith, room, size, q .some, i .most) in
       let e₂ : suc (k - 1 - 1) ≡ k - 1 = omega arith in
-      let walked : Walked w (entry w d) (k - 1 - 1) u (v ∷ drop (suc k) walk) = (
+      let walked : WalkedBack w (entry w d) (k - 1 - 1) u (v ∷ drop (suc k) walk) = (
         s .inside,
         subst (λ (x : ℕ). (level w (entry w d) x u +ℤ entry w d u v) ≡ level w (entry w d) (suc x) v) (sym e₂) (s .gives),
-        subst (λ (x : ℕ). Walked w (entry w d) x v (drop (suc k) walk)) (sym e₂) (i .walked),
+        subst (λ (x : ℕ). WalkedBack w (entry w d) x v (drop (suc k) walk)) (sym e₂) (i .walked),
       ) in
       record {
         low = omega arith;
         most = omega (arith, i .most);
         long = length-set walk (k - 1) u ∙ i .long;
         at = getD-set-same walk (k - 1) u 0 (omega (arith, i .long, i .most));
-        walked = subst (λ (xs : List ℕ). Walked w (entry w d) (k - 1 - 1) u xs) (sym after) walked;
+        walked = subst (λ (xs : List ℕ). WalkedBack w (entry w d) (k - 1 - 1) u xs) (sym after) walked;
         upto = subst (λ (xs : List ℕ). Upto (w - 1) (u ∷ xs)) (sym after) upto;
         apart = subst (λ (xs : List ℕ). Distinct (u ∷ xs)) (sym after) apart;
       }

@@ -7,9 +7,9 @@ use lib.ListN.{length, getD, take, drop}
 use lib.IntN.{ℤ, pos, _+ℤ_}
 use lib.Signed.{_<ℤ_}
 use Rattle.network.specs.Network.{Potential, Feasible, isNegativeCycle}
+use Rattle.network.specs.NetworkLaws.{Cycle}
 use Rattle.network.specs.Table.{maxBoundaries, entry, sumInRange}
 use Rattle.network_cycles.specs.Levels.{level, WeightsBounded}
-use Rattle.network_cycles.specs.CycleLaws.{Cycle}
 
 -- no potential is feasible for the table
 abbrev pub Infeasible : ℕ → List ℤ → Type 0
@@ -32,7 +32,7 @@ pub record Weighed (w : ℕ) (d : List ℤ) : Type 0 where
   pub zeros : (a : ℕ) → a < w → entry w d a a ≡ pos 0
 
 -- the same with its levels made
-pub record Ready (w : ℕ) (d levels : List ℤ) : Type 0 where
+pub record Leveled (w : ℕ) (d levels : List ℤ) : Type 0 where
   pub weights : Weighed w d
   pub long : w * w + w ≤ length levels
   pub levels-are : LevelsUpTo w d levels w

@@ -13,7 +13,7 @@ use Rattle.network.specs.Network.{Weights, Feasible}
 use Rattle.network_cycles.specs.Levels.{leastOver, level}
 
 -- ---- the smallest of several
-pub least-start : (n : ℕ) (g : ℕ → ℤ) (z : ℤ) → leastOver n g z ≤ℤ z
+least-start : (n : ℕ) (g : ℕ → ℤ) (z : ℤ) → leastOver n g z ≤ℤ z
 least-start zero g z = ≤ℤ-refl z
 least-start (suc n) g z = omega (ints, min≤l (leastOver n g z) (g n), least-start n g z)
 

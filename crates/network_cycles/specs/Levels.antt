@@ -21,6 +21,6 @@ unfoldable pub level : ℕ → Weights → ℕ → Potential
 level w d zero v = pos 0
 level w d (suc k) v = lower w d (level w d k) v
 
--- no entry of the table is larger than 600 or smaller than -600, so that the levels of 49 boundaries fit 16 bits
+-- no entry of the table is larger than 600 or smaller than -600, so that the levels of as many boundaries as there can be fit 16 bits
 abbrev pub WeightsBounded : ℕ → List ℤ → Type 0
 WeightsBounded w t = (a b : ℕ) → a < w → b < w → (negsuc 599 ≤ℤ entry w t a b) × (entry w t a b ≤ℤ pos 600)

@@ -10,27 +10,26 @@ use lib.IntN.{pos, _+ℤ_}
 use lib.Signed.{_<ℤ_}
 use Rattle.integers.specs.Parts.{ints, sum}
 use Rattle.network.specs.Network.{Weights, via}
-use Rattle.network.specs.NetworkLaws.{Upto, upto-left}
+use Rattle.network.specs.NetworkLaws.{Upto, upto-left, Distinct, distinct-left, Cycle}
 use Rattle.network_cycles.specs.Levels.{level}
 use Rattle.network_cycles.specs.LevelLaws.{level-sinks, fell-earlier}
-use Rattle.network_cycles.specs.CycleLaws.{Distinct, distinct-left, Cycle}
 
 -- the boundaries v, .. of the levels k + 1, ..: each gives the next one its level, and the last one fell
-unfoldable pub Walked : ℕ → Weights → ℕ → ℕ → List ℕ → Type 0
-Walked w d k v [] = (v < w) × (level w d (suc k) v <ℤ level w d k v)
-Walked w d k v (x ∷ xs) = (v < w) × ((level w d (suc k) v +ℤ d v x) ≡ level w d (suc (suc k)) x) × Walked w d (suc k) x xs
+unfoldable pub WalkedBack : ℕ → Weights → ℕ → ℕ → List ℕ → Type 0
+WalkedBack w d k v [] = (v < w) × (level w d (suc k) v <ℤ level w d k v)
+WalkedBack w d k v (x ∷ xs) = (v < w) × ((level w d (suc k) v +ℤ d v x) ≡ level w d (suc (suc k)) x) × WalkedBack w d (suc k) x xs
 
 module _ (w : ℕ) (d : Weights) where
   -- its first boundary fell
-  pub walked-fell : (k v : ℕ) (xs : List ℕ) → Walked w d k v xs → level w d (suc k) v <ℤ level w d k v
-  unfolding Walked
+  walked-fell : (k v : ℕ) (xs : List ℕ) → WalkedBack w d k v xs → level w d (suc k) v <ℤ level w d k v
+  unfolding WalkedBack
   walked-fell k v [] h = h .1
   walked-fell k v (x ∷ xs) h = fell-earlier w d k v x (h .0) (walked-fell (suc k) x xs (h .2)) (h .1)
 
   -- so did the one at each place
-  pub walked-at : (k v : ℕ) (xs : List ℕ) (j : ℕ) → j < suc (length xs) → Walked w d k v xs
+  walked-at : (k v : ℕ) (xs : List ℕ) (j : ℕ) → j < suc (length xs) → WalkedBack w d k v xs
       → level w d (suc (j + k)) (getD (v ∷ xs) j 0) <ℤ level w d (j + k) (getD (v ∷ xs) j 0)
-  unfolding Walked
+  unfolding WalkedBack
   walked-at k v xs zero l h =
       let e : 0 + k ≡ k = omega arith in
       subst (λ (n : ℕ). level w d (suc n) v <ℤ level w d n v) (sym e) (walked-fell k v xs h)
@@ -40,9 +39,9 @@ module _ (w : ℕ) (d : Weights) where
       subst (λ (n : ℕ). level w d (suc n) (getD (x ∷ xs) j 0) <ℤ level w d n (getD (x ∷ xs) j 0)) (sym e) (walked-at (suc k) x xs j (omega arith) (h .2))
 
   -- the weights from the first boundary to the one at place j, and on to e
-  walked-via : (k v : ℕ) (xs : List ℕ) (j e : ℕ) → j < suc (length xs) → Walked w d k v xs
+  walked-via : (k v : ℕ) (xs : List ℕ) (j e : ℕ) → j < suc (length xs) → WalkedBack w d k v xs
       → (level w d (suc k) v +ℤ via d v (take j xs) e) ≡ (level w d (suc (j + k)) (getD (v ∷ xs) j 0) +ℤ d (getD (v ∷ xs) j 0) e)
-  unfolding Walked
+  unfolding WalkedBack
   walked-via k v xs zero e l h =
       let q : k ≡ 0 + k = omega arith in ap (λ (n : ℕ). level w d (suc n) v +ℤ d v e) q
   walked-via k v [] (suc j) e l h = absurd (omega arith)
@@ -61,7 +60,7 @@ module _ (w : ℕ) (d : Weights) where
       s ∙ r ∙ ap (λ (n : ℕ). level w d (suc n) y +ℤ d y e) q
 
   -- the boundary that gives v its level stands at place j: a negative cycle
-  pub met-again : (top k v : ℕ) (xs : List ℕ) (u j : ℕ) → j < suc (length xs) → getD (v ∷ xs) j 0 ≡ u → Walked w d k v xs
+  pub met-again : (top k v : ℕ) (xs : List ℕ) (u j : ℕ) → j < suc (length xs) → getD (v ∷ xs) j 0 ≡ u → WalkedBack w d k v xs
       → Upto top (v ∷ xs) → Distinct (v ∷ xs) → d v v ≡ pos 0 → (level w d k u +ℤ d u v) ≡ level w d (suc k) v → Cycle top d (take (suc j) (v ∷ xs))
   met-again top k v xs u j l e h up apart z s =
       let y = via d v (take j xs) v in

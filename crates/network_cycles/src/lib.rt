@@ -9,7 +9,7 @@ ghost use Rattle.lists.specs.First.{firstPlace, firstFrom};
 ghost use Rattle.lists.specs.Values.{listOf};
 ghost use Rattle.network.specs.Table.{maxBoundaries, entry};
 ghost use Rattle.network_cycles.specs.Levels.{lower, level};
-ghost use Rattle.network_cycles.specs.Finder.{Infeasible, SumsFit, LevelsUpTo, Weighed, Ready, Fallen, Source, Lowest, Found, CycleAt};
+ghost use Rattle.network_cycles.specs.Finder.{Infeasible, SumsFit, LevelsUpTo, Weighed, Leveled, Fallen, Source, Lowest, Found, CycleAt};
 
 // The levels of all boundaries, one more than there are boundaries, row by row.
 const LEVEL_CELLS: usize = (network::MAX_BOUNDARIES + 1) * network::MAX_BOUNDARIES;
@@ -127,7 +127,7 @@ fn fill_levels(d: &[i16], w: usize, levels: &mut [i16])
 
 // What the step from u leaves v at level k + 1.
 fn left_by(d: &[i16], w: usize, levels: &[i16], k: usize, u: usize, v: usize) -> i16
-    requires { ⌜ Ready w (now d) (now levels) × (k < w) × (u < w) × (v < w) ⌝ }
+    requires { ⌜ Leveled w (now d) (now levels) × (k < w) × (u < w) × (v < w) ⌝ }
     ensures { λ r. ⌜ r ≡ level w (entry w (now (d .entry))) k u +ℤ entry w (now (d .entry)) u v ⌝ }
 {
     network::entry_at(levels, w, k, u) + network::entry_at(d, w, u, v)
@@ -135,7 +135,7 @@ fn left_by(d: &[i16], w: usize, levels: &[i16], k: usize, u: usize, v: usize) ->
 
 // A boundary from which v has its level k.
 fn source_of(d: &[i16], w: usize, levels: &[i16], k: usize, v: usize) -> usize
-    requires { ⌜ Ready w (now d) (now levels) × (0 < k) × (k ≤ w) × (v < w) ⌝ }
+    requires { ⌜ Leveled w (now d) (now levels) × (0 < k) × (k ≤ w) × (v < w) ⌝ }
     ensures { λ r. ⌜ Source w (now (d .entry)) (k - 1) v r ⌝ }
 {
     let above = k - 1;
@@ -153,7 +153,7 @@ fn source_of(d: &[i16], w: usize, levels: &[i16], k: usize, v: usize) -> usize
 
 // A boundary that fell at the last level: without a feasible potential there is one.
 fn last_fallen(d: &[i16], w: usize, levels: &[i16]) -> usize
-    requires { ⌜ Ready w (now d) (now levels) × Infeasible w (now d) ⌝ }
+    requires { ⌜ Leveled w (now d) (now levels) × Infeasible w (now d) ⌝ }
     ensures { λ r. ⌜ Fallen w (now (d .entry)) r ⌝ }
 {
     let last = w * w;
@@ -164,7 +164,7 @@ fn last_fallen(d: &[i16], w: usize, levels: &[i16]) -> usize
 
 // The walk back from a boundary that fell at the last level, into its room from the end on, until it would meet a boundary again.
 fn walk_back(d: &[i16], w: usize, levels: &[i16], last: usize, walk: &mut [u16]) -> Stretch
-    requires { ⌜ Ready w (now d) (now levels) × Fallen w (now d) last × (length (now walk) ≡ w + 1) ⌝ }
+    requires { ⌜ Leveled w (now d) (now levels) × Fallen w (now d) last × (length (now walk) ≡ w + 1) ⌝ }
     ensures { λ r. ⌜ Found w (now (d .entry)) (r .0) (r .1) (now (walk .exit)) ⌝ }
 {
     walk[w] = last as u16;
@@ -186,7 +186,7 @@ fn walk_back(d: &[i16], w: usize, levels: &[i16], last: usize, walk: &mut [u16])
 
 // The cycle that the walk back finds, turned to its lowest boundary, at the front of out.
 fn find_cycle(d: &[i16], w: usize, levels: &[i16], walk: &mut [u16], out: &mut [u16]) -> usize
-    requires { ⌜ Ready w (now d) (now levels) × Infeasible w (now d) × (length (now walk) ≡ w + 1) × (w ≤ length (now out)) ⌝ }
+    requires { ⌜ Leveled w (now d) (now levels) × Infeasible w (now d) × (length (now walk) ≡ w + 1) × (w ≤ length (now out)) ⌝ }
     ensures { λ r. ⌜ CycleAt w (now (d .entry)) (now (out .entry)) r (now (out .exit)) ⌝ }
 {
     let last = last_fallen(d, w, levels);

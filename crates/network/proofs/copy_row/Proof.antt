@@ -1,51 +1,36 @@
 -- The places in front hold the row, and the others what they had.
-use Prim.Native.Nat.{ℕ, _-_, _≤_, _<_}
+use Prim.Native.Nat.{ℕ, _-_}
 use native.Mathlib.Omega.{arith}
-use mathlib.Core.Path.{_≡_, refl, sym, ap, _∙_}
-use lib.ListN.{length, getD, drop, length-set}
-use lib.IntN.{ℤ, pos}
+use mathlib.Core.Path.{_≡_, refl}
+use lib.ListN.{length, getD}
+use lib.IntN.{pos}
 use mir.Syntax.{w16}
 use mir.Val.{SFits}
 use mir.Facts.{toZ-ofZ}
 use borrow.Author.Needs.{needs}
-use mathlib.Core.List.{List, _++_}
-use Rattle.lists.specs.Values.{listOf, Filled, filled-store, listOf-is}
+use Rattle.lists.specs.Fill.{FillInv, fill-start, fill-next, fill-end, filled-copy}
 use Rattle.network.proofs.copy_row.Statement.{statement}
 use Rattle.network.proofs.copy_row.Tie as tie
 
 abbrev Inv-loop : tie.InvT-loop
-Inv-loop row out₀ i₀ i-end out i = (i ≤ length row) × (i-end ≡ length row) × (length out ≡ length out₀) × Filled (λ (j : ℕ). getD row j (pos 0)) i out₀ out
+Inv-loop row out₀ i₀ i-end out i = (i-end ≡ length row) × FillInv (λ (j : ℕ). getD row j (pos 0)) (length row) out₀ i out
 
 abbrev μ-loop : tie.MeasureT-loop
 μ-loop row out₀ i₀ i-end out i = length row - i
 
-loop-holds : tie.Need-loop-holds Inv-loop μ-loop
-loop-holds c = (omega arith, refl, refl, refl)
-
 loop-again : tie.Need-loop-again Inv-loop μ-loop
 loop-again c =
     let row = c .before .before .before .args .row .now in
-    let out₀ = c .before .before .before .args .out .now in
     let l = c .before .before .loop in
-    let h : l .i < length out₀ = omega arith in
     let f : SFits w16 (getD row (l .i) (pos 0)) = search needs in
-    rw (toZ-ofZ f) (
-      omega arith,
-      refl,
-      length-set (l .out) (l .i) (getD row (l .i) (pos 0)) ∙ l .inv .2,
-      filled-store (λ (j : ℕ). getD row j (pos 0)) (l .i) out₀ (l .out) (l .inv .3) (getD row (l .i) (pos 0)) h refl,
-    )
+    (refl, fill-next (l .inv .1) (toZ-ofZ f) (omega arith) (omega arith))
 
 returns : tie.Need-returns Inv-loop μ-loop
 returns c =
-    let row = c .before .before .args .row .now in
-    let out₀ = c .before .before .args .out .now in
+    let a = c .before .before .args in
     let l = c .before .loop in
-    let e : l .i ≡ length row = omega arith in
-    let g : ℕ → ℤ = (λ j. getD row j (pos 0)) in
-    l .inv .3 ∙ ap (λ (k : ℕ). listOf k g ++ drop k out₀) e
-    ∙ ap (λ (xs : List ℤ). xs ++ drop (length row) out₀) (sym (listOf-is g (pos 0) (length row) row refl (λ j h. refl)))
+    filled-copy (pos 0) (a .row .now) (a .out .now) (l .out) (fill-end (l .inv .1) (omega arith))
 
 pub copy-row-spec : {M : Type 1} → statement M
-copy-row-spec = tie.close (tie.spec Inv-loop μ-loop loop-holds (λ c. omega arith) (λ c. omega arith) (λ c. omega arith) (λ c. omega arith)
+copy-row-spec = tie.close (tie.spec Inv-loop μ-loop (λ c. (refl, fill-start)) (λ c. omega arith) (λ c. omega arith) (λ c. omega arith) (λ c. omega arith)
     (λ c. omega arith) (λ c. omega arith) loop-again (λ c. omega arith) returns)

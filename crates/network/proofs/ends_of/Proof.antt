@@ -10,8 +10,8 @@ use mathlib.Core.List.{[]}
 use lib.IntN.{ℤ, pos}
 use borrow.Author.Needs.{needs}
 use Rattle.integers.specs.Parts.{minℤ, maxℤ}
-use Rattle.network.specs.Row.{foldFrom, leastOf, greatestOf}
-use Rattle.network.specs.RowLaws.{fold-next}
+use Rattle.network.specs.RowStep.{foldFrom, leastOf, greatestOf}
+use Rattle.network.specs.RowStepLaws.{fold-next}
 use Rattle.network.proofs.ends_of.Statement.{statement}
 use Rattle.network.proofs.ends_of.Tie as tie
 

@@ -3,7 +3,7 @@ use Prim.Native.Nat.{ℕ, _-_}
 use native.Mathlib.Omega.{arith}
 use mathlib.Core.Path.{_≡_, subst}
 use Rattle.network.specs.Table.{passFrom}
-use Rattle.network.specs.Row.{Ran}
+use Rattle.network.specs.RowStep.{Ran}
 use Rattle.network.proofs.PassSteps.{after-finished, after-cleared}
 use borrow.Author.Needs.{needs}
 use Rattle.network.proofs.pass_middles.Statement.{statement}
@@ -24,33 +24,17 @@ ran-here c =
 run-middles-requires : tie.Need-run-middles-requires
 run-middles-requires c κs = let e = c .capped .ensures in let pre = c .before .before .pre in rw e pre
 
-enum-told : tie.Need-enum-told
-enum-told c = search needs
-
-returns : tie.Need-returns
-returns c =
-    let st = c .before .before .before .before .before .before in
-    let p = passFrom (st .args .to - st .args .from) (st .args .from) (st .args .w) (st .args .t .now) in
-    let ran = c .before .before .before in
-    after-finished (st .args .w) (st .args .t .now) p (ran .run-middles .result) (ran .run-middles .last .0) (ran-here ran) (c .enum-told .given .1)
-
 returns-2 : tie.Need-returns-2
 returns-2 c =
-    let st = c .before .before .before .before .before .before .before .before .before in
-    let p = passFrom (st .args .to - st .args .from) (st .args .from) (st .args .w) (st .args .t .now) in
-    let ran = c .before .before .before .before .before .before in
-    after-cleared (st .args .w) (st .args .t .now) p (ran .run-middles .result) (ran .run-middles .last .0) (c .before .clear .last .1 .0) (ran-here ran)
+    after-cleared (ran-here (c .before .before .before .before .before .before))
     (λ e. let o = c .before .before .before .enum-told2 .given in let z : _≡_ {A = ℕ} 0 1 = cc in omega arith) (c .before .clear .ensures)
 
 returns-3 : tie.Need-returns-3
 returns-3 c =
-    let st = c .before .before .before .before .before .before .before .before .before in
-    let p = passFrom (st .args .to - st .args .from) (st .args .from) (st .args .w) (st .args .t .now) in
-    let ran = c .before .before .before .before .before .before in
-    after-cleared (st .args .w) (st .args .t .now) p (ran .run-middles .result) (ran .run-middles .last .0) (c .before .clear2 .last .1 .0) (ran-here ran)
+    after-cleared (ran-here (c .before .before .before .before .before .before))
     (λ e. let o = c .before .before .before .enum-told3 .given in let z : _≡_ {A = ℕ} 0 1 = cc in omega arith) (c .before .clear2 .ensures)
 
 pub pass-middles-spec : {M : Type 1} → statement M
-pass-middles-spec = tie.close (tie.spec (λ c κs. search needs) run-middles-requires enum-told (λ c. search needs) (λ c. search needs)
-    (λ c κs. search needs) (λ c. search needs) (λ c. search needs) (λ c κs. search needs) (λ c. search needs) returns (λ c. search needs) returns-2
-    (λ c. search needs) returns-3)
+pass-middles-spec = tie.close (tie.spec (λ c κs. search needs) run-middles-requires (λ c. search needs) (λ c. search needs) (λ c. search needs)
+    (λ c κs. search needs) (λ c. search needs) (λ c. search needs) (λ c κs. search needs) (λ c. search needs)
+    (λ c. after-finished (ran-here (c .before .before .before)) (c .enum-told .given .1)) (λ c. search needs) returns-2 (λ c. search needs) returns-3)

@@ -1,113 +1,88 @@
 -- What the arcs at b ask is a sum of entries, so lowering to it stays above every potential sought; a number below 0 before the window ends the search.
 use lib.Signed.{ltZ}
-use Rattle.network_cuts.proofs.SettleLaws.{least-asks, carry-asks, settled-still, settled-lost, settled-lower}
-use Rattle.network_cuts.specs.Carry.{at}
+use Rattle.network_cuts.proofs.SettleLaws.{least-asks, relax-asks, settled-still, settled-lost, settled-lower}
+use Rattle.network_cuts.specs.Decider.{valueAt}
 use Rattle.network.specs.TableLaws.{row-inside}
 use mir.Facts.{toZ-ofZ}
 use mir.Val.{SFits}
 use mir.Syntax.{w16}
-use lib.IntN.{pos}
-use lib.ListN.{getD}
+use lib.IntN.{ℤ, pos}
+use lib.ListN.{length, getD}
 use mathlib.Core.Bool.{true, false}
 use mathlib.Core.Path.{_≡_, sym, _∙_}
-use Prim.Native.Nat.{_-_}
+use Prim.Native.Nat.{_+_, _-_, _*_, _≤_, _<_}
 use native.Mathlib.Omega.{arith}
 use borrow.Author.Needs.{needs}
 use Rattle.network_cuts.proofs.settle.Statement.{statement}
 use Rattle.network_cuts.proofs.settle.Tie as tie
 
-mul-row : tie.Need-mul-row
-mul-row c = omega (arith, row-inside (c .args .b) (c .args .w) (omega arith))
-
-add-end : tie.Need-add-end
-add-end c = omega (arith, row-inside (c .args .b) (c .args .w) (omega arith))
-
-add-arcs : tie.Need-add-arcs
-add-arcs c = omega (arith, row-inside (c .args .b) (c .args .w) (omega arith))
-
-add-arcs-end : tie.Need-add-arcs-end
-add-arcs-end c = omega (arith, row-inside (c .args .b) (c .args .w) (omega arith))
-
-mul-least-sum-2 : tie.Need-mul-least-sum-2
-mul-least-sum-2 c = omega (arith, row-inside (c .before .before .args .b) (c .before .before .args .w) (omega arith))
-
-part-least-sum-end-2 : tie.Need-part-least-sum-end-2
-part-least-sum-end-2 c = omega (arith, row-inside (c .before .before .args .b) (c .before .before .args .w) (omega arith))
+-- row b lies inside the table and inside the arcs
+inside : (c : tie.Start) → let a = c .args in
+    (a .b * a .w + a .w ≤ length (a .d .now)) × (a .b * a .w + a .w ≤ length (a .m .now)) × (a .l < a .w) × (a .v ≤ a .l)
+inside c =
+    let q = c .pre .0 in
+    let r = row-inside (c .args .b) (c .args .w) (omega (arith, q .cuts)) in
+    (omega (arith, q .net .size), omega (arith, q .net .sizeArcs), omega (arith, q .cuts), omega (arith, q .cuts))
 
 least-sum-requires : tie.Need-least-sum-requires
-least-sum-requires c κs =
-    let st = c .before .before .before in
-    let a = st .args in
-    let p = st .pre in
-    least-asks (a .w) (a .f) (a .v) (a .l) (a .d .now) (a .m .now) (p .0) (p .1) (a .b) (a .z .now) (p .2) (p .3) (p .4)
+least-sum-requires c κs = let st = c .before .before .before in least-asks (st .pre .0) (st .args .b) (st .pre .1)
 
-mul-carry : tie.Need-mul-carry
-mul-carry c = let st = c .before .before .before .before .before .before .before .before in
-    omega (arith, row-inside (st .args .b) (st .args .w) (omega (arith, st .pre .2, st .pre .1)), st .pre .0 .size, st .good)
+-- ---- once the least sum is known
+abbrev start : tie.After-least-sum → tie.Start
+start c = c .before .before .before .before
 
-part-carry-end : tie.Need-part-carry-end
-part-carry-end c =
-    let st = c .before .before .before .before .before .before .before .before in
-    omega (arith, row-inside (st .args .b) (st .args .w) (omega (arith, st .pre .2, st .pre .1)), st .pre .0 .size)
+abbrev lowest : tie.After-least-sum → ℤ
+lowest c = c .least-sum .result
 
-carry-requires : tie.Need-carry-requires
-carry-requires c κs =
-    let c′ = c .before .before .before .before .before in
-    let st = c′ .before .before .before .before in
-    let a = st .args in
-    let p = st .pre in
-    let fk : SFits w16 (c′ .least-sum .result) = search needs in
-    simp (toZ-ofZ fk) (carry-asks (a .w) (a .f) (a .v) (a .l) (a .d .now) (a .m .now) (p .0) (p .1) (a .b) (a .z .now) (p .2) (p .3) (p .4)
-    (c′ .least-sum .result) (c′ .least-sum .ensures))
+relax-row-requires : tie.Need-relax-row-requires
+relax-row-requires c κs =
+    let k = c .before .before .before .before .before in
+    let st = start k in
+    let f : SFits w16 (lowest k) = search needs in
+    simp (toZ-ofZ f) (relax-asks (st .pre .0) (st .args .b) (st .pre .1) (k .least-sum .ensures))
+
+-- ---- once row b is carried
+abbrev summed : tie.After-relax-row → tie.After-least-sum
+summed c = c .before .before .before .before .before .before
 
 returns : tie.Need-returns
 returns c =
-    let cc = c .before .before .before .before in
-    let c′ = cc .before .before .before .before .before .before in
-    let st = c′ .before .before .before .before in
-    let a = st .args in
-    let p = st .pre in
-    let z′ = cc .carry .last .0 in
-    let fk : SFits w16 (c′ .least-sum .result) = search needs in
-    let fz : SFits w16 (getD z′ (a .f - 1) (pos 0)) = search needs in
-    let r = simp (toZ-ofZ fk) at (cc .carry .ensures) in
-    let h : ltZ (at z′ (a .f - 1)) (pos 0) ≡ true = simp (toZ-ofZ fz) at (sym (c .before .less2 .ensures) ∙ c .if2 .taken) in
-    settled-lost (a .w) (a .f) (a .v) (a .l) (a .d .now) (a .m .now) (p .0) (p .1) (a .b) (a .z .now) (p .2) (p .3) (p .4)
-    (c′ .least-sum .result) (c′ .least-sum .ensures) z′ r h
+    let r = c .before .before .before .before in
+    let st = start (summed r) in
+    let z = r .relax-row .last .0 in
+    let f : SFits w16 (lowest (summed r)) = search needs in
+    let g : SFits w16 (getD z (st .args .f - 1) (pos 0)) = search needs in
+    let h : ltZ (valueAt z (st .args .f - 1)) (pos 0) ≡ true = simp (toZ-ofZ g) at (sym (c .before .less2 .ensures) ∙ c .if2 .taken) in
+    settled-lost (st .pre .0) (st .args .b) (st .pre .1) (summed r .least-sum .ensures) (simp (toZ-ofZ f) at (r .relax-row .ensures)) h
 
 returns-2 : tie.Need-returns-2
 returns-2 c =
-    let cc = c .before .before .before .before in
-    let c′ = cc .before .before .before .before .before .before in
-    let st = c′ .before .before .before .before in
-    let a = st .args in
-    let p = st .pre in
-    let z′ = cc .carry .last .0 in
-    let fk : SFits w16 (c′ .least-sum .result) = search needs in
-    let fb : SFits w16 (getD (a .z .now) (a .b) (pos 0)) = search needs in
-    let fz : SFits w16 (getD z′ (a .f - 1) (pos 0)) = search needs in
-    let r = simp (toZ-ofZ fk) at (cc .carry .ensures) in
-    let h : ltZ (c′ .least-sum .result) (at (a .z .now) (a .b)) ≡ true =
-    simp (toZ-ofZ fk, toZ-ofZ fb) at (sym (cc .before .before .before .before .less .ensures) ∙ cc .before .before .before .if1 .taken) in
-    let g : ltZ (at z′ (a .f - 1)) (pos 0) ≡ false = simp (toZ-ofZ fz) at (sym (c .before .less2 .ensures) ∙ c .if2 .left) in
-    settled-lower (a .w) (a .f) (a .v) (a .l) (a .d .now) (a .m .now) (p .0) (p .1) (a .b) (a .z .now) (p .2) (p .3) (p .4)
-    (c′ .least-sum .result) (c′ .least-sum .ensures) z′ r h g
+    let r = c .before .before .before .before in
+    let st = start (summed r) in
+    let z = r .relax-row .last .0 in
+    let f : SFits w16 (lowest (summed r)) = search needs in
+    let fb : SFits w16 (getD (st .args .z .now) (st .args .b) (pos 0)) = search needs in
+    let g : SFits w16 (getD z (st .args .f - 1) (pos 0)) = search needs in
+    let low : ltZ (lowest (summed r)) (valueAt (st .args .z .now) (st .args .b)) ≡ true =
+    simp (toZ-ofZ f, toZ-ofZ fb) at (sym (r .before .before .before .before .less .ensures) ∙ r .before .before .before .if1 .taken) in
+    let h : ltZ (valueAt z (st .args .f - 1)) (pos 0) ≡ false = simp (toZ-ofZ g) at (sym (c .before .less2 .ensures) ∙ c .if2 .left) in
+    settled-lower (st .pre .0) (st .args .b) (st .pre .1) (summed r .least-sum .ensures) (simp (toZ-ofZ f) at (r .relax-row .ensures)) low h
 
 returns-3 : tie.Need-returns-3
 returns-3 c =
-    let c′ = c .before .before .before in
-    let st = c′ .before .before .before .before in
-    let a = st .args in
-    let p = st .pre in
-    let fk : SFits w16 (c′ .least-sum .result) = search needs in
-    let fz : SFits w16 (getD (a .z .now) (a .b) (pos 0)) = search needs in
-    let h : ltZ (c′ .least-sum .result) (at (a .z .now) (a .b)) ≡ false = simp (toZ-ofZ fk, toZ-ofZ fz) at (sym (c .before .less .ensures) ∙ c .if1 .left) in
-    settled-still (a .w) (a .f) (a .v) (a .l) (a .d .now) (a .m .now) (p .0) (p .1) (a .b) (a .z .now) (p .2) (p .3) (p .4)
-    (c′ .least-sum .result) (c′ .least-sum .ensures) h
+    let k = c .before .before .before in
+    let st = start k in
+    let f : SFits w16 (lowest k) = search needs in
+    let fb : SFits w16 (getD (st .args .z .now) (st .args .b) (pos 0)) = search needs in
+    let h : ltZ (lowest k) (valueAt (st .args .z .now) (st .args .b)) ≡ false =
+    simp (toZ-ofZ f, toZ-ofZ fb) at (sym (c .before .less .ensures) ∙ c .if1 .left) in
+    settled-still (st .pre .0) (st .args .b) (st .pre .1) (k .least-sum .ensures) h
 
 pub settle-spec : {M : Type 1} → statement M
-settle-spec = tie.close (tie.spec mul-row add-end add-arcs add-arcs-end (λ c. search needs) (λ c. search needs) (λ c. search needs)
-    (λ c. search needs) mul-least-sum-2 (λ c. search needs) (λ c. search needs) part-least-sum-end-2 least-sum-requires (λ c. search needs)
-    (λ c. search needs) (λ c κs. search needs) mul-carry (λ c. search needs) (λ c. search needs) part-carry-end carry-requires (λ c. search needs)
-    (λ c. search needs) (λ c. search needs) (λ c κs. search needs) (λ c. search needs) returns (λ c. search needs) returns-2 (λ c. search needs)
-    returns-3)
+settle-spec = tie.close (tie.spec (λ c. omega (arith, inside c)) (λ c. omega (arith, inside c)) (λ c. omega (arith, inside c))
+    (λ c. omega (arith, inside c)) (λ c. search needs) (λ c. search needs) (λ c. search needs) (λ c. search needs)
+    (λ c. omega (arith, inside (c .before .before))) (λ c. search needs) (λ c. search needs) (λ c. omega (arith, inside (c .before .before)))
+    least-sum-requires (λ c. search needs) (λ c. search needs) (λ c κs. search needs)
+    (λ c. omega (arith, inside (start (c .before .before .before .before)))) (λ c. search needs) (λ c. search needs)
+    (λ c. omega (arith, inside (start (c .before .before .before .before)))) relax-row-requires (λ c. search needs) (λ c. search needs)
+    (λ c. search needs) (λ c κs. search needs) (λ c. search needs) returns (λ c. search needs) returns-2 (λ c. search needs) returns-3)

@@ -3,21 +3,16 @@ use Prim.Native.Nat.{ℕ, _-_, _≤_}
 use native.Mathlib.Omega.{arith}
 use mathlib.Core.Path.{_≡_, refl, sym, subst, _∙_}
 use lib.ListN.{length}
+use Rattle.network.specs.Table.{maxBoundaries}
 use Rattle.network_cycles.specs.Finder.{LevelsUpTo}
 use Rattle.network_cycles.proofs.fill_levels.Statement.{statement}
 use Rattle.network_cycles.proofs.fill_levels.Tie as tie
 
 abbrev Inv-loop : tie.InvT-loop
-Inv-loop d w levels₀ prev₀ k₀ levels prev k = (k ≤ w) × (length levels ≡ length levels₀) × LevelsUpTo w d levels k × (length prev ≡ 49)
+Inv-loop d w levels₀ prev₀ k₀ levels prev k = (k ≤ w) × (length levels ≡ length levels₀) × LevelsUpTo w d levels k × (length prev ≡ maxBoundaries)
 
 abbrev μ-loop : tie.MeasureT-loop
 μ-loop d w levels₀ prev₀ k₀ levels prev k = w - k
-
-loop-holds : tie.Need-loop-holds Inv-loop μ-loop
-loop-holds c = (omega arith, refl, c .pre .2, refl)
-
-slice-aggregate-add-level : tie.Need-slice-aggregate-add-level Inv-loop μ-loop
-slice-aggregate-add-level c = sym (c .before .before .loop .inv .3)
 
 add-level-requires : tie.Need-add-level-requires Inv-loop μ-loop
 add-level-requires c κs =
@@ -31,9 +26,6 @@ loop-again c =
     let l = c .before .before .before .before .before .before .loop in
     (omega arith, a .kept .1 .1 .1 .1 .0 ∙ l .inv .1, a .ensures, a .kept .1 .1 .1 .0 ∙ l .inv .3)
 
-same-length : tie.Need-same-length Inv-loop μ-loop
-same-length c = c .before .loop .inv .1
-
 returns : tie.Need-returns Inv-loop μ-loop
 returns c =
     let st = c .before .before in
@@ -42,5 +34,5 @@ returns c =
     subst (λ (n : ℕ). LevelsUpTo (st .args .w) (st .args .d .now) (l .levels) n) e (l .inv .2)
 
 pub fill-levels-spec : {M : Type 1} → statement M
-fill-levels-spec = tie.close (tie.spec Inv-loop μ-loop loop-holds slice-aggregate-add-level add-level-requires (λ c. omega arith) (λ c. omega arith)
-    loop-again same-length returns)
+fill-levels-spec = tie.close (tie.spec Inv-loop μ-loop (λ c. (omega arith, refl, c .pre .2, refl)) (λ c. sym (c .before .before .loop .inv .3))
+    add-level-requires (λ c. omega arith) (λ c. omega arith) loop-again (λ c. c .before .loop .inv .1) returns)

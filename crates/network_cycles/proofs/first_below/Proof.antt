@@ -27,41 +27,38 @@ Inv-loop low high n v₀ v =
 abbrev μ-loop : tie.MeasureT-loop
 μ-loop low high n v₀ v = length low - v
 
-loop-holds : tie.Need-loop-holds Inv-loop μ-loop
-loop-holds c =
-    let low = c .args .low .now in
-    (omega arith, refl, ap (λ (k : ℕ). firstFrom k 0 (below low (c .args .high .now))) (sub-zero (length low)))
-
-compared : (c : tie.After-less Inv-loop μ-loop)
-    → below (c .before .before .before .before .before .args .low .now) (c .before .before .before .before .before .args .high .now)
-    (c .before .before .before .before .loop .v) ≡ c .less .result
+compared : (c : tie.After-less Inv-loop μ-loop) → let a = c .before .before .before .before .before .args in
+    below (a .low .now) (a .high .now) (c .before .before .before .before .loop .v) ≡ c .less .result
 compared c =
-    let st = c .before .before .before .before .before in
+    let a = c .before .before .before .before .before .args in
     let v = c .before .before .before .before .loop .v in
-    let f : SFits w16 (getD (st .args .low .now) v (pos 0)) = search needs in
-    let g : SFits w16 (getD (st .args .high .now) v (pos 0)) = search needs in
+    let f : SFits w16 (getD (a .low .now) v (pos 0)) = search needs in
+    let g : SFits w16 (getD (a .high .now) v (pos 0)) = search needs in
     sym (simp (toZ-ofZ f, toZ-ofZ g) at (c .less .ensures))
+
+-- ---- before the next turn, or where the place is found
+abbrev test : tie.Start Inv-loop μ-loop → ℕ → Bool
+test c = below (c .args .low .now) (c .args .high .now)
+
+abbrev size : tie.Start Inv-loop μ-loop → ℕ
+size c = length (c .args .low .now)
 
 returns : tie.Need-returns Inv-loop μ-loop
 returns c =
-    let args = c .before .before .before .before .before .before .args in
-    let l = c .before .before .before .before .before .loop in
-    let e = first-passed (below (args .low .now) (args .high .now)) (length (args .low .now)) (l .v) (omega arith) (compared (c .before) ∙ c .if1 .taken) in
-    sym e ∙ l .inv .2
+    let l = c .before .before .before .before .before in
+    sym (first-passed (test (l .before)) (size (l .before)) (l .loop .v) (omega arith) (compared (c .before) ∙ c .if1 .taken)) ∙ l .loop .inv .2
 
 loop-again : tie.Need-loop-again Inv-loop μ-loop
 loop-again c =
-    let args = c .before .before .before .before .before .before .args in
-    let l = c .before .before .before .before .before .loop in
-    let e = first-failed (below (args .low .now) (args .high .now)) (length (args .low .now)) (l .v) (omega arith) (compared (c .before) ∙ c .if1 .left) in
-    (omega arith, refl, e ∙ l .inv .2)
+    let l = c .before .before .before .before .before in
+    (omega arith, refl, first-failed (test (l .before)) (size (l .before)) (l .loop .v) (omega arith) (compared (c .before) ∙ c .if1 .left) ∙ l .loop .inv .2)
 
 returns-2 : tie.Need-returns-2 Inv-loop μ-loop
 returns-2 c =
-    let args = c .before .before .args in
-    let l = c .before .loop in
-    sym (first-none (below (args .low .now) (args .high .now)) (length (args .low .now)) (l .v) (omega arith)) ∙ l .inv .2
+    let l = c .before in
+    sym (first-none (test (l .before)) (size (l .before)) (l .loop .v) (omega arith)) ∙ l .loop .inv .2
 
 pub first-below-spec : {M : Type 1} → statement M
-first-below-spec = tie.close (tie.spec Inv-loop μ-loop loop-holds (λ c. omega arith) (λ c. omega arith) (λ c. omega arith) (λ c. omega arith)
-    (λ c κs. tt) returns (λ c. omega arith) (λ c. omega arith) loop-again returns-2)
+first-below-spec = tie.close (tie.spec Inv-loop μ-loop
+    (λ c. (omega arith, refl, ap (λ (k : ℕ). firstFrom k 0 (test c)) (sub-zero (size c)))) (λ c. omega arith) (λ c. omega arith) (λ c. omega arith)
+    (λ c. omega arith) (λ c κs. tt) returns (λ c. omega arith) (λ c. omega arith) loop-again returns-2)

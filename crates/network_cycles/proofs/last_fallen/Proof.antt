@@ -4,7 +4,7 @@ use native.Mathlib.Omega.{arith}
 use mathlib.Core.Path.{_≡_, sym, ap, _∙_}
 use lib.ListN.{getD, take, drop}
 use lib.IntN.{pos}
-use Rattle.lists.specs.Parts.{part-at, part-length}
+use Rattle.lists.specs.Slices.{part-at, part-length}
 use Rattle.network.specs.TableLaws.{row-inside}
 use Rattle.network_cycles.proofs.LevelSteps.{fallen-found}
 use borrow.Author.Needs.{needs}
@@ -32,7 +32,7 @@ returns c =
     let m = w * w - w in
     let e₀ : w ≡ w - 1 + 1 = omega arith in
     let e : (w - 1) * w ≡ m = omega (arith, ap (λ (n : ℕ). n * w) e₀) in
-    fallen-found w (st .args .d .now) levels (take (w * w + w - w * w) (drop (w * w) levels)) (take (w * w - m) (drop m levels)) (c .first-below .result)
+    fallen-found (take (w * w + w - w * w) (drop (w * w) levels)) (take (w * w - m) (drop m levels)) (c .first-below .result)
     q (st .pre .1)
     (omega (arith, part-length (w * w) (w * w + w - w * w) levels (omega arith)))
     (λ v l. part-at (w * w) (w * w + w - w * w) levels (pos 0) v (omega arith) ∙ q .levels-are w v (omega arith) l)

@@ -1,10 +1,11 @@
 -- The place so far has the least number of the places passed.
-use Prim.Native.Nat.{ℕ, _-_, _≤_, _<_}
+use Prim.Native.Nat.{ℕ, _+_, _-_, _≤_, _<_}
 use native.Mathlib.Omega.{arith}
 use mathlib.Core.Path.{_≡_, refl, ap}
 use mathlib.Core.Logic.{⊎-elim}
 use lib.ListN.{length, getD}
-use Rattle.network_cycles.proofs.PlaceLaws.{lowest-next}
+use mathlib.Core.List.{List}
+use borrow.Author.Count.{below-more}
 use Rattle.network_cycles.proofs.lowest_place.Statement.{statement}
 use Rattle.network_cycles.proofs.lowest_place.Tie as tie
 
@@ -13,6 +14,11 @@ Inv-loop c low₀ j₀ n low j = (low < j) × (j ≤ length c) × (n ≡ length 
 
 abbrev μ-loop : tie.MeasureT-loop
 μ-loop c low₀ j₀ n low j = length c - j
+
+-- one place further on
+lowest-next : (xs : List ℕ) (low j next : ℕ) → ((i : ℕ) → i < j → getD xs low 0 ≤ getD xs i 0) → getD xs next 0 ≤ getD xs low 0
+    → getD xs next 0 ≤ getD xs j 0 → (i : ℕ) → i < j + 1 → getD xs next 0 ≤ getD xs i 0
+lowest-next xs low j next f p q = below-more (λ (i : ℕ). getD xs next 0 ≤ getD xs i 0) j (λ i h. omega (arith, f i h)) q
 
 loop-holds : tie.Need-loop-holds Inv-loop μ-loop
 loop-holds c =

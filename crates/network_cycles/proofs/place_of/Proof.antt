@@ -21,29 +21,23 @@ Inv-loop c from x n j₀ j = (j ≤ length c) × (n ≡ length c) × (firstFrom 
 abbrev μ-loop : tie.MeasureT-loop
 μ-loop c from x n j₀ j = length c - j
 
-loop-holds : tie.Need-loop-holds Inv-loop μ-loop
-loop-holds c = (omega arith, refl, refl)
+abbrev test : tie.Start Inv-loop μ-loop → ℕ → Bool
+test c = isAt (c .args .c .now) (c .args .x)
+
+abbrev size : tie.Start Inv-loop μ-loop → ℕ
+size c = length (c .args .c .now)
 
 returns : tie.Need-returns Inv-loop μ-loop
 returns c =
-    let xs = c .before .before .before .before .args .c .now in
-    let x = c .before .before .before .before .args .x in
-    let l = c .before .before .before .loop in
-    sym (first-passed (isAt xs x) (length xs) (l .j) (omega arith) (eq-eqb (getD xs (l .j) 0) x (c .if1 .taken))) ∙ l .inv .2
+    let l = c .before .before .before in
+    sym (first-passed (test (l .before)) (size (l .before)) (l .loop .j) (omega arith) (eq-eqb _ _ (c .if1 .taken))) ∙ l .loop .inv .2
 
 loop-again : tie.Need-loop-again Inv-loop μ-loop
 loop-again c =
-    let xs = c .before .before .before .before .args .c .now in
-    let x = c .before .before .before .before .args .x in
-    let l = c .before .before .before .loop in
-    (omega arith, refl, first-failed (isAt xs x) (length xs) (l .j) (omega arith) (ne-eqb (getD xs (l .j) 0) x (c .if1 .left)) ∙ l .inv .2)
-
-returns-2 : tie.Need-returns-2 Inv-loop μ-loop
-returns-2 c =
-    let xs = c .before .before .args .c .now in
-    let l = c .before .loop in
-    sym (first-none (isAt xs (c .before .before .args .x)) (length xs) (l .j) (omega arith)) ∙ l .inv .2
+    let l = c .before .before .before in
+    (omega arith, refl, first-failed (test (l .before)) (size (l .before)) (l .loop .j) (omega arith) (ne-eqb _ _ (c .if1 .left)) ∙ l .loop .inv .2)
 
 pub place-of-spec : {M : Type 1} → statement M
-place-of-spec = tie.close (tie.spec Inv-loop μ-loop loop-holds (λ c. omega arith) (λ c. omega arith) returns (λ c. omega arith) (λ c. omega arith)
-    loop-again returns-2)
+place-of-spec = tie.close (tie.spec Inv-loop μ-loop (λ c. (omega arith, refl, refl)) (λ c. omega arith) (λ c. omega arith) returns (λ c. omega arith)
+    (λ c. omega arith) loop-again
+    (λ c. let l = c .before in sym (first-none (test (l .before)) (size (l .before)) (l .loop .j) (omega arith)) ∙ l .loop .inv .2))

@@ -3,7 +3,7 @@ use Prim.Native.Nat.{_-_}
 use mathlib.Core.Path.{refl}
 use native.Mathlib.Nat.{sub-zero}
 use lib.ListN.{length}
-use Rattle.network_cycles.proofs.TurnLaws.{turned-list}
+use Rattle.network_cycles.proofs.CycleTurnLaws.{turned-list}
 use borrow.Author.Needs.{needs}
 use Rattle.network_cycles.proofs.put_turned.Statement.{statement}
 use Rattle.network_cycles.proofs.put_turned.Tie as tie

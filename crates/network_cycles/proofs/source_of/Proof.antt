@@ -24,13 +24,6 @@ test c =
     let st = c .before .before .before in
     leavesMore (st .args .w) (st .args .d .now) (st .args .levels .now) (st .args .k) (st .args .v) (c .before .loop .u)
 
-entry-at-requires : tie.Need-entry-at-requires Inv-loop μ-loop
-entry-at-requires c κs =
-    level-inside (c .args .w) (c .args .d .now) (c .args .levels .now) (c .pre .0) (c .args .k) (c .args .v) (c .pre .2) (c .pre .3)
-
-loop-holds : tie.Need-loop-holds Inv-loop μ-loop
-loop-holds c = (omega arith, λ i h. absurd (omega arith))
-
 left-by-requires : tie.Need-left-by-requires Inv-loop μ-loop
 left-by-requires c κs =
     let pre = c .before .before .before .pre in
@@ -46,20 +39,16 @@ compared c =
 returns : tie.Need-returns Inv-loop μ-loop
 returns c =
     let st = c .before .before .before .before .before .before in
-    let pre = st .pre in
-    source-found (st .args .w) (st .args .d .now) (st .args .levels .now) (st .args .k) (st .args .v) (pre .0) (pre .1) (pre .2) (pre .3)
+    source-found (st .pre .0) (st .args .k) (st .args .v) (st .pre .1) (st .pre .2) (st .pre .3)
     (c .before .before .before .before .loop .u) (c .before .before .before .loop-test .taken) (compared (c .before) ∙ c .if1 .left)
-
-loop-again : tie.Need-loop-again Inv-loop μ-loop
-loop-again c = (omega arith, below-more _ _ (c .before .before .before .before .loop .inv .1) (compared (c .before) ∙ c .if1 .taken))
 
 returns-2 : tie.Need-returns-2 Inv-loop μ-loop
 returns-2 c =
     let st = c .before .before .before in
-    let pre = st .pre in
-    absurd (source-there (st .args .w) (st .args .d .now) (st .args .levels .now) (st .args .k) (st .args .v) (pre .0) (pre .1) (pre .2) (pre .3)
-    (λ u h. c .before .loop .inv .1 u (omega arith)))
+    absurd (source-there (st .pre .0) (st .args .k) (st .args .v) (st .pre .1) (st .pre .2) (st .pre .3) (λ u h. c .before .loop .inv .1 u (omega arith)))
 
 pub source-of-spec : {M : Type 1} → statement M
-source-of-spec = tie.close (tie.spec Inv-loop μ-loop (λ c. omega arith) entry-at-requires loop-holds left-by-requires (λ c κs. tt) returns
-    (λ c. omega arith) (λ c. omega arith) loop-again returns-2)
+source-of-spec = tie.close (tie.spec Inv-loop μ-loop (λ c. omega arith)
+    (λ c κs. level-inside (c .pre .0) (c .args .k) (c .args .v) (c .pre .2) (c .pre .3)) (λ c. (omega arith, λ i h. absurd (omega arith)))
+    left-by-requires (λ c κs. tt) returns (λ c. omega arith) (λ c. omega arith)
+    (λ c. (omega arith, below-more _ _ (c .before .before .before .before .loop .inv .1) (compared (c .before) ∙ c .if1 .taken))) returns-2)

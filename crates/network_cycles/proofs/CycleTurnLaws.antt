@@ -7,7 +7,7 @@ use lib.Dec.{T}
 use lib.ListN.{length, take, drop, length-take, length-drop, length-append, drop-of-length-le}
 use lib.Seq.{take-all, take-at, drop-at}
 use lib.IntN.{ℤ}
-use Rattle.lists.specs.Parts.{back, part-length}
+use Rattle.lists.specs.Slices.{back, part-length}
 use Rattle.lists.specs.Values.{front-part, front-length}
 use Rattle.network.specs.Network.{isNegativeCycle}
 use Rattle.network.specs.Table.{entry}

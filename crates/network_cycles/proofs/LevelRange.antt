@@ -7,7 +7,7 @@ use lib.IntN.{ℤ, pos, negsuc, _+ℤ_}
 use lib.Signed.{leZ, _≤ℤ_}
 use Rattle.integers.specs.Parts.{ints, up, dn, sum}
 use Rattle.lists.specs.Members.{both}
-use Rattle.network.specs.Table.{entry, sumInRange}
+use Rattle.network.specs.Table.{maxBoundaries, entry, sumInRange}
 use Rattle.network_cycles.specs.Levels.{level, WeightsBounded}
 use Rattle.network_cycles.specs.LevelLaws.{least-among, level-falls}
 
@@ -24,7 +24,7 @@ module _ (w : ℕ) (d : List ℤ) (b : WeightsBounded w d) where
       (omega (arith, level-low k v h))
       (λ u l. let q = b u v l h in omega (ints, q .0, level-low k u l, sum (level w (entry w d) k u) (entry w d u v)))
 
-  pub level-sum-in-range : (k u v : ℕ) → k ≤ 48 → u < w → v < w → T (sumInRange (level w (entry w d) k u +ℤ entry w d u v))
+  pub level-sum-in-range : (k u v : ℕ) → k < maxBoundaries → u < w → v < w → T (sumInRange (level w (entry w d) k u +ℤ entry w d u v))
   level-sum-in-range k u v hk hu hv =
       let x = level w (entry w d) k u in
       let y = entry w d u v in

@@ -33,11 +33,11 @@ abbrev pub SumsInRange : ℤ → List ℤ → Type 0
 SumsInRange am mid = (b : ℕ) → b < length mid → T (sumInRange (am +ℤ getD mid b (pos 0)))
 
 -- an entry of a row becomes the smaller of itself and the sum of am and the middle row's entry
-abbrev pub lowered : ℤ → List ℤ → List ℤ → ℕ → ℤ
-lowered am mid row b = minℤ (getD row b (pos 0)) (am +ℤ getD mid b (pos 0))
+abbrev pub relaxedAt : ℤ → List ℤ → List ℤ → ℕ → ℤ
+relaxedAt am mid row b = minℤ (getD row b (pos 0)) (am +ℤ getD mid b (pos 0))
 
 abbrev pub relaxed : ℤ → List ℤ → List ℤ → List ℤ
-relaxed am mid row = listOf (length row) (lowered am mid row)
+relaxed am mid row = listOf (length row) (relaxedAt am mid row)
 
 -- what the loops of the pass leave: the table of a pass that finishes; past the table nothing changes
 pub record Ran (w : ℕ) (t : List ℤ) (p : Passed) (r : Outcome) (u : List ℤ) : Type 0 where

@@ -1,14 +1,14 @@
 -- The laws of one row of the pass.
 -- Key idea: the least and the greatest number of a row bound the others and are among them, so all sums of the row are in range exactly when those with
 -- its least and its greatest number are.
-use mathlib.Core.Path.{_≡_, refl, sym, ap, subst}
+use mathlib.Core.Path.{_≡_, refl, sym, ap}
 use mathlib.Core.Bool.{Bool, true, false, _&&_}
-use mathlib.Core.List.{List, [], _∷_, _++_}
+use mathlib.Core.List.{List, [], _∷_}
 use Prim.Native.Nat.{ℕ, zero, suc, _+_, _<_}
 use native.Mathlib.Omega.{arith}
 use native.Mathlib.Numerals.{add-one}
 use lib.Dec.{T}
-use lib.ListN.{length, getD, take, drop}
+use lib.ListN.{length, getD, drop}
 use lib.Seq.{drop-cons}
 use lib.IntN.{ℤ, pos, negsuc, _+ℤ_}
 use lib.Signed.{leZ, _≤ℤ_, ≤ℤ-refl}
@@ -18,19 +18,19 @@ use Rattle.integers.specs.Parts.{ints, fits-within, sum, minℤ, maxℤ, min-ca
 use Rattle.lists.specs.Lists.{every}
 use Rattle.lists.specs.Members.{both, left, right, every-at, at-every}
 use Rattle.network.specs.Table.{sumInRange}
-use Rattle.network.specs.Row.{foldFrom, leastOf, greatestOf, Loaded}
+use Rattle.network.specs.RowStep.{foldFrom, leastOf, greatestOf}
 
 -- ---- a sum in range
-pub range-low : (z : ℤ) → T (sumInRange z) → negsuc 29999 ≤ℤ z
+range-low : (z : ℤ) → T (sumInRange z) → negsuc 29999 ≤ℤ z
 range-low z t = record { le = left (leZ (negsuc 29999) z) (leZ z (pos 30000)) t }
 
-pub range-high : (z : ℤ) → T (sumInRange z) → z ≤ℤ pos 30000
+range-high : (z : ℤ) → T (sumInRange z) → z ≤ℤ pos 30000
 range-high z t = record { le = right (leZ (negsuc 29999) z) (leZ z (pos 30000)) t }
 
 pub range-fits : (z : ℤ) → T (sumInRange z) → SFits w16 z
 range-fits z t = let l = range-low z t in let h = range-high z t in fits-within w16 z 30000 tt (omega ints) (omega ints)
 
-in-range : (z : ℤ) → negsuc 29999 ≤ℤ z → z ≤ℤ pos 30000 → T (sumInRange z)
+pub in-range : (z : ℤ) → negsuc 29999 ≤ℤ z → z ≤ℤ pos 30000 → T (sumInRange z)
 in-range z l h = both (leZ (negsuc 29999) z) (leZ z (pos 30000)) (l .le) (h .le)
 
 -- ---- the fold
@@ -89,10 +89,3 @@ ends-ask-all am xs h =
     let u : (am +ℤ greatestOf xs) ≤ℤ pos 30000 = record { le = right lo hi t } in
     at-every (λ y. sumInRange (am +ℤ y)) (pos 0) xs (λ j k. let x = getD xs j (pos 0) in in-range (am +ℤ x)
     (omega (ints, least-at xs j k, sum am (leastOf xs), sum am x)) (omega (ints, greatest-at xs j k, sum am (greatestOf xs), sum am x))))
-
--- ---- a row of a longer list, copied, with its extremes
-pub loaded-at : (i k w : ℕ) (t out copy : List ℤ) (least greatest : ℤ) → k ≡ w
-    → copy ≡ take k (drop i t) ++ drop (length (take k (drop i t))) out → least ≡ leastOf (take k (drop i t)) → greatest ≡ greatestOf (take k (drop i t))
-    → Loaded (take w (drop i t)) out least greatest copy
-loaded-at i k w t out copy least greatest e f l g =
-    subst (λ (n : ℕ). Loaded (take n (drop i t)) out least greatest copy) e (record { front = f; low = l; high = g })

@@ -9,10 +9,10 @@ use lib.Dec.{T}
 use lib.ListN.{length, getD, take, drop, length-take}
 use lib.IntN.{ℤ, pos, _+ℤ_}
 use Rattle.integers.specs.Parts.{minℤ}
-use Rattle.lists.specs.Parts.{part-at}
+use Rattle.lists.specs.Slices.{part-at}
 use Rattle.lists.specs.Values.{listOf, length-listOf, listOf-at, listOf-is, listOf-same}
 use Rattle.network.specs.Table.{entry, sumInRange}
-use Rattle.network.specs.Row.{lowered, relaxed, SumsInRange}
+use Rattle.network.specs.RowStep.{relaxedAt, relaxed, SumsInRange}
 use Rattle.network_cycles.specs.Levels.{leastOver}
 use Rattle.network_cycles.specs.Finder.{SumsFit}
 
@@ -28,7 +28,7 @@ pub reached-next : (w u k : ℕ) (d prev row : List ℤ) (am : ℤ) → u < w �
 reached-next w u k d prev row am h ek fits ea er =
     let mid = take k (drop (u * w) d) in
     let long : length row ≡ w = ap length er ∙ length-listOf (reachedBy w d prev u) w in
-    ap (λ (n : ℕ). listOf n (lowered am mid row)) long ∙ rw (add-one u) (listOf-same w (lowered am mid row) (reachedBy w d prev (suc u)) (λ j l.
+    ap (λ (n : ℕ). listOf n (relaxedAt am mid row)) long ∙ rw (add-one u) (listOf-same w (relaxedAt am mid row) (reachedBy w d prev (suc u)) (λ j l.
     ap (λ (x : ℤ). minℤ x (am +ℤ getD mid j (pos 0))) (ap (λ (x : List ℤ). getD x j (pos 0)) er ∙ listOf-at (reachedBy w d prev u) w j (pos 0) l)
     ∙ ap (λ (x : ℤ). minℤ (reachedBy w d prev u j) (x +ℤ getD mid j (pos 0))) ea
     ∙ ap (λ (x : ℤ). minℤ (reachedBy w d prev u j) (getD prev u (pos 0) +ℤ x)) (part-at (u * w) k d (pos 0) j (omega arith))))
