@@ -14,12 +14,13 @@ use borrow.Author.Tests.{eq-eqb, ne-eqb}
 use Rattle.integers.specs.Parts.{ints, neg, difference, fits-within}
 use Rattle.lists.specs.Lists.{howMany}
 use Rattle.network.specs.Table.{entry}
+use Rattle.sheet.specs.Sizes.{maxUnits}
 use Rattle.sheet.specs.Sheet.{Window}
 use Rattle.sheet.specs.Questions.{windowsOf}
 use Rattle.sheet.specs.QuestionLaws.{windowsOf-length}
 use Rattle.limits.specs.LimitTable.{WindowsFit, exactly, exactWeights}
 use Rattle.limits.specs.InsideLaws.{howMany-most}
-use Rattle.limits.specs.EntryLaws.{Filled, filled-set, filled-same, place-inside}
+use Rattle.limits.specs.LentTableLaws.{TableFilled, filled-set, filled-same, place-inside}
 
 exact-here : (x : Window) (ws : List Window) (a b : ℕ) → x .last ≡ a → x .first ≡ suc b
     → exactWeights (x ∷ ws) a b ≡ exactWeights ws a b -ℤ pos 1
@@ -48,24 +49,24 @@ module _ (w : ℕ) (first last : List ℕ) (fit : WindowsFit w first last) (t₀
   rest-cons : (j : ℕ) → j < length first → rest j ≡ record { first = getD first j 0; last = getD last j 0 } ∷ rest (suc j)
   rest-cons j h = let k : j < length last = omega (arith, fit .paired) in rw (drop-cons first j 0 h, drop-cons last j 0 k) refl
 
-  rest-few : (j : ℕ) → length (rest j) ≤ 300
+  rest-few : (j : ℕ) → length (rest j) ≤ maxUnits
   rest-few j =
       let e : length (drop j last) ≡ length (drop j first) = omega (arith, length-drop j first, length-drop j last, fit .paired) in
       omega (arith, windowsOf-length (drop j first) (drop j last) e, length-drop j first, fit .few)
 
   -- an entry that a window is taken from still fits
-  exact-fits : (j : ℕ) (t : List ℤ) (a b : ℕ) → a < w → b < w → Filled w (exactWeights (rest j)) t₀ t → SFits w16 (entry w t a b -ℤ pos 1)
+  exact-fits : (j : ℕ) (t : List ℤ) (a b : ℕ) → a < w → b < w → TableFilled w (exactWeights (rest j)) t₀ t → SFits w16 (entry w t a b -ℤ pos 1)
   unfolding exactWeights
   exact-fits j t a b ha hb h =
       let n = howMany (exactly (suc b) a) (rest j) in
       let e : entry w t a b ≡ negℤ (pos n) = h .at a b ha hb in
-      let few : n ≤ 300 = omega (arith, howMany-most (exactly (suc b) a) (rest j), rest-few j) in
+      let few : n ≤ maxUnits = omega (arith, howMany-most (exactly (suc b) a) (rest j), rest-few j) in
       let d = difference (entry w t a b) (pos 1) in
       let m = neg (pos n) in
-      fits-within w16 (entry w t a b -ℤ pos 1) 301 tt (omega ints) (omega ints)
+      fits-within w16 (entry w t a b -ℤ pos 1) (suc maxUnits) tt (omega ints) (omega ints)
 
-  exact-more : (j : ℕ) (t : List ℤ) → w * w ≤ length t₀ → j < length first → Filled w (exactWeights (rest (suc j))) t₀ t
-      → Filled w (exactWeights (rest j)) t₀ (set t (getD last j 0 * w + (getD first j 0 - 1)) (entry w t (getD last j 0) (getD first j 0 - 1) -ℤ pos 1))
+  exact-more : (j : ℕ) (t : List ℤ) → w * w ≤ length t₀ → j < length first → TableFilled w (exactWeights (rest (suc j))) t₀ t
+      → TableFilled w (exactWeights (rest j)) t₀ (set t (getD last j 0 * w + (getD first j 0 - 1)) (entry w t (getD last j 0) (getD first j 0 - 1) -ℤ pos 1))
   exact-more j t room h f =
       let a = getD last j 0 in
       let b = getD first j 0 - 1 in
@@ -83,15 +84,15 @@ module _ (w : ℕ) (first last : List ℕ) (fit : WindowsFit w first last) (t₀
   pub record Taken (j at : ℕ) (t : List ℤ) : Type 0 where
     pub inside : at < length t
     pub fits : SFits w16 (getD t at (pos 0) -ℤ pos 1)
-    pub next : Filled w (exactWeights (rest (j - 1))) t₀ (set t at (getD t at (pos 0) -ℤ pos 1))
+    pub next : TableFilled w (exactWeights (rest (j - 1))) t₀ (set t at (getD t at (pos 0) -ℤ pos 1))
 
   pub taken : (j at : ℕ) (t : List ℤ) → w * w ≤ length t₀ → 0 < j → j ≤ length first → at ≡ getD last (j - 1) 0 * w + (getD first (j - 1) 0 - 1)
-      → Filled w (exactWeights (rest j)) t₀ t → Taken j at t
+      → TableFilled w (exactWeights (rest j)) t₀ t → Taken j at t
   taken j at t room low high e f =
       let k = j - 1 in
       let fit-k = fit .each k (omega arith) in
       let up : suc k ≡ j = omega arith in
-      let g : Filled w (exactWeights (rest (suc k))) t₀ t = subst (λ (i : ℕ). Filled w (exactWeights (rest i)) t₀ t) (sym up) f in
+      let g : TableFilled w (exactWeights (rest (suc k))) t₀ t = subst (λ (i : ℕ). TableFilled w (exactWeights (rest i)) t₀ t) (sym up) f in
       subst (λ (i : ℕ). Taken j i t) (sym e)
       (record {
         inside = omega (arith, place-inside w (getD last k 0) (getD first k 0 - 1) (omega arith) (omega arith), f .long);

@@ -8,21 +8,21 @@ use mathlib.Core.List.{List, [], _∷_}
 use Prim.Native.Nat.{ℕ, suc, _+_, _-_, _*_, _≤_, _<_, min, max}
 use native.Mathlib.Omega.{arith}
 use native.Mathlib.Decide.{decLe, ℕ-discrete}
-use lib.Dec.{T, ltb}
+use lib.Dec.{ltb}
 use lib.ListN.{length, getD, drop, set}
 use lib.Seq.{drop-cons, drop-length}
 use lib.IntN.{ℤ, pos, negℤ}
 use borrow.Author.Tests.{eq-eqb, ne-eqb, lt-ltb, le-ltb}
 use Rattle.integers.specs.Parts.{minℤ, min-is, ints, neg}
 use Rattle.network.specs.Table.{entry}
+use Rattle.sheet.specs.Sizes.{boundariesOf}
 use Rattle.sheet.specs.Sheet.{Window, Rule, Sheet, onStretch, atMost, atLeast, limit}
-use Rattle.sheet.specs.Questions.{windowsOf, rulesOf, sheetOf, listsAgree, accepted}
-use Rattle.sheet.specs.QuestionLaws.{listsAgree-read}
+use Rattle.sheet.specs.Questions.{windowsOf, rulesOf, sheetOf}
 use Rattle.sheet.specs.LimitLaws.{limit-fwd, limit-back, limit-same}
-use Rattle.limits.specs.LimitTable.{insideWeights, withForward, lowered}
-use Rattle.limits.specs.InsideLaws.{InOrder, inside-none}
-use Rattle.limits.specs.EntryLaws.{Filled, filled-set, filled-same, filled-over}
-use Rattle.limits.specs.LimitTableLaws.{accepted-rule}
+use Rattle.limits.specs.LimitTable.{insideWeights, withForward, tightenedAt, Fillable}
+use Rattle.limits.specs.InsideLaws.{WindowsOrdered, inside-none}
+use Rattle.limits.specs.LentTableLaws.{TableFilled, filled-set, filled-same, filled-over}
+use Rattle.limits.specs.LimitTableLaws.{fillable-lists, fillable-rule}
 use Rattle.limits.proofs.Forward.{forward-yes, forward-no, forward-same}
 
 min-high : (n h : ℕ) → minℤ (pos n) (pos h) ≡ pos (min h n)
@@ -89,7 +89,7 @@ module _ (p : ℕ) (ws : List Window) where
     ]
 
   -- with no rule there is n forward and the windows inside back
-  no-rules : InOrder ws → (a b : ℕ) → limit (ruled []) a b ≡ withForward (length ws) (insideWeights ws) a b
+  no-rules : WindowsOrdered ws → (a b : ℕ) → limit (ruled []) a b ≡ withForward (length ws) (insideWeights ws) a b
   unfolding insideWeights atMost atLeast
   no-rules ok a b = elim (decLe b a) [
     | no g ↦ let h : a < b = omega arith in
@@ -118,16 +118,16 @@ module _ (p : ℕ) (ws : List Window) where
 
   -- a rule on exactly its stretch
   rule-applied : (w : ℕ) (r : Rule) (rs : List Rule) (t₀ t : List ℤ) → w * w ≤ length t₀ → 1 ≤ r .from → r .from ≤ r .to → r .to < w
-      → Filled w (limit (ruled rs)) t₀ t
-      → Filled w (limit (ruled (r ∷ rs))) t₀
-      (lowered (r .to * w + (r .from - 1)) (negℤ (pos (r .low))) (lowered ((r .from - 1) * w + r .to) (pos (r .high)) t))
+      → TableFilled w (limit (ruled rs)) t₀ t
+      → TableFilled w (limit (ruled (r ∷ rs))) t₀
+      (tightenedAt (r .to * w + (r .from - 1)) (negℤ (pos (r .low))) (tightenedAt ((r .from - 1) * w + r .to) (pos (r .high)) t))
   rule-applied w r rs t₀ t room lo mid hi f =
       let a = r .from - 1 in
       let b = r .to in
       let e : r .from ≡ suc a = omega arith in
       let v = minℤ (entry w t a b) (pos (r .high)) in
       let u = set t (a * w + b) v in
-      let h : Filled w (half r rs) t₀ u = filled-set w (limit (ruled rs)) (half r rs) t₀ t a b v room (omega arith) hi
+      let h : TableFilled w (half r rs) t₀ u = filled-set w (limit (ruled rs)) (half r rs) t₀ t a b v room (omega arith) hi
       (half-forward r rs a b (omega arith) ∙ forward-here r rs a b (omega arith) e refl
       ∙ ap (λ (z : ℤ). minℤ z (pos (r .high))) (sym (f .at a b (omega arith) hi)))
       (λ x y hx hy ne. elim (decLe y x) [
@@ -144,8 +144,8 @@ module _ (p : ℕ) (ws : List Window) where
       ]) h
 
   -- the windows inside, and then n on every forward step
-  pub unruled : (w : ℕ) (t₀ t u : List ℤ) → InOrder ws → Filled w (insideWeights ws) t₀ t → Filled w (withForward (length ws) (entry w t)) t u
-      → Filled w (limit (ruled [])) t₀ u
+  pub unruled : (w : ℕ) (t₀ t u : List ℤ) → WindowsOrdered ws → TableFilled w (insideWeights ws) t₀ t → TableFilled w (withForward (length ws) (entry w t)) t u
+      → TableFilled w (limit (ruled [])) t₀ u
   unruled w t₀ t u ok f g =
       filled-same w (withForward (length ws) (entry w t)) (limit (ruled [])) t₀ u
       (λ x y hx hy. no-rules ok x y ∙ forward-same (length ws) (insideWeights ws) (entry w t) x y (sym (f .at x y hx hy)))
@@ -165,33 +165,32 @@ module _ (span : ℕ) (first last from to low high : List ℕ) where
   unfolding sheetOf
   ruled-all = refl
 
-module _ (span : ℕ) (first last from to low high : List ℕ) (ok : T (accepted (sheetOf span first last from to low high)))
-    (agree : T (listsAgree first last from to low high)) where
+module _ {span : ℕ} {first last from to low high : List ℕ} {room₀ : ℕ} (ok : Fillable span first last from to low high room₀) where
   lines-cons : (k : ℕ) → k < length from → rulesOf (drop k from) (drop k to) (drop k low) (drop k high)
       ≡ record { from = getD from k 0; to = getD to k 0; low = getD low k 0; high = getD high k 0 }
       ∷ rulesOf (drop (suc k) from) (drop (suc k) to) (drop (suc k) low) (drop (suc k) high)
   lines-cons k h =
-      let e = listsAgree-read first last from to low high agree in
+      let e = fillable-lists ok in
       let ht : k < length to = omega (arith, e .stretches) in
       let hl : k < length low = omega (arith, e .lows) in
       let hh : k < length high = omega (arith, e .highs) in
       rw (drop-cons from k 0 h, drop-cons to k 0 ht, drop-cons low k 0 hl, drop-cons high k 0 hh) refl
 
   -- one turn of the loop over the rules
-  pub rule-line : (t₀ t u : List ℤ) (k : ℕ) → (span + 1) * (span + 1) ≤ length t₀ → 0 < k → k ≤ length from
-      → Filled (span + 1) (limit (ruledFrom span first last from to low high k)) t₀ t
+  pub rule-line : (t₀ t u : List ℤ) (k : ℕ) → boundariesOf span * boundariesOf span ≤ length t₀ → 0 < k → k ≤ length from
+      → TableFilled (boundariesOf span) (limit (ruledFrom span first last from to low high k)) t₀ t
       → let j = k - 1 in
-      u ≡ lowered (getD to j 0 * (span + 1) + (getD from j 0 - 1)) (negℤ (pos (getD low j 0)))
-      (lowered ((getD from j 0 - 1) * (span + 1) + getD to j 0) (pos (getD high j 0)) t)
-      → Filled (span + 1) (limit (ruledFrom span first last from to low high j)) t₀ u
+      u ≡ tightenedAt (getD to j 0 * boundariesOf span + (getD from j 0 - 1)) (negℤ (pos (getD low j 0)))
+      (tightenedAt ((getD from j 0 - 1) * boundariesOf span + getD to j 0) (pos (getD high j 0)) t)
+      → TableFilled (boundariesOf span) (limit (ruledFrom span first last from to low high j)) t₀ u
   rule-line t₀ t u k room lo hi f q =
       let j = k - 1 in
       let r : Rule = record { from = getD from j 0; to = getD to j 0; low = getD low j 0; high = getD high j 0 } in
       let rs = rulesOf (drop (suc j) from) (drop (suc j) to) (drop (suc j) low) (drop (suc j) high) in
       let ws = windowsOf first last in
-      let fit = accepted-rule span first last from to low high ok agree j (omega arith) in
+      let fit = fillable-rule ok j (omega arith) in
       let e : k ≡ suc j = omega arith in
-      subst (λ (l : List Rule). Filled (span + 1) (limit (ruled span ws l)) t₀ u) (sym (lines-cons j (omega arith)))
-      (subst (Filled (span + 1) (limit (ruled span ws (r ∷ rs))) t₀) (sym q)
-      (rule-applied span ws (span + 1) r rs t₀ t room (fit .starts) (fit .ordered) (fit .ends)
-      (subst (λ (i : ℕ). Filled (span + 1) (limit (ruledFrom span first last from to low high i)) t₀ t) e f)))
+      subst (λ (l : List Rule). TableFilled (boundariesOf span) (limit (ruled span ws l)) t₀ u) (sym (lines-cons j (omega arith)))
+      (subst (TableFilled (boundariesOf span) (limit (ruled span ws (r ∷ rs))) t₀) (sym q)
+      (rule-applied span ws (boundariesOf span) r rs t₀ t room (fit .starts) (fit .ordered) (fit .ends)
+      (subst (λ (i : ℕ). TableFilled (boundariesOf span) (limit (ruledFrom span first last from to low high i)) t₀ t) e f)))

@@ -11,23 +11,24 @@ use mir.Syntax.{w16}
 use mir.Val.{SFits}
 use Rattle.integers.specs.Parts.{ints, neg, sum, fits-within}
 use Rattle.lists.specs.Lists.{howMany}
+use Rattle.sheet.specs.Sizes.{maxUnits}
 use Rattle.sheet.specs.Sheet.{Window, insideOf}
 use Rattle.limits.specs.LimitTable.{exactly, exactWeights, insideWeights}
-use Rattle.limits.specs.InsideLaws.{InOrder, endsIn, row-step, column-step, inside-none, exact-none, howMany-most}
-use Rattle.limits.specs.EntryLaws.{Filled, place-inside, rows-apart}
+use Rattle.limits.specs.InsideLaws.{WindowsOrdered, endsIn, row-step, column-step, inside-none, exact-none, howMany-most}
+use Rattle.limits.specs.LentTableLaws.{TableFilled, place-inside, rows-apart}
 use Rattle.limits.proofs.Sweep.{Swept, swept-first, swept-row, swept-set}
 
 -- from exact windows to windows inside
 abbrev pub Summed : ℕ → List Window → List ℤ → ℕ → ℕ → List ℤ → Type 0
 Summed w ws = Swept w (exactWeights ws) (insideWeights ws)
 
-module _ (w : ℕ) (ws : List Window) (ok : InOrder ws) (t₀ t : List ℤ) where
+module _ (w : ℕ) (ws : List Window) (ok : WindowsOrdered ws) (t₀ t : List ℤ) where
   -- right of the diagonal both are 0
   same-right : (x y : ℕ) → x ≤ y → exactWeights ws x y ≡ insideWeights ws x y
   unfolding exactWeights insideWeights
   same-right x y h = ap (λ (n : ℕ). negℤ (pos n)) (exact-none ws ok x y h ∙ sym (inside-none ws ok x y h))
 
-  pub first-row : Filled w (exactWeights ws) t₀ t → Summed w ws t₀ 1 1 t
+  pub first-row : TableFilled w (exactWeights ws) t₀ t → Summed w ws t₀ 1 1 t
   first-row f = swept-first w (exactWeights ws) (insideWeights ws) t₀ t 1 1 f (λ x y h. same-right x y (omega arith)) (λ y h _. same-right 1 y h)
 
   pub next-row : (a : ℕ) → Summed w ws t₀ a 0 t → Summed w ws t₀ (a + 1) (a + 1) t
@@ -42,10 +43,10 @@ pub record Turn (w : ℕ) (ws : List Window) (t₀ t : List ℤ) (a b at : ℕ) 
   pub fits : SFits w16 ((z +ℤ getD t at (pos 0)) +ℤ getD t (at - w) (pos 0))
   pub next : Summed w ws t₀ a (b - 1) (set t at ((z +ℤ getD t at (pos 0)) +ℤ getD t (at - w) (pos 0)))
 
-small : (z : ℤ) (n : ℕ) → z ≡ negℤ (pos n) → n ≤ 300 → SFits w16 z
-small z n e h = let m = neg (pos n) in fits-within w16 z 300 tt (omega ints) (omega ints)
+small : (z : ℤ) (n : ℕ) → z ≡ negℤ (pos n) → n ≤ maxUnits → SFits w16 z
+small z n e h = let m = neg (pos n) in fits-within w16 z maxUnits tt (omega ints) (omega ints)
 
-turn-at : (w : ℕ) (ws : List Window) (t₀ t : List ℤ) (a b : ℕ) (z : ℤ) → w * w ≤ length t₀ → length ws ≤ 300 → suc a < w → b < w
+turn-at : (w : ℕ) (ws : List Window) (t₀ t : List ℤ) (a b : ℕ) (z : ℤ) → w * w ≤ length t₀ → length ws ≤ maxUnits → suc a < w → b < w
     → z ≡ negℤ (pos (howMany (endsIn (suc b) (suc a)) ws))
     → Summed w ws t₀ (suc a) (suc b) t → Turn w ws t₀ t (suc a) (suc b) (suc a * w + b) z
 unfolding exactWeights insideWeights
@@ -74,7 +75,7 @@ turn-at w ws t₀ t a b z room few ha hb ez s =
           (swept-set w (exactWeights ws) (insideWeights ws) t₀ t (suc a) b ((z +ℤ x) +ℤ y) room ha hb all s);
     }
 
-pub turn : (w : ℕ) (ws : List Window) (t₀ t : List ℤ) (a b : ℕ) (z : ℤ) → w * w ≤ length t₀ → length ws ≤ 300 → 0 < a → a < w → 0 < b → b ≤ a
+pub turn : (w : ℕ) (ws : List Window) (t₀ t : List ℤ) (a b : ℕ) (z : ℤ) → w * w ≤ length t₀ → length ws ≤ maxUnits → 0 < a → a < w → 0 < b → b ≤ a
     → z ≡ negℤ (pos (howMany (endsIn b a) ws)) → Summed w ws t₀ a b t → Turn w ws t₀ t a b (a * w + (b - 1)) z
 turn w ws t₀ t zero b z room few low high lo hi e s = absurd (omega arith)
 turn w ws t₀ t (suc a) zero z room few low high lo hi e s = absurd (omega arith)

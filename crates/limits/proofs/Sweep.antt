@@ -9,7 +9,7 @@ use lib.ListN.{length, drop, set, length-set}
 use lib.IntN.{ℤ}
 use Rattle.network.specs.Network.{Weights}
 use Rattle.network.specs.Table.{entry}
-use Rattle.limits.specs.EntryLaws.{Filled, entry-set-same, entry-set-other, past-set}
+use Rattle.limits.specs.LentTableLaws.{TableFilled, entry-set-same, entry-set-other, past-set}
 
 -- old entries f, new entries g
 pub record Swept (w : ℕ) (f g : Weights) (t₀ : List ℤ) (a b : ℕ) (t : List ℤ) : Type 0 where
@@ -21,7 +21,7 @@ pub record Swept (w : ℕ) (f g : Weights) (t₀ : List ℤ) (a b : ℕ) (t : Li
   pub past : drop (w * w) t ≡ drop (w * w) t₀
 
 module _ (w : ℕ) (f g : Weights) (t₀ t : List ℤ) where
-  pub swept-first : (a b : ℕ) → Filled w f t₀ t → ((x y : ℕ) → x < a → f x y ≡ g x y) → ((y : ℕ) → b ≤ y → y < w → f a y ≡ g a y) → Swept w f g t₀ a b t
+  pub swept-first : (a b : ℕ) → TableFilled w f t₀ t → ((x y : ℕ) → x < a → f x y ≡ g x y) → ((y : ℕ) → b ≤ y → y < w → f a y ≡ g a y) → Swept w f g t₀ a b t
   swept-first a b h up same = record {
     long = h .long;
     above = λ x y k hx hy. h .at x y hx hy ∙ up x y k;
@@ -48,7 +48,7 @@ module _ (w : ℕ) (f g : Weights) (t₀ t : List ℤ) where
     past = s .past;
   }
 
-  pub swept-last : (a b : ℕ) → w ≤ a → Swept w f g t₀ a b t → Filled w g t₀ t
+  pub swept-last : (a b : ℕ) → w ≤ a → Swept w f g t₀ a b t → TableFilled w g t₀ t
   swept-last a b h s = record { long = s .long; at = λ x y hx hy. s .above x y (omega arith) hx hy; past = s .past }
 
   pub swept-set : (a b : ℕ) (v : ℤ) → w * w ≤ length t₀ → a < w → b < w → v ≡ g a b → Swept w f g t₀ a (suc b) t → Swept w f g t₀ a b (set t (a * w + b) v)

@@ -55,16 +55,16 @@ column-step a b [] = refl
 column-step a b (w ∷ ws) = omega (arith, ends-split a (w .last) (leb (suc b) (w .first)), column-step a b ws)
 
 -- ---- windows that start in slot 1 or later and end no earlier than they start
-pub InOrder : List Window → Type 0
-InOrder ws = (j : ℕ) → j < length ws → (1 ≤ getD ws j noWindow .first) × (getD ws j noWindow .first ≤ getD ws j noWindow .last)
+pub WindowsOrdered : List Window → Type 0
+WindowsOrdered ws = (j : ℕ) → j < length ws → (1 ≤ getD ws j noWindow .first) × (getD ws j noWindow .first ≤ getD ws j noWindow .last)
 
 none-pass : (t : Window → Bool) (ws : List Window) → ((j : ℕ) → j < length ws → T (t (getD ws j noWindow)) → ⊥) → howMany t ws ≡ 0
 none-pass t ws f = omega (arith, howMany-count t noWindow ws, count-empty (length ws) (λ j. t (getD ws j noWindow)) f)
 
-module _ (ws : List Window) (ok : InOrder ws) (a b : ℕ) (h : a ≤ b) where
+module _ (ws : List Window) (ok : WindowsOrdered ws) (a b : ℕ) (h : a ≤ b) where
   -- none of them lies in a stretch that ends before it starts
   pub inside-none : howMany (insideOf (suc b) a) ws ≡ 0
-  unfolding InOrder
+  unfolding WindowsOrdered
   inside-none = none-pass (insideOf (suc b) a) ws (λ j l t.
       let w = getD ws j noWindow in
       let starts = leb→le (suc b) (w .first) (left (leb (suc b) (w .first)) (leb (w .last) a) t) in
@@ -72,7 +72,7 @@ module _ (ws : List Window) (ok : InOrder ws) (a b : ℕ) (h : a ≤ b) where
       omega (arith, ok j l))
 
   pub ends-none : howMany (endsIn b a) ws ≡ 0
-  unfolding InOrder
+  unfolding WindowsOrdered
   ends-none = none-pass (endsIn b a) ws (λ j l t.
       let w = getD ws j noWindow in
       let starts = leb→le (suc b) (w .first) (left (leb (suc b) (w .first)) (eqb (w .last) a) t) in
@@ -82,9 +82,9 @@ module _ (ws : List Window) (ok : InOrder ws) (a b : ℕ) (h : a ≤ b) where
   pub exact-none : howMany (exactly (suc b) a) ws ≡ 0
   exact-none = omega (arith, row-step a b ws, ends-none)
 
-pub fit-in-order : (w : ℕ) (first last : List ℕ) → WindowsFit w first last → InOrder (windowsOf first last)
-unfolding InOrder
-fit-in-order w first last fit j h =
+pub fit-ordered : (w : ℕ) (first last : List ℕ) → WindowsFit w first last → WindowsOrdered (windowsOf first last)
+unfolding WindowsOrdered
+fit-ordered w first last fit j h =
     let l : j < length first = omega (arith, windowsOf-length first last (fit .paired)) in
     let f = fit .each j l in
     rw (windowsOf-at first last (fit .paired) j l) (omega arith, omega arith)

@@ -1,5 +1,5 @@
 pub mod Tightened
 pub mod LimitTable
-pub mod EntryLaws
+pub mod LentTableLaws
 pub mod InsideLaws
 pub mod LimitTableLaws

@@ -18,7 +18,7 @@ use Rattle.sheet.specs.Questions.{sheetOf, listsAgree, accepted}
 abbrev pub limitTable : Sheet → List ℤ → List ℤ
 limitTable s t = tableOf (boundaries s) (limit s) ++ drop (boundaries s * boundaries s) t
 
--- the units' windows, as first and last slots: at most 300, each 1 ≤ first ≤ last, and last below w
+-- the units' windows, as first and last slots: at most `maxUnits`, each 1 ≤ first ≤ last, and last below w
 pub record WindowsFit (w : ℕ) (first last : List Slot) : Type 0 where
   pub paired : length last ≡ length first
   pub few : length first ≤ maxUnits
@@ -41,8 +41,8 @@ unfoldable pub withForward : ℕ → Weights → Weights
 withForward n d a b = cond (ltb a b) (pos n) (d a b)
 
 -- the number at a place made the smaller of itself and v
-abbrev pub lowered : ℕ → ℤ → List ℤ → List ℤ
-lowered at v t = set t at (minℤ (getD t at (pos 0)) v)
+abbrev pub tightenedAt : ℕ → ℤ → List ℤ → List ℤ
+tightenedAt at v t = set t at (minℤ (getD t at (pos 0)) v)
 
 -- what filling the table asks: lists that agree, an accepted sheet, and room for the table
 pub record Fillable (span : ℕ) (first last from to low high : List ℕ) (room : ℕ) : Type 0 where

@@ -1,7 +1,7 @@
 -- What an accepted sheet in parallel lists gives to code, and the size of its limits.
 use mathlib.Core.Path.{_≡_, refl, _∙_, subst}
 use mathlib.Core.List.{List, [], _∷_, List·Memᴰ·head, List·Memᴰ·tail}
-use Prim.Native.Nat.{ℕ, zero, suc, _+_, _*_, _≤_, _<_}
+use Prim.Native.Nat.{ℕ, zero, suc, _*_, _≤_, _<_}
 use native.Mathlib.Omega.{arith}
 use native.Mathlib.Decide.{decLe}
 use lib.Dec.{T}
@@ -12,14 +12,14 @@ use Rattle.integers.specs.Parts.{up, dn, ints, neg}
 use Rattle.lists.specs.Members.{In}
 use Rattle.network.specs.Table.{maxBoundaries, tableOf, entry}
 use Rattle.network.specs.TableLaws.{length-tableOf, entry-front}
-use Rattle.sheet.specs.Sizes.{maxCount}
+use Rattle.sheet.specs.Sizes.{maxSlots, maxCount, boundariesOf}
 use Rattle.sheet.specs.Sheet.{Rule, Sheet, top, boundaries, noWindow, insideOf, atLeast, limit}
 use Rattle.sheet.specs.PlanLaws.{noRule}
 use Rattle.sheet.specs.LimitLaws.{limit-fwd, limit-back, limit-same, atMost-n, atLeast-le}
 use Rattle.sheet.specs.Questions.{windowsOf, rulesOf, sheetOf, listsAgree, accepted}
 use Rattle.sheet.specs.QuestionLaws.{Agree, listsAgree-read, windowsOf-length, windowsOf-at, rulesOf-length, rulesOf-at}
 use Rattle.sheet.specs.QuestionLaws.{accepted-sized, accepted-valid}
-use Rattle.limits.specs.LimitTable.{WindowsFit, limitTable}
+use Rattle.limits.specs.LimitTable.{WindowsFit, Fillable, limitTable}
 use Rattle.limits.specs.InsideLaws.{howMany-most}
 
 in-at : (d : Rule) (rs : List Rule) (k : ℕ) → k < length rs → In (getD rs k d) rs
@@ -31,50 +31,51 @@ in-at d (r ∷ rs) (suc k) h = List·Memᴰ·tail (in-at d rs k (omega arith))
 pub record RuleFits (span f t l h : ℕ) : Type 0 where
   pub starts : 1 ≤ f
   pub ordered : f ≤ t
-  pub ends : t < span + 1
+  pub ends : t < boundariesOf span
   pub low : l ≤ maxCount
   pub high : h ≤ maxCount
 
-module _ (span : ℕ) (first last from to low high : List ℕ) (ok : T (accepted (sheetOf span first last from to low high)))
-    (agree : T (listsAgree first last from to low high)) where
-  lists : Agree first last from to low high
-  lists = listsAgree-read first last from to low high agree
+module _ {span : ℕ} {first last from to low high : List ℕ} {room : ℕ} (f : Fillable span first last from to low high room) where
+  pub fillable-lists : Agree first last from to low high
+  fillable-lists = listsAgree-read first last from to low high (f .agree)
 
-  pub accepted-windows : WindowsFit (span + 1) first last
+  pub fillable-windows : WindowsFit (boundariesOf span) first last
   unfolding sheetOf top
-  accepted-windows = record {
-    paired = lists .windows;
-    few = omega (arith, windowsOf-length first last (lists .windows), accepted-sized (sheetOf span first last from to low high) ok .units);
+  fillable-windows = record {
+    paired = fillable-lists .windows;
+    few = omega (arith, windowsOf-length first last (fillable-lists .windows), accepted-sized (sheetOf span first last from to low high) (f .ok) .units);
     each = λ j h.
-        let e = windowsOf-at first last (lists .windows) j h in
+        let e = windowsOf-at first last (fillable-lists .windows) j h in
         let w = getD (windowsOf first last) j noWindow in
-        let v : (1 ≤ w .first) × (w .first ≤ w .last) × (w .last ≤ span)
-        = accepted-valid (sheetOf span first last from to low high) ok .windows j (omega (arith, windowsOf-length first last (lists .windows))) in
+        let v : (1 ≤ w .first) × (w .first ≤ w .last) × (w .last ≤ span) = accepted-valid (sheetOf span first last from to low high) (f .ok) .windows j
+        (omega (arith, windowsOf-length first last (fillable-lists .windows))) in
         let x = rw e at v in
         (x .0, x .1, omega (arith, x .2));
   }
 
-  pub accepted-rule : (k : ℕ) → k < length from → RuleFits span (getD from k 0) (getD to k 0) (getD low k 0) (getD high k 0)
+  pub fillable-rule : (k : ℕ) → k < length from → RuleFits span (getD from k 0) (getD to k 0) (getD low k 0) (getD high k 0)
   unfolding sheetOf top
-  accepted-rule k h =
+  fillable-rule k h =
+      let l = fillable-lists in
       let rs = rulesOf from to low high in
       let r : Rule = record { from = getD from k 0; to = getD to k 0; low = getD low k 0; high = getD high k 0 } in
-      let e : getD rs k noRule ≡ r = rulesOf-at from to low high (lists .stretches) (lists .lows) (lists .highs) k h in
-      let n : length rs ≡ length from = rulesOf-length from to low high (lists .stretches) (lists .lows) (lists .highs) in
+      let e : getD rs k noRule ≡ r = rulesOf-at from to low high (l .stretches) (l .lows) (l .highs) k h in
+      let n : length rs ≡ length from = rulesOf-length from to low high (l .stretches) (l .lows) (l .highs) in
       let m : In r rs = subst (λ (q : Rule). In q rs) e (in-at noRule rs k (omega arith)) in
-      let v = accepted-valid (sheetOf span first last from to low high) ok .stretches r m in
-      let c = accepted-sized (sheetOf span first last from to low high) ok .counts r m in
+      let v = accepted-valid (sheetOf span first last from to low high) (f .ok) .stretches r m in
+      let c = accepted-sized (sheetOf span first last from to low high) (f .ok) .counts r m in
       record { starts = v .0; ordered = v .1; ends = omega (arith, v .2); low = omega (arith, c .0, c .1); high = c .1 }
 
-  pub accepted-span : span ≤ 48
-  unfolding sheetOf
-  accepted-span = accepted-sized (sheetOf span first last from to low high) ok .slots .1
+pub accepted-span : (span : ℕ) (first last from to low high : List ℕ) → T (accepted (sheetOf span first last from to low high))
+    → T (listsAgree first last from to low high) → span ≤ maxSlots
+unfolding sheetOf
+accepted-span span first last from to low high ok agree = accepted-sized (sheetOf span first last from to low high) ok .slots .1
 
-pub boundaries-are : (span : ℕ) (first last from to low high : List ℕ) → boundaries (sheetOf span first last from to low high) ≡ span + 1
+pub boundaries-are : (span : ℕ) (first last from to low high : List ℕ) → boundaries (sheetOf span first last from to low high) ≡ boundariesOf span
 unfolding sheetOf top
 boundaries-are span first last from to low high = omega arith
 
--- every limit of an accepted sheet is within 300 of 0
+-- every limit of an accepted sheet is within the largest count of 0
 pub limit-small : (s : Sheet) → T (accepted s) → (a b : ℕ) → (up (limit s a b) ≤ maxCount) × (dn (limit s a b) ≤ maxCount)
 limit-small s ok a b =
     let size = accepted-sized s ok in

@@ -6,7 +6,7 @@ ghost use lib.IntN.{pos, negℤ};
 ghost use Rattle.network.specs.Table.{tableOf, entry};
 ghost use Rattle.sheet.specs.Sizes.{maxUnits, maxCount};
 ghost use Rattle.sheet.specs.Questions.{sheetOf};
-ghost use Rattle.limits.specs.LimitTable.{withForward, lowered, limitTable, Fillable};
+ghost use Rattle.limits.specs.LimitTable.{withForward, tightenedAt, limitTable, Fillable};
 use crate::back_place;
 use crate::forward_place;
 use crate::inside::windows_inside;
@@ -29,35 +29,21 @@ pub fn fill_forward(n: usize, w: usize, t: &mut [i16])
     }
 }
 
-// The limit at a place takes a rule's high.
-pub fn tighten_high(at: usize, high: u16, t: &mut [i16])
-    requires { ⌜ (at < length (now t)) × (high ≤ maxCount) ⌝ }
-    ensures { λ _. ⌜ now (t .exit) ≡ lowered at (pos high) (now (t .entry)) ⌝ }
-{
-    let step = Limit { value: t[at] };
-    let tighter = step.with_high(high);
-    let value = tighter.value;
-    t[at] = value;
-}
-
-// The limit at a place takes a rule's low.
-pub fn tighten_low(at: usize, low: u16, t: &mut [i16])
-    requires { ⌜ (at < length (now t)) × (low ≤ maxCount) ⌝ }
-    ensures { λ _. ⌜ now (t .exit) ≡ lowered at (negℤ (pos low)) (now (t .entry)) ⌝ }
-{
-    let step = Limit { value: t[at] };
-    let tighter = step.with_low(low);
-    let value = tighter.value;
-    t[at] = value;
-}
-
 // A rule on exactly its stretch: its high on the step forward, its low on the step back.
 pub fn apply_rule(from: u16, to: u16, low: u16, high: u16, w: usize, t: &mut [i16])
     requires { ⌜ (1 ≤ from) × (from ≤ to) × (to < w) × (low ≤ maxCount) × (high ≤ maxCount) × (w * w ≤ length (now t)) ⌝ }
-    ensures { λ _. ⌜ now (t .exit) ≡ lowered (to * w + (from - 1)) (negℤ (pos low)) (lowered ((from - 1) * w + to) (pos high) (now (t .entry))) ⌝ }
+    ensures { λ _. ⌜ now (t .exit) ≡ tightenedAt (to * w + (from - 1)) (negℤ (pos low)) (tightenedAt ((from - 1) * w + to) (pos high) (now (t .entry))) ⌝ }
 {
-    tighten_high(forward_place(from, to, w), high, t);
-    tighten_low(back_place(from, to, w), low, t);
+    let ahead = forward_place(from, to, w);
+    let forward = Limit { value: t[ahead] };
+    let fewer = forward.with_high(high);
+    let most = fewer.value;
+    t[ahead] = most;
+    let behind = back_place(from, to, w);
+    let back = Limit { value: t[behind] };
+    let more = back.with_low(low);
+    let least = more.value;
+    t[behind] = least;
 }
 
 // The limits of all steps: windows inside, n on every forward step, and every rule.
@@ -76,7 +62,7 @@ pub fn fill_limits(
         let s = sheetOf span (now (first .entry)) (now (last .entry)) (now (from .entry)) (now (to .entry)) (now (low .entry)) (now (high .entry)) in
         ⌜ now (t .exit) ≡ limitTable s (now (t .entry)) ⌝ }
 {
-    let w = span + 1;
+    let w = sheet::boundaries(span);
     windows_inside(first, last, w, t);
     fill_forward(first.len(), w, t);
     // From the last rule to the first, as the list of rules is built.

@@ -2,7 +2,7 @@ ghost use mathlib.Core.Path.{_≡_};
 ghost use Prim.Native.Nat.{_≤_};
 ghost use lib.IntN.{pos, negℤ};
 ghost use Rattle.sheet.specs.Sizes.{maxCount};
-ghost use Rattle.limits.specs.Tightened.{withHigh, withLow};
+ghost use Rattle.limits.specs.Tightened.{withBound, withHigh, withLow};
 
 // The limit of a step.
 pub struct Limit {
@@ -10,15 +10,22 @@ pub struct Limit {
 }
 
 impl Limit {
+    // The smaller of the limit and a bound.
+    fn with_bound(self, bound: i16) -> Limit
+        ensures { λ r. ⌜ r ≡ withBound self bound ⌝ }
+    {
+        let v = self.value;
+        Limit {
+            value: integers::lesser(v, bound),
+        }
+    }
+
     // The smaller of the limit and a rule's high.
     pub fn with_high(self, high: u16) -> Limit
         requires { ⌜ high ≤ maxCount ⌝ }
         ensures { λ r. ⌜ r ≡ withHigh self high ⌝ }
     {
-        let v = self.value;
-        Limit {
-            value: integers::lesser(v, signed(high)),
-        }
+        self.with_bound(signed(high))
     }
 
     // The smaller of the limit and minus a rule's low.
@@ -26,10 +33,7 @@ impl Limit {
         requires { ⌜ low ≤ maxCount ⌝ }
         ensures { λ r. ⌜ r ≡ withLow self low ⌝ }
     {
-        let v = self.value;
-        Limit {
-            value: integers::lesser(v, minus(low)),
-        }
+        self.with_bound(minus(low))
     }
 }
 

@@ -1,4 +1,4 @@
--- P1 to P10 of document 01: one list of cases and one claim about the definitions, which the checker computes from the enumeration alone.
+-- P1 to P10 (docs/RULES.md, "Sheets to try"): one list of cases and one claim about the definitions, which the checker computes from the enumeration alone.
 use mathlib.Core.Path.{_≡_, refl}
 use mathlib.Core.List.{List, [], _∷_, map}
 use Prim.Native.Nat.{ℕ}
@@ -43,7 +43,7 @@ All (c ∷ cs) = Holds c × All cs
 
 abbrev pub cases : List Case
 cases =
-    -- P1 (001, section 1.1)
+    -- P1 (Chabert and Demassey, section 1.1)
     plan (sheet 7 (w 1 4 ∷ w 2 5 ∷ w 4 7 ∷ []) (r 1 3 1 2 ∷ r 2 4 0 2 ∷ r 3 7 2 3 ∷ r 6 6 0 1 ∷ []))
     (1 ∷ 3 ∷ 4 ∷ []) (1 ∷ 2 ∷ 4 ∷ []) (4 ∷ 5 ∷ 7 ∷ [])
     (0 ∷ 0 ∷ 0 ∷ 0 ∷ 0 ∷ 0 ∷ 0 ∷ []) (1 ∷ 1 ∷ 2 ∷ 2 ∷ 2 ∷ 1 ∷ 1 ∷ [])
@@ -51,7 +51,7 @@ cases =
     ∷ plan (sheet 4 (w 1 2 ∷ w 1 4 ∷ []) (r 1 2 1 1 ∷ r 2 3 1 1 ∷ r 3 4 1 1 ∷ []))
     (1 ∷ 3 ∷ []) (1 ∷ 3 ∷ []) (2 ∷ 4 ∷ [])
     (0 ∷ 0 ∷ 0 ∷ 0 ∷ []) (1 ∷ 1 ∷ 1 ∷ 1 ∷ [])
-    -- P3 (001, lemma 8, moved up by one)
+    -- P3 (Chabert and Demassey, lemma 8, moved up by one)
     ∷ plan (sheet 5 (w 1 3 ∷ w 2 5 ∷ []) (r 2 3 1 1 ∷ r 3 4 1 1 ∷ r 4 5 1 1 ∷ []))
     (2 ∷ 4 ∷ []) (2 ∷ 4 ∷ []) (3 ∷ 5 ∷ [])
     (0 ∷ 0 ∷ 0 ∷ 0 ∷ 0 ∷ []) (0 ∷ 1 ∷ 1 ∷ 1 ∷ 1 ∷ [])

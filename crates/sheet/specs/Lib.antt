@@ -6,4 +6,5 @@ pub mod LimitLaws
 pub mod PotentialLaws
 pub mod Questions
 pub mod QuestionLaws
+pub mod Lists
 pub mod Solved

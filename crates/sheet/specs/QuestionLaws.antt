@@ -1,18 +1,21 @@
--- What an accepted sheet is, place by place; its limits are within 300 of 0; and the parallel lists, place by place.
+-- The parallel lists, place by place, and what an accepted sheet is: its sizes, windows, stretches and counts.
+-- Key idea: every answer is yes, so each question's own is.
 use mathlib.Core.Path.{_≡_, refl, ap}
-use mathlib.Core.Bool.{_&&_}
+use mathlib.Core.Bool.{_&&_, true}
 use mathlib.Core.List.{List, [], _∷_}
 use Prim.Native.Nat.{ℕ, zero, suc, _≤_, _<_}
 use native.Mathlib.Omega.{arith}
-use lib.Dec.{T, leb, eqb, leb→le, eqb→eq}
+use lib.Dec.{T, leb, ltb, eqb, leb→le, eqb→eq}
 use lib.ListN.{length, getD}
 use Rattle.lists.specs.Members.{In, left, right, within-iff, every-at, every-in}
 use Rattle.sheet.specs.Sizes.{maxSlots, maxUnits, maxRules, maxCount}
 use Rattle.sheet.specs.Sheet.{Rule, Sheet, top, noWindow}
 use Rattle.sheet.specs.PlanLaws.{noRule}
 use Rattle.sheet.specs.PotentialLaws.{Valid}
-use Rattle.sheet.specs.Questions.{windowsOf, rulesOf, listsAgree, accepted}
-use Rattle.sheet.specs.Questions.{spanFits, stretchWithin, windowsFit, stretchesFit, countsFit, unitsFit, rulesFit}
+use Rattle.questions.specs.Questions.{ask}
+use Rattle.questions.specs.FirstNoLaws.{yes-at}
+use Rattle.sheet.specs.Questions.{windowsOf, rulesOf, listsAgree, rising, isStretch, isCount, sheetQuestions, accepted}
+use Rattle.sheet.specs.Questions.{spanFits, windowsFit, stretchesFit, countsFit, unitsFit, rulesFit}
 
 -- ---- the parallel lists
 
@@ -74,39 +77,29 @@ pub record Sized (s : Sheet) : Type 0 where
   pub rules : length (s .rules) ≤ maxRules
   pub counts : (r : Rule) → In r (s .rules) → (r .low ≤ r .high) × (r .high ≤ maxCount)
 
-pub stretch-read : (bound f l : ℕ) → T (stretchWithin bound f l) → (1 ≤ f) × (f ≤ l) × (l ≤ bound)
-stretch-read bound f l t =
-    let r = right (leb 1 f) (leb f l && leb l bound) t in
-    (leb→le 1 f (left (leb 1 f) (leb f l && leb l bound) t), leb→le f l (left (leb f l) (leb l bound) r), leb→le l bound (right (leb f l) (leb l bound) r))
+rising-read : (least most f l : ℕ) → T (rising least most f l) → (least ≤ f) × (f ≤ l) × (l ≤ most)
+rising-read least most f l t =
+    let a = leb least f in
+    let b = leb f l in
+    let c = leb l most in
+    let r = right a (b && c) t in
+    (leb→le least f (left a (b && c) t), leb→le f l (left b c r), leb→le l most (right b c r))
 
 module _ (s : Sheet) (ok : T (accepted s)) where
-  spans : T (spanFits s)
+  -- the answer at a place of the questions
+  yes : (i : ℕ) → T (ltb i 6) → T (getD (sheetQuestions s) i (ask 0 0 true) .yes)
   unfolding accepted
-  spans = left (spanFits s) (unitsFit s && (rulesFit s && (windowsFit s && (stretchesFit s && countsFit s)))) ok
-
-  past-span : T (unitsFit s && (rulesFit s && (windowsFit s && (stretchesFit s && countsFit s))))
-  unfolding accepted
-  past-span = right (spanFits s) (unitsFit s && (rulesFit s && (windowsFit s && (stretchesFit s && countsFit s)))) ok
-
-  past-units : T (rulesFit s && (windowsFit s && (stretchesFit s && countsFit s)))
-  past-units = right (unitsFit s) (rulesFit s && (windowsFit s && (stretchesFit s && countsFit s))) past-span
-
-  past-rules : T (windowsFit s && (stretchesFit s && countsFit s))
-  past-rules = right (rulesFit s) (windowsFit s && (stretchesFit s && countsFit s)) past-units
-
-  past-windows : T (stretchesFit s && countsFit s)
-  past-windows = right (windowsFit s) (stretchesFit s && countsFit s) past-rules
+  yes = yes-at (sheetQuestions s) ok
 
   pub accepted-sized : Sized s
   unfolding spanFits unitsFit rulesFit countsFit
   accepted-sized = record {
-    slots = within-iff 1 maxSlots (s .span) .0 spans;
-    units = leb→le (length (s .units)) maxUnits (left (unitsFit s) (rulesFit s && (windowsFit s && (stretchesFit s && countsFit s))) past-span);
-    rules = leb→le (length (s .rules)) maxRules (left (rulesFit s) (windowsFit s && (stretchesFit s && countsFit s)) past-units);
+    slots = within-iff 1 maxSlots (s .span) .0 (yes 0 tt);
+    units = leb→le (length (s .units)) maxUnits (yes 1 tt);
+    rules = leb→le (length (s .rules)) maxRules (yes 2 tt);
     counts = λ r m.
-        let t = every-in (λ q. leb (q .low) (q .high) && leb (q .high) maxCount) r (s .rules) m (right (stretchesFit s) (countsFit s) past-windows) in
-        let order = leb→le (r .low) (r .high) (left (leb (r .low) (r .high)) (leb (r .high) maxCount) t) in
-        (order, leb→le (r .high) maxCount (right (leb (r .low) (r .high)) (leb (r .high) maxCount) t));
+        let c = rising-read 0 maxCount (r .low) (r .high) (every-in (λ q. isCount (q .low) (q .high)) r (s .rules) m (yes 5 tt)) in
+        (c .1, c .2);
   }
 
   pub accepted-valid : Valid s
@@ -115,9 +108,8 @@ module _ (s : Sheet) (ok : T (accepted s)) where
     spans = accepted-sized .slots .0;
     windows = λ j h.
         let w = getD (s .units) j noWindow in
-        stretch-read (s .span) (w .first) (w .last)
-        (every-at (λ w. stretchWithin (s .span) (w .first) (w .last)) noWindow (s .units) (left (windowsFit s) (stretchesFit s && countsFit s) past-rules) j h);
+        rising-read 1 (s .span) (w .first) (w .last)
+        (every-at (λ v. isStretch (s .span) (v .first) (v .last)) noWindow (s .units) (yes 3 tt) j h);
     stretches = λ r m.
-        stretch-read (s .span) (r .from) (r .to)
-        (every-in (λ q. stretchWithin (s .span) (q .from) (q .to)) r (s .rules) m (left (stretchesFit s) (countsFit s) past-windows));
+        rising-read 1 (s .span) (r .from) (r .to) (every-in (λ q. isStretch (s .span) (q .from) (q .to)) r (s .rules) m (yes 4 tt));
   }

@@ -1,10 +1,11 @@
--- A sheet in parallel lists, and document 01's questions about a sheet, by number. Definitions only.
+-- A sheet in parallel lists, and the questions about a sheet, by number (docs/RULES.md, "Questions"). Definitions only.
 use mathlib.Core.Bool.{Bool, _&&_}
 use mathlib.Core.List.{List, [], _∷_}
 use Prim.Native.Nat.{ℕ}
 use lib.Dec.{leb, eqb}
 use lib.ListN.{length}
 use Rattle.lists.specs.Lists.{within, every}
+use Rattle.questions.specs.Questions.{Question, ask}
 use Rattle.sheet.specs.Sizes.{maxSlots, maxUnits, maxRules, maxCount}
 use Rattle.sheet.specs.Sheet.{Slot, Window, Rule, Sheet, top}
 
@@ -32,22 +33,32 @@ listsAgree first last from to low high =
     && (eqb (length to) (length from) && (eqb (length low) (length from) && eqb (length high) (length from)))
 
 -- 6: is the span 1 to 48?
+abbrev pub isSpan : ℕ → Bool
+isSpan span = within 1 maxSlots span
+
 unfoldable pub spanFits : Sheet → Bool
-spanFits s = within 1 maxSlots (s .span)
+spanFits s = isSpan (s .span)
+
+-- least ≤ first ≤ last ≤ most: the one test of two ends
+abbrev pub rising : ℕ → ℕ → ℕ → ℕ → Bool
+rising least most first last = leb least first && (leb first last && leb last most)
 
 -- 7: is 1 ≤ first ≤ last ≤ span? A window may reach to the top boundary, a rule's stretch to the span.
-abbrev pub stretchWithin : ℕ → Slot → Slot → Bool
-stretchWithin bound first last = leb 1 first && (leb first last && leb last bound)
+abbrev pub isStretch : ℕ → Slot → Slot → Bool
+isStretch bound first last = rising 1 bound first last
 
 unfoldable pub windowsFit : Sheet → Bool
-windowsFit s = every (λ w. stretchWithin (top s) (w .first) (w .last)) (s .units)
+windowsFit s = every (λ w. isStretch (top s) (w .first) (w .last)) (s .units)
 
 unfoldable pub stretchesFit : Sheet → Bool
-stretchesFit s = every (λ r. stretchWithin (s .span) (r .from) (r .to)) (s .rules)
+stretchesFit s = every (λ r. isStretch (s .span) (r .from) (r .to)) (s .rules)
 
 -- 8: is low ≤ high ≤ 300?
+abbrev pub isCount : ℕ → ℕ → Bool
+isCount low high = rising 0 maxCount low high
+
 unfoldable pub countsFit : Sheet → Bool
-countsFit s = every (λ r. leb (r .low) (r .high) && leb (r .high) maxCount) (s .rules)
+countsFit s = every (λ r. isCount (r .low) (r .high)) (s .rules)
 
 -- 9: are there at most 300 units?
 unfoldable pub unitsFit : Sheet → Bool
@@ -57,6 +68,12 @@ unitsFit s = leb (length (s .units)) maxUnits
 unfoldable pub rulesFit : Sheet → Bool
 rulesFit s = leb (length (s .rules)) maxRules
 
--- every question about the sheet itself is answered yes
+-- what is asked of the sheet itself, in planning's order; no line is to blame
+abbrev pub sheetQuestions : Sheet → List Question
+sheetQuestions s =
+    ask 6 0 (spanFits s) ∷ ask 9 0 (unitsFit s) ∷ ask 10 0 (rulesFit s)
+    ∷ ask 7 0 (windowsFit s) ∷ ask 7 0 (stretchesFit s) ∷ ask 8 0 (countsFit s) ∷ []
+
+-- every answer is yes
 unfoldable pub accepted : Sheet → Bool
-accepted s = spanFits s && (unitsFit s && (rulesFit s && (windowsFit s && (stretchesFit s && countsFit s))))
+accepted s = every (λ q. q .yes) (sheetQuestions s)

@@ -1,5 +1,5 @@
 -- A sheet, its lawful plans, what is least and greatest over them, the printed plan, the limits of steps and the rings.
--- Definitions only, by plain enumeration: nothing here knows of tables, potentials or deadlines. Document 01 and source 001 (definitions 1 and 2).
+-- Definitions only, by plain enumeration: nothing here knows of tables, potentials or deadlines. docs/RULES.md; Chabert and Demassey, definitions 1 and 2.
 -- Units and rules count from 0 here, in the order of their lines; a plan is the list of the units' slots.
 use mathlib.Core.Bool.{Bool, true, false, _&&_, _||_, not, cond}
 use mathlib.Core.List.{List, [], _∷_, map}
@@ -97,15 +97,15 @@ unfoldable pub latest : Sheet → ℕ → Slot
 latest s j = greatest (map (λ plan. getD plan j 0) (lawfulPlans s))
 
 -- the places of the units, in line order
-abbrev pub lines : Sheet → List ℕ
-lines s = run 0 (length (s .units))
+abbrev pub unitPlaces : Sheet → List ℕ
+unitPlaces s = run 0 (length (s .units))
 
 -- the narrowed windows' two ends, unit by unit
 unfoldable pub earliestSlots : Sheet → List Slot
-earliestSlots s = map (earliest s) (lines s)
+earliestSlots s = map (earliest s) (unitPlaces s)
 
 unfoldable pub latestSlots : Sheet → List Slot
-latestSlots s = map (latest s) (lines s)
+latestSlots s = map (latest s) (unitPlaces s)
 
 -- ---- the printed plan
 
@@ -128,7 +128,7 @@ seatFair s plan i j =
 
 -- the seat property
 unfoldable pub fair : Sheet → List Slot → Bool
-fair s plan = every (λ i. every (seatFair s plan i) (lines s)) (lines s)
+fair s plan = every (λ i. every (seatFair s plan i) (unitPlaces s)) (unitPlaces s)
 
 unfoldable pub printedPlans : Sheet → List (List Slot)
 printedPlans s = keep (λ plan. soonest s plan && fair s plan) (lawfulPlans s)

@@ -1,6 +1,7 @@
 ghost use mathlib.Core.Path.{_≡_};
 ghost use Prim.Native.Nat.{_+_, _-_, _<_, _≤_};
 ghost use Rattle.sheet.specs.Sizes.{maxSlots, boundariesOf};
+ghost use Rattle.sheet.specs.Questions.{isSpan, rising};
 
 // Slots run 1 to span, boundaries 0 to top; boundary b is the end of slot b.
 pub struct Slot(pub usize);
@@ -26,12 +27,40 @@ impl Boundary {
     }
 }
 
-// The number of boundaries of a span: the one step from the one to the other.
+// The number of boundaries of a span: the one step from the one to the other. The compiler reads no contracts; the branch tells it how many there are at
+// most, so that it makes short loops over them.
 pub fn boundaries(span: usize) -> usize
     requires { ⌜ span ≤ maxSlots ⌝ }
     ensures { λ r. ⌜ r ≡ boundariesOf span ⌝ }
 {
-    span + 1
+    if span < Sheet::MAX_SLOTS {
+        span + 1
+    } else {
+        Sheet::MAX_BOUNDARIES
+    }
+}
+
+// Question 6.
+pub fn is_span(span: usize) -> bool
+    ensures { λ r. ⌜ r ≡ isSpan span ⌝ }
+{
+    if span < 1 {
+        return false;
+    }
+    span <= Sheet::MAX_SLOTS
+}
+
+// least ≤ first ≤ last ≤ most: the one test of a window and of a rule's stretch and counts, questions 7 and 8.
+pub fn rises(least: usize, most: usize, first: usize, last: usize) -> bool
+    ensures { λ r. ⌜ r ≡ rising least most first last ⌝ }
+{
+    if first < least {
+        return false;
+    }
+    if last < first {
+        return false;
+    }
+    last <= most
 }
 
 // A sheet's span and its numbers of units and rules; the lists themselves are lent.

@@ -12,7 +12,7 @@ use borrow.Author.Needs.{needs}
 use Rattle.network.specs.Table.{entry}
 use Rattle.network.specs.TableLaws.{row-inside}
 use Rattle.limits.specs.LimitTable.{withForward}
-use Rattle.limits.specs.EntryLaws.{Filled, filled-is, place-inside}
+use Rattle.limits.specs.LentTableLaws.{TableFilled, filled-is, place-inside}
 use Rattle.limits.proofs.Sweep.{swept-last}
 use Rattle.limits.proofs.Forward.{Put, put-first, put-more, put-row}
 use Rattle.limits.proofs.fill.fill_forward.Statement.{statement}
@@ -31,19 +31,10 @@ Inv-loop n w t₀ most a₀ t a = Put n w t₀ a w t
 abbrev μ-loop : tie.MeasureT-loop
 μ-loop n w t₀ most a₀ t a = w - a
 
-signed-requires : tie.Need-signed-requires Inv-loop2 μ-loop2 Inv-loop μ-loop
-signed-requires c κs = c .pre .0
-
-loop-holds : tie.Need-loop-holds Inv-loop2 μ-loop2 Inv-loop μ-loop
-loop-holds c = put-first (c .before .args .n) (c .before .args .w) (c .before .args .t .now)
-
 mul-row : tie.Need-mul-row Inv-loop2 μ-loop2 Inv-loop μ-loop
 mul-row c =
     let s = c .before .before .before in
     omega (arith, row-inside (c .before .loop .a) (s .args .w) (omega arith), s .pre .1)
-
-loop2-holds : tie.Need-loop2-holds Inv-loop2 μ-loop2 Inv-loop μ-loop
-loop2-holds c = (refl, omega arith, omega arith, λ T h s. s)
 
 inside : (c : tie.In-loop2 Inv-loop2 μ-loop2 Inv-loop μ-loop)
     → c .before .before .before .loop .a * c .before .before .before .before .before .args .w + (c .before .loop2 .b - 1) < length (c .before .loop2 .t)
@@ -51,15 +42,6 @@ inside c =
     let w = c .before .before .before .before .before .args .w in
     let r = c .before .before .before .loop in
     omega (arith, place-inside w (r .a) (c .before .loop2 .b - 1) (omega arith) (omega arith), r .inv .long)
-
-add-most : tie.Need-add-most Inv-loop2 μ-loop2 Inv-loop μ-loop
-add-most c = omega (arith, inside c, c .before .before .before .loop .inv .long)
-
-mul-most : tie.Need-mul-most Inv-loop2 μ-loop2 Inv-loop μ-loop
-mul-most c = omega (arith, inside c, c .before .before .before .loop .inv .long)
-
-slice-set-from-most : tie.Need-slice-set-from-most Inv-loop2 μ-loop2 Inv-loop μ-loop
-slice-set-from-most c = inside c
 
 loop2-again : tie.Need-loop2-again Inv-loop2 μ-loop2 Inv-loop μ-loop
 loop2-again c =
@@ -85,15 +67,12 @@ loop-again c =
     put-row (s .args .n) (s .args .w) (s .args .t .now) (l .t) (r .a) (l .b) (omega arith) (l .inv .3 (s .args .t .now) (s .pre .1) (r .inv))
 
 whole : (c : tie.After-loop Inv-loop2 μ-loop2 Inv-loop μ-loop)
-    → let a = c .before .before .before .args in Filled (a .w) (withForward (a .n) (entry (a .w) (a .t .now))) (a .t .now) (c .before .loop .t)
+    → let a = c .before .before .before .args in TableFilled (a .w) (withForward (a .n) (entry (a .w) (a .t .now))) (a .t .now) (c .before .loop .t)
 whole c =
     let a = c .before .before .before .args in
     let f = entry (a .w) (a .t .now) in
     let l = c .before .loop in
     swept-last (a .w) f (withForward (a .n) f) (a .t .now) (l .t) (l .a) (a .w) (omega arith) (l .inv)
-
-same-length : tie.Need-same-length Inv-loop2 μ-loop2 Inv-loop μ-loop
-same-length c = whole c .long
 
 returns : tie.Need-returns Inv-loop2 μ-loop2 Inv-loop μ-loop
 returns c =
@@ -102,6 +81,8 @@ returns c =
     filled-is (a .w) (withForward (a .n) (entry (a .w) (a .t .now))) (a .t .now) (c .before .loop .t) (s .pre .1) (whole c)
 
 pub fill-forward-spec : {M : Type 1} → statement M
-fill-forward-spec = tie.close (tie.spec Inv-loop2 μ-loop2 Inv-loop μ-loop (λ c. omega arith) signed-requires loop-holds mul-row loop2-holds
-    (λ c. omega arith) (λ c. omega arith) add-most mul-most slice-set-from-most (λ c. omega arith) loop2-again (λ c. omega arith) (λ c. omega arith)
-    loop-again same-length returns)
+fill-forward-spec = tie.close (tie.spec Inv-loop2 μ-loop2 Inv-loop μ-loop (λ c. omega arith) (λ c κs. c .pre .0)
+    (λ c. put-first (c .before .args .n) (c .before .args .w) (c .before .args .t .now)) mul-row (λ c. (refl, omega arith, omega arith, λ T h s. s))
+    (λ c. omega arith) (λ c. omega arith) (λ c. omega (arith, inside c, c .before .before .before .loop .inv .long))
+    (λ c. omega (arith, inside c, c .before .before .before .loop .inv .long)) (λ c. inside c) (λ c. omega arith) loop2-again (λ c. omega arith)
+    (λ c. omega arith) loop-again (λ c. whole c .long) returns)

@@ -13,8 +13,8 @@ use Rattle.network.specs.TableLaws.{row-inside}
 use Rattle.sheet.specs.Questions.{windowsOf}
 use Rattle.sheet.specs.QuestionLaws.{windowsOf-length}
 use Rattle.limits.specs.LimitTable.{exactWeights, insideWeights}
-use Rattle.limits.specs.InsideLaws.{endsIn, ends-none, fit-in-order}
-use Rattle.limits.specs.EntryLaws.{Filled, filled-is, is-filled, filled-over}
+use Rattle.limits.specs.InsideLaws.{endsIn, ends-none, fit-ordered}
+use Rattle.limits.specs.LentTableLaws.{TableFilled, filled-is, is-filled, filled-over}
 use Rattle.limits.proofs.Sweep.{swept-last, rebase, own-base}
 use Rattle.limits.proofs.Sums.{Summed, Turn, turn, first-row, next-row}
 use Rattle.limits.proofs.inside.windows_inside.Statement.{statement}
@@ -34,14 +34,14 @@ Inv-loop first last w t₀ a₀ t a = (0 < a) × (w * w ≤ length t₀) × Summ
 abbrev μ-loop : tie.MeasureT-loop
 μ-loop first last w t₀ a₀ t a = w - a
 
--- src/inside.rt:51:5
-exact-windows-requires : tie.Need-exact-windows-requires Inv-loop2 μ-loop2 Inv-loop μ-loop
-exact-windows-requires c κs = c .before .before .before .pre
+-- the function's entry, from the outer loop
+abbrev start : tie.At-loop Inv-loop2 μ-loop2 Inv-loop μ-loop → tie.Start Inv-loop2 μ-loop2 Inv-loop μ-loop
+start c = c .before .before .before .before .before .before
 
 -- the table that the exact windows leave
 exact : (c : tie.After-exact-windows Inv-loop2 μ-loop2 Inv-loop μ-loop)
     → let a = c .before .before .before .before .args in
-    Filled (a .w) (exactWeights (windowsOf (a .first .now) (a .last .now))) (a .t .now) (c .exact-windows .last .1 .1 .1 .0)
+    TableFilled (a .w) (exactWeights (windowsOf (a .first .now) (a .last .now))) (a .t .now) (c .exact-windows .last .1 .1 .1 .0)
 exact c =
     let s = c .before .before .before .before in
     let a = s .args in
@@ -58,7 +58,7 @@ loop-holds c =
       omega arith,
       omega (arith, f .long, s .pre .0),
       own-base (a .w) (exactWeights ws) (insideWeights ws) (a .t .now) t 1 1
-          (first-row (a .w) ws (fit-in-order (a .w) (a .first .now) (a .last .now) (s .pre .1)) (a .t .now) t f),
+          (first-row (a .w) ws (fit-ordered (a .w) (a .first .now) (a .last .now) (s .pre .1)) (a .t .now) t f),
     )
 
 mul-row : tie.Need-mul-row Inv-loop2 μ-loop2 Inv-loop μ-loop
@@ -72,7 +72,7 @@ loop2-holds c =
     let a = s .args in
     let l = c .before .loop in
     let ws = windowsOf (a .first .now) (a .last .now) in
-    let none = ends-none ws (fit-in-order (a .w) (a .first .now) (a .last .now) (s .pre .1)) (l .a) (l .a) (omega arith) in (
+    let none = ends-none ws (fit-ordered (a .w) (a .first .now) (a .last .now) (s .pre .1)) (l .a) (l .a) (omega arith) in (
       omega (arith, l .inv .2 .long, l .inv .1),
       l .inv .0,
       omega arith,
@@ -82,12 +82,12 @@ loop2-holds c =
     )
 
 one : (c : tie.In-loop2 Inv-loop2 μ-loop2 Inv-loop μ-loop)
-    → let a = c .before .before .before .before .before .before .before .before .before .args in
+    → let a = start (c .before .before .before) .args in
     let r = c .before .before .before .loop in
     let l = c .before .loop2 in
     Turn (a .w) (windowsOf (a .first .now) (a .last .now)) (r .t) (l .t) (r .a) (l .b) (r .a * a .w + (l .b - 1)) (toZ w16 (l .sum))
 one c =
-    let s = c .before .before .before .before .before .before .before .before .before in
+    let s = start (c .before .before .before) in
     let a = s .args in
     let r = c .before .before .before .loop in
     let l = c .before .loop2 in
@@ -96,49 +96,25 @@ one c =
     (omega (arith, windowsOf-length (a .first .now) (a .last .now) (fit .paired), fit .few))
     (l .inv .1) (l .inv .2) (omega arith) (l .inv .3) (l .inv .4) (l .inv .5)
 
-add-at : tie.Need-add-at Inv-loop2 μ-loop2 Inv-loop μ-loop
-add-at c = omega (arith, one c .inside, c .before .loop2 .inv .5 .long)
-
-mul-sum : tie.Need-mul-sum Inv-loop2 μ-loop2 Inv-loop μ-loop
-mul-sum c = omega (arith, one c .inside, c .before .loop2 .inv .5 .long)
-
-slice-copy-out-sum : tie.Need-slice-copy-out-sum Inv-loop2 μ-loop2 Inv-loop μ-loop
-slice-copy-out-sum c = one c .inside
-
 add-sum : tie.Need-add-sum Inv-loop2 μ-loop2 Inv-loop μ-loop
 add-sum c =
-    let w = c .before .before .before .before .before .before .before .before .before .before .args .w in
+    let w = start (c .before .before .before .before) .args .w in
     let at = c .before .before .before .before .loop .a * w + (c .before .before .loop2 .b - 1) in
     let x : SFits w16 (getD (c .before .before .loop2 .t) at (pos 0)) = search needs in
     rw (toZ-ofZ x) (one (c .before) .sum-fits)
 
-sub-t : tie.Need-sub-t Inv-loop2 μ-loop2 Inv-loop μ-loop
-sub-t c = one (c .before) .under
-
-mul-t : tie.Need-mul-t Inv-loop2 μ-loop2 Inv-loop μ-loop
-mul-t c = omega (arith, one (c .before) .inside, c .before .before .loop2 .inv .5 .long)
-
-slice-copy-out-t : tie.Need-slice-copy-out-t Inv-loop2 μ-loop2 Inv-loop μ-loop
-slice-copy-out-t c = omega (arith, one (c .before) .inside)
-
 add-t : tie.Need-add-t Inv-loop2 μ-loop2 Inv-loop μ-loop
 add-t c =
-    let w = c .before .before .before .before .before .before .before .before .before .before .before .args .w in
+    let w = start (c .before .before .before .before .before) .args .w in
     let at = c .before .before .before .before .before .loop .a * w + (c .before .before .before .loop2 .b - 1) in
     let x : SFits w16 (getD (c .before .before .before .loop2 .t) at (pos 0)) = search needs in
     let y : SFits w16 (getD (c .before .before .before .loop2 .t) (at - w) (pos 0)) = search needs in
     let o = one (c .before .before) in
     rw (toZ-ofZ x, toZ-ofZ (o .sum-fits), toZ-ofZ y) (o .fits)
 
-mul-t21 : tie.Need-mul-t21 Inv-loop2 μ-loop2 Inv-loop μ-loop
-mul-t21 c = omega (arith, one (c .before .before) .inside, c .before .before .before .loop2 .inv .5 .long)
-
-slice-set-from-t : tie.Need-slice-set-from-t Inv-loop2 μ-loop2 Inv-loop μ-loop
-slice-set-from-t c = one (c .before .before) .inside
-
 loop2-again : tie.Need-loop2-again Inv-loop2 μ-loop2 Inv-loop μ-loop
 loop2-again c =
-    let w = c .before .before .before .before .before .before .before .before .before .before .before .args .w in
+    let w = start (c .before .before .before .before .before) .args .w in
     let at = c .before .before .before .before .before .loop .a * w + (c .before .before .before .loop2 .b - 1) in
     let x : SFits w16 (getD (c .before .before .before .loop2 .t) at (pos 0)) = search needs in
     let y : SFits w16 (getD (c .before .before .before .loop2 .t) (at - w) (pos 0)) = search needs in
@@ -154,7 +130,7 @@ loop2-again c =
 
 loop-again : tie.Need-loop-again Inv-loop2 μ-loop2 Inv-loop μ-loop
 loop-again c =
-    let s = c .before .before .before .before .before .before .before .before .before in
+    let s = start (c .before .before .before) in
     let a = s .args in
     let r = c .before .before .before .loop in
     let l = c .before .loop2 in
@@ -164,13 +140,13 @@ loop-again c =
     let done : Summed (a .w) ws (r .t) (r .a) 0 (l .t) = subst (λ (b : ℕ). Summed (a .w) ws (r .t) (r .a) b (l .t)) e (l .inv .5) in (
       omega arith,
       r .inv .1,
-      next-row (a .w) ws (fit-in-order (a .w) (a .first .now) (a .last .now) (s .pre .1)) t₀ (l .t) (r .a)
+      next-row (a .w) ws (fit-ordered (a .w) (a .first .now) (a .last .now) (s .pre .1)) t₀ (l .t) (r .a)
           (rebase (a .w) (exactWeights ws) (insideWeights ws) (r .t) (l .t) t₀ (r .a) (r .a) (r .a) 0 (r .inv .2) done),
     )
 
 whole : (c : tie.After-loop Inv-loop2 μ-loop2 Inv-loop μ-loop)
     → let a = c .before .before .before .before .before .before .before .args in
-    Filled (a .w) (insideWeights (windowsOf (a .first .now) (a .last .now))) (a .t .now) (c .before .loop .t)
+    TableFilled (a .w) (insideWeights (windowsOf (a .first .now) (a .last .now))) (a .t .now) (c .before .loop .t)
 whole c =
     let s = c .before .before .before .before .before .before .before in
     let a = s .args in
@@ -180,9 +156,6 @@ whole c =
     filled-over (a .w) (exactWeights ws) (insideWeights ws) (a .t .now) t₀ (l .t) (exact (c .before .before .before))
     (swept-last (a .w) (exactWeights ws) (insideWeights ws) t₀ (l .t) (l .a) (l .a) (omega arith) (l .inv .2))
 
-same-length : tie.Need-same-length Inv-loop2 μ-loop2 Inv-loop μ-loop
-same-length c = whole c .long
-
 returns : tie.Need-returns Inv-loop2 μ-loop2 Inv-loop μ-loop
 returns c =
     let s = c .before .before .before .before .before .before .before in
@@ -190,6 +163,9 @@ returns c =
     filled-is (a .w) (insideWeights (windowsOf (a .first .now) (a .last .now))) (a .t .now) (c .before .loop .t) (s .pre .0) (whole c)
 
 pub windows-inside-spec : {M : Type 1} → statement M
-windows-inside-spec = tie.close (tie.spec Inv-loop2 μ-loop2 Inv-loop μ-loop exact-windows-requires loop-holds mul-row loop2-holds (λ c. omega arith)
-    add-at mul-sum slice-copy-out-sum add-sum sub-t mul-t slice-copy-out-t add-t mul-t21 slice-set-from-t (λ c. omega arith) loop2-again
-    (λ c. omega arith) (λ c. omega arith) loop-again same-length returns)
+windows-inside-spec = tie.close (tie.spec Inv-loop2 μ-loop2 Inv-loop μ-loop (λ c κs. c .before .before .before .pre) loop-holds mul-row loop2-holds
+    (λ c. omega arith) (λ c. omega (arith, one c .inside, c .before .loop2 .inv .5 .long))
+    (λ c. omega (arith, one c .inside, c .before .loop2 .inv .5 .long)) (λ c. one c .inside) add-sum (λ c. one (c .before) .under)
+    (λ c. omega (arith, one (c .before) .inside, c .before .before .loop2 .inv .5 .long)) (λ c. omega (arith, one (c .before) .inside)) add-t
+    (λ c. omega (arith, one (c .before .before) .inside, c .before .before .before .loop2 .inv .5 .long)) (λ c. one (c .before .before) .inside)
+    (λ c. omega arith) loop2-again (λ c. omega arith) (λ c. omega arith) loop-again (λ c. whole c .long) returns)

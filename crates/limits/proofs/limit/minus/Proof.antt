@@ -7,6 +7,7 @@ use mir.Syntax.{w16}
 use mir.Val.{SFits, toZ}
 use mir.Facts.{toZ-ofZ, toZ-pos}
 use Rattle.integers.specs.Parts.{ints, difference, fits-within}
+use Rattle.sheet.specs.Sizes.{maxCount}
 use Rattle.limits.proofs.limit.minus.Statement.{statement}
 use Rattle.limits.proofs.limit.minus.Tie as tie
 
@@ -14,16 +15,11 @@ fits : (c : tie.Start) → SFits w16 (pos 0 -ℤ pos (c .args .x))
 fits c =
     let x = c .args .x in
     let d = difference (pos 0) (pos x) in
-    fits-within w16 (pos 0 -ℤ pos x) 300 tt (omega ints) (omega ints)
+    fits-within w16 (pos 0 -ℤ pos x) maxCount tt (omega ints) (omega ints)
 
 small : (c : tie.Start) → toZ w16 (c .args .x) ≡ pos (c .args .x)
 small c = toZ-pos w16 (omega arith)
 
-sub-result : tie.Need-sub-result
-sub-result c = rw (small c) (fits c)
-
-returns : tie.Need-returns
-returns c = rw (small c) (toZ-ofZ (fits c) ∙ +ℤ-idl (negℤ (pos (c .args .x))))
-
 pub minus-spec : {M : Type 1} → statement M
-minus-spec = tie.close (tie.spec (λ c. search needs) sub-result returns)
+minus-spec = tie.close (tie.spec (λ c. search needs) (λ c. rw (small c) (fits c))
+    (λ c. rw (small c) (toZ-ofZ (fits c) ∙ +ℤ-idl (negℤ (pos (c .args .x))))))

@@ -6,8 +6,5 @@ use mir.Facts.{toZ-pos}
 use Rattle.limits.proofs.limit.signed.Statement.{statement}
 use Rattle.limits.proofs.limit.signed.Tie as tie
 
-returns : tie.Need-returns
-returns c = toZ-pos w16 (omega arith)
-
 pub signed-spec : {M : Type 1} → statement M
-signed-spec = tie.close (tie.spec (λ c. search needs) returns)
+signed-spec = tie.close (tie.spec (λ c. search needs) (λ c. toZ-pos w16 (omega arith)))

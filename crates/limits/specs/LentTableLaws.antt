@@ -20,13 +20,13 @@ pub rows-apart : (w a x : ℕ) → a < x → a * w + w ≤ x * w
 rows-apart w a x h = let k : (a + 1) * w ≤ x * w = mul-le-mul-right w (omega arith) in omega arith
 
 -- a place belongs to one row and one column
-place-row : (w a b x y : ℕ) → b < w → y < w → x * w + y ≡ a * w + b → x ≡ a
+pub place-row : (w a b x y : ℕ) → b < w → y < w → x * w + y ≡ a * w + b → x ≡ a
 place-row w a b x y hb hy e = elim (decLe x a) [
   | no g ↦ absurd (omega (arith, rows-apart w a x (omega arith)))
   | yes l ↦ elim (decLe a x) [ yes m ↦ omega arith | no g ↦ absurd (omega (arith, rows-apart w x a (omega arith))) ]
 ]
 
-place-column : (w a b x y : ℕ) → b < w → y < w → x * w + y ≡ a * w + b → y ≡ b
+pub place-column : (w a b x y : ℕ) → b < w → y < w → x * w + y ≡ a * w + b → y ≡ b
 place-column w a b x y hb hy e = let r = ap (λ (k : ℕ). k * w) (place-row w a b x y hb hy e) in omega arith
 
 pub place-inside : (w a b : ℕ) → a < w → b < w → a * w + b < w * w
@@ -51,12 +51,12 @@ module _ (w : ℕ) (t : List ℤ) (a b : ℕ) (v : ℤ) (ha : a < w) (hb : b < w
   past-set = drop-set-lt (w * w) t (a * w + b) v (place-inside w a b ha hb)
 
 -- t has the entries of f, and past them what t₀ has there
-pub record Filled (w : ℕ) (f : Weights) (t₀ t : List ℤ) : Type 0 where
+pub record TableFilled (w : ℕ) (f : Weights) (t₀ t : List ℤ) : Type 0 where
   pub long : length t ≡ length t₀
   pub at : (a b : ℕ) → a < w → b < w → entry w t a b ≡ f a b
   pub past : drop (w * w) t ≡ drop (w * w) t₀
 
-pub filled-is : (w : ℕ) (f : Weights) (t₀ t : List ℤ) → w * w ≤ length t₀ → Filled w f t₀ t → t ≡ tableOf w f ++ drop (w * w) t₀
+pub filled-is : (w : ℕ) (f : Weights) (t₀ t : List ℤ) → w * w ≤ length t₀ → TableFilled w f t₀ t → t ≡ tableOf w f ++ drop (w * w) t₀
 filled-is w f t₀ t room h =
     let size : length (take (w * w) t) ≡ length (tableOf w f) = omega (arith, length-take (w * w) t, h .long, length-tableOf w f) in
     let front : take (w * w) t ≡ tableOf w f = ext-getD (pos 0) (take (w * w) t) (tableOf w f) size agree in
@@ -71,7 +71,7 @@ filled-is w f t₀ t room h =
         ∙ ap (λ (j : ℕ). getD t j (pos 0)) (sym same) ∙ h .at (p .0) (p .1) (p .2) (p .3) ∙ sym (entry-tableOf w f (p .0) (p .1) (p .2) (p .3))
         ∙ ap (λ (j : ℕ). getD (tableOf w f) j (pos 0)) same
 
-pub is-filled : (w : ℕ) (f : Weights) (t₀ t : List ℤ) → w * w ≤ length t₀ → t ≡ tableOf w f ++ drop (w * w) t₀ → Filled w f t₀ t
+pub is-filled : (w : ℕ) (f : Weights) (t₀ t : List ℤ) → w * w ≤ length t₀ → t ≡ tableOf w f ++ drop (w * w) t₀ → TableFilled w f t₀ t
 is-filled w f t₀ t room e =
     record {
       long = ap length e ∙ length-append (tableOf w f) (drop (w * w) t₀) ∙ omega (arith, length-tableOf w f, length-drop (w * w) t₀);
@@ -81,7 +81,7 @@ is-filled w f t₀ t room e =
 
 -- a store moves one entry
 pub filled-set : (w : ℕ) (f g : Weights) (t₀ t : List ℤ) (a b : ℕ) (v : ℤ) → w * w ≤ length t₀ → a < w → b < w → g a b ≡ v
-    → ((x y : ℕ) → x < w → y < w → (x ≡ a → y ≡ b → ⊥) → g x y ≡ f x y) → Filled w f t₀ t → Filled w g t₀ (set t (a * w + b) v)
+    → ((x y : ℕ) → x < w → y < w → (x ≡ a → y ≡ b → ⊥) → g x y ≡ f x y) → TableFilled w f t₀ t → TableFilled w g t₀ (set t (a * w + b) v)
 filled-set w f g t₀ t a b v room ha hb here there h =
     record { long = length-set t (a * w + b) v ∙ h .long; at = at; past = past-set w t a b v ha hb ∙ h .past }
   where
@@ -96,14 +96,14 @@ filled-set w f g t₀ t a b v room ha hb here there h =
     ]
 
 -- the same entries by another name
-pub filled-same : (w : ℕ) (f g : Weights) (t₀ t : List ℤ) → ((x y : ℕ) → x < w → y < w → g x y ≡ f x y) → Filled w f t₀ t → Filled w g t₀ t
+pub filled-same : (w : ℕ) (f g : Weights) (t₀ t : List ℤ) → ((x y : ℕ) → x < w → y < w → g x y ≡ f x y) → TableFilled w f t₀ t → TableFilled w g t₀ t
 filled-same w f g t₀ t same h = record { long = h .long; at = λ x y hx hy. h .at x y hx hy ∙ sym (same x y hx hy); past = h .past }
 
 -- ---- zeros in front
-cleared-length : (n : ℕ) (t : List ℤ) → n ≤ length t → length (cleared n t) ≡ length t
+pub cleared-length : (n : ℕ) (t : List ℤ) → n ≤ length t → length (cleared n t) ≡ length t
 cleared-length n t h = length-append (replicate n (pos 0)) (drop n t) ∙ omega (arith, length-replicate n (pos 0), length-drop n t)
 
-pub cleared-filled : (w : ℕ) (f : Weights) (t : List ℤ) → w * w ≤ length t → ((a b : ℕ) → f a b ≡ pos 0) → Filled w f t (cleared (w * w) t)
+pub cleared-filled : (w : ℕ) (f : Weights) (t : List ℤ) → w * w ≤ length t → ((a b : ℕ) → f a b ≡ pos 0) → TableFilled w f t (cleared (w * w) t)
 cleared-filled w f t room none =
     record {
       long = cleared-length (w * w) t room;
@@ -115,5 +115,5 @@ cleared-filled w f t room none =
     }
 
 -- filled where it had been filled
-pub filled-over : (w : ℕ) (f g : Weights) (t₀ t u : List ℤ) → Filled w f t₀ t → Filled w g t u → Filled w g t₀ u
+pub filled-over : (w : ℕ) (f g : Weights) (t₀ t u : List ℤ) → TableFilled w f t₀ t → TableFilled w g t u → TableFilled w g t₀ u
 filled-over w f g t₀ t u h k = record { long = k .long ∙ h .long; at = k .at; past = k .past ∙ h .past }

@@ -1,0 +1,330 @@
+-- Seating by deadline succeeds on every problem.
+-- Key idea: while slot s is filled and k units have seats, the free units that close by slot b number at most z b - k, for every b. A seat for the unit that
+-- closes first keeps this: if it closes by b, one free unit fewer does; if it closes after b, every open unit that closes by b is seated already, and the
+-- others' windows lie inside the slots s+1 to b. At b = s nobody is late. And the windows that open after s leave a free unit open while slot s has seats.
+use mathlib.Core.Path.{_≡_, refl, sym, ap, _∙_, subst}
+use mathlib.Core.Logic.{inl, inr, ⊎-elim, _≢_}
+use mathlib.Core.Bool.{Bool, true, false, _&&_, cond}
+use mathlib.Core.List.{List, []}
+use Prim.Native.Nat.{ℕ, zero, suc, _+_, _-_, _≤_, _<_}
+use native.Mathlib.Omega.{arith}
+use native.Mathlib.Nat.{eq-or-lt-of-le}
+use native.Mathlib.Decide.{ℕ-discrete, decLe}
+use lib.Dec.{T, ltb, leb, eqb, leb→le, le→leb, ltb→lt, lt→ltb, eqb→eq, eqb-refl}
+use lib.ListN.{length, set, replicate, drop, drop-of-length-le, length-set, length-replicate, getD-replicate}
+use lib.Seq.{getD-set-same, getD-set-other, drop-cons}
+use Rattle.lists.specs.Members.{both, left, right}
+use Rattle.lists.specs.Counts.{count, count-le, count-or, count-lt, count-suc, count-find, count-none, count-all, count-empty}
+use Rattle.plans.specs.Seating.{at, Before, InOrder, freeOpen, seatSlot, seatSlots, inside, seatedBy, Problem, Complete, byRank, seatsOf}
+use Rattle.plans.specs.OrderLaws.{before-apart, byRank-inOrder}
+
+-- ---- the tests, read and made
+abbrev free : (ℕ → ℕ) → ℕ → Bool
+free x j = eqb (x j) 0
+
+abbrev freeDue : (ℕ → ℕ) → (ℕ → ℕ) → ℕ → ℕ → Bool
+freeDue x last b j = eqb (x j) 0 && leb (last j) b
+
+is-free : {m : ℕ} → m ≡ 0 → T (eqb m 0)
+is-free e = subst (λ (y : ℕ). T (eqb y 0)) (sym e) (eqb-refl 0)
+
+free-le : (x y b : ℕ) → T (eqb x 0 && leb y b) → (x ≡ 0) × (y ≤ b)
+free-le x y b t = (eqb→eq x 0 (left (eqb x 0) (leb y b) t), leb→le y b (right (eqb x 0) (leb y b) t))
+
+le-free : (x y b : ℕ) → x ≡ 0 → y ≤ b → T (eqb x 0 && leb y b)
+le-free x y b e h = both (eqb x 0) (leb y b) (is-free e) (le→leb y b h)
+
+in-inside : (f l a b : ℕ) → a < f → l ≤ b → T (ltb a f && leb l b)
+in-inside f l a b h k = both (ltb a f) (leb l b) (lt→ltb a f h) (le→leb l b k)
+
+taken : (x b : ℕ) → T (ltb 0 x && leb x b) → (0 < x) × (x ≤ b)
+taken x b t = (ltb→lt 0 x (left (ltb 0 x) (leb x b) t), leb→le x b (right (ltb 0 x) (leb x b) t))
+
+-- ---- the invariant: slot s is being filled, and k units have seats
+record SeatsSoFar (n top : ℕ) (first last z x : ℕ → ℕ) (k s : ℕ) : Type 0 where
+  due : (b : ℕ) → b ≤ top → count n (freeDue x last b) ≤ z b - k
+  unseated : n ≤ count n (free x) + k
+  seated : (j : ℕ) → j < n → 0 < x j → (first j ≤ x j) × (x j ≤ last j) × (x j ≤ s)
+  placed : (b : ℕ) → b < s → count n (seatedBy x b) ≡ z b
+  here : count n (seatedBy x s) ≡ k
+  fairFree : (i j : ℕ) → i < n → j < n → 0 < x i → x j ≡ 0 → first j ≤ x i → Before last i j
+  fairLate : (i j : ℕ) → i < n → j < n → 0 < x i → x i < x j → first j ≤ x i → Before last i j
+
+module _ (n top : ℕ) (first last z : ℕ → ℕ) (P : Problem n top first last z) where
+  start : (x : ℕ → ℕ) → ((j : ℕ) → j < n → x j ≡ 0) → SeatsSoFar n top first last z x 0 1
+  start x e = record {
+    due = λ b hb. omega (
+      arith,
+      P .room 0 b (omega arith) hb,
+      count-le n (freeDue x last b) (inside first last 0 b)
+          (λ j h t. in-inside (first j) (last j) 0 b (P .window j h .0) (free-le (x j) (last j) b t .1)),
+    );
+    unseated = omega (arith, count-all n (free x) (λ j h. is-free (e j h)));
+    seated = λ j h l. absurd (omega (arith, e j h));
+    placed = λ b hb. let w : b ≡ 0 = omega arith in rw w (omega (arith, none 0, P .starts));
+    here = omega (arith, none 1);
+    fairFree = λ i j hi hj l. absurd (omega (arith, e i hi));
+    fairLate = λ i j hi hj l. absurd (omega (arith, e i hi));
+  }
+    where
+      none : (b : ℕ) → count n (seatedBy x b) ≤ 0
+      none b = count-empty n (seatedBy x b) (λ j h t. omega (arith, taken (x j) b t .0, e j h))
+
+  -- ---- a full slot is left for the next one
+  advance : (x : ℕ → ℕ) (s : ℕ) → SeatsSoFar n top first last z x (z s) s → SeatsSoFar n top first last z x (z s) (suc s)
+  advance x s S = record {
+    due = S .due;
+    unseated = S .unseated;
+    seated = λ j h l. let p = S .seated j h l in (p .0, p .1, omega arith);
+    placed = λ b hb. elim (decLe b s) [
+      | yes l ↦ ⊎-elim (λ (q : b ≡ s). rw q (S .here)) (λ g. S .placed b g) (eq-or-lt-of-le l)
+      | no c ↦ absurd (omega arith)
+    ];
+    here = omega (
+      arith,
+      S .here,
+      count-le n (seatedBy x s) (seatedBy x (suc s)) (λ j h t. let p = taken (x j) s t in in-inside (x j) (x j) 0 (suc s) (p .0) (omega arith)),
+      count-le n (seatedBy x (suc s)) (seatedBy x s) (λ j h t. let p = taken (x j) (suc s) t in in-inside (x j) (x j) 0 s (p .0) (S .seated j h (p .0) .2)),
+    );
+    fairFree = S .fairFree;
+    fairLate = S .fairLate;
+  }
+
+  -- ---- one seat
+  module _ (x : ℕ → ℕ) (k s : ℕ) (S : SeatsSoFar n top first last z x k s) (hs : 1 ≤ s) (ht : s ≤ top) (more : k < z s) (before : z (s - 1) ≤ k) where
+    -- while slot s has seats left, a free unit is open
+    some-open : (j : ℕ) × (j < n) × (x j ≡ 0) × (first j ≤ s)
+    some-open =
+        let c = count-or n (free x) (freeOpen x first s) (inside first last s top) (λ j h t. elim (decLe (first j) s) [
+          | yes l ↦ inl (le-free (x j) (first j) s (eqb→eq (x j) 0 t) l)
+          | no g ↦ inr (in-inside (first j) (last j) s top (omega arith) (P .window j h .2))
+        ]) in
+        let f = count-find n (freeOpen x first s) (omega (arith, c, S .unseated, P .total, P .room s top ht (omega arith), P .rising s top ht (omega arith))) in
+        let p = free-le (x (f .0)) (first (f .0)) s (f .2) in
+        (f .0, f .1, p .0, p .1)
+
+    module _ (j : ℕ) (hj : j < n) (fj : x j ≡ 0) (oj : first j ≤ s) (best : (i : ℕ) → i < n → i ≢ j → x i ≡ 0 → first i ≤ s → Before last j i)
+        (x′ : ℕ → ℕ) (now : x′ j ≡ s) (else : (i : ℕ) → i ≢ j → x′ i ≡ x i) where
+      not-j : (i : ℕ) → x′ i ≢ s → i ≢ j
+      not-j i ne q = ne (ap x′ q ∙ now)
+
+      still : (i : ℕ) → x′ i ≡ 0 → (i ≢ j) × (x i ≡ 0)
+      still i e = let ne = not-j i (omega arith) in (ne, sym (else i ne) ∙ e)
+
+      closes-first : (i : ℕ) → i < n → x i ≡ 0 → first i ≤ s → last j ≤ last i
+      closes-first i hi e o = elim (ℕ-discrete i j) [ yes q ↦ rw q (omega arith) | no ne ↦ best i hi ne e o .closes ]
+
+      in-time : s ≤ last j
+      in-time = elim (decLe s (last j)) [
+        | yes l ↦ l
+        | no g ↦ absurd (count-none n (freeDue x last (last j))
+            (omega (arith, S .due (last j) (P .window j hj .2), before, P .rising (last j) (s - 1) (omega arith) (omega arith)))
+            j hj (le-free (x j) (last j) (last j) fj (omega arith)))
+      ]
+
+      due-after : (b : ℕ) → b ≤ top → count n (freeDue x′ last b) ≤ z b - suc k
+      due-after b hb = elim (decLe (last j) b) [
+        | yes l ↦ omega (
+          arith,
+          S .due b hb,
+          count-lt n (freeDue x′ last b) (freeDue x last b) j hj (le-free (x j) (last j) b fj l)
+              (λ t. let p = free-le (x′ j) (last j) b t in omega arith)
+              (λ i h t. let p = free-le (x′ i) (last i) b t in le-free (x i) (last i) b (still i (p .0) .1) (p .1)),
+        )
+        | no g ↦ omega (
+          arith,
+          P .room s b ht hb,
+          count-le n (freeDue x′ last b) (inside first last s b)
+              (λ i h t. let p = free-le (x′ i) (last i) b t in elim (decLe (first i) s) [
+                | yes o ↦ absurd (omega (arith, closes-first i h (still i (p .0) .1) o))
+                | no c ↦ in-inside (first i) (last i) s b (omega arith) (p .1)
+              ]),
+        )
+      ]
+
+      seated-after : (i : ℕ) → i < n → 0 < x′ i → (first i ≤ x′ i) × (x′ i ≤ last i) × (x′ i ≤ s)
+      seated-after i h l = elim (ℕ-discrete i j) [
+        | yes e ↦ rw e (omega (arith, in-time))
+        | no ne ↦ rw (else i ne) (S .seated i h (omega (arith, else i ne)))
+      ]
+
+      same-by : (b : ℕ) → b < s → count n (seatedBy x′ b) ≡ count n (seatedBy x b)
+      same-by b hb = omega (
+        arith,
+        count-le n (seatedBy x′ b) (seatedBy x b)
+            (λ i h t. let p = taken (x′ i) b t in let w = else i (not-j i (omega arith)) in in-inside (x i) (x i) 0 b (omega arith) (omega arith)),
+        count-le n (seatedBy x b) (seatedBy x′ b)
+            (λ i h t. let p = taken (x i) b t in let w = else i (λ q. let r = ap x q in omega arith) in in-inside (x′ i) (x′ i) 0 b (omega arith) (omega arith)),
+      )
+
+      one-more : count n (seatedBy x′ s) ≡ suc (count n (seatedBy x s))
+      one-more = omega (
+        arith,
+        count-lt n (seatedBy x s) (seatedBy x′ s) j hj (in-inside (x′ j) (x′ j) 0 s (omega arith) (omega arith)) (λ t. let p = taken (x j) s t in omega arith)
+            (λ i h t. let p = taken (x i) s t in let w = else i (λ q. let r = ap x q in omega arith) in in-inside (x′ i) (x′ i) 0 s (omega arith) (omega arith)),
+        count-suc n (seatedBy x s) (seatedBy x′ s) j
+            (λ i h ne t. let p = taken (x′ i) s t in let w = else i ne in in-inside (x i) (x i) 0 s (omega arith) (omega arith)),
+      )
+
+      fair-free : (i m : ℕ) → i < n → m < n → 0 < x′ i → x′ m ≡ 0 → first m ≤ x′ i → Before last i m
+      fair-free i m hi hm l e o =
+          let nm = not-j m (omega arith) in
+          let w = else m nm in
+          elim (ℕ-discrete i j) [
+            | yes q ↦ let a = ap x′ q in rw q (best m hm nm (omega arith) (omega arith))
+            | no ne ↦ let a = else i ne in S .fairFree i m hi hm (omega arith) (omega arith) (omega arith)
+          ]
+
+      fair-late : (i m : ℕ) → i < n → m < n → 0 < x′ i → x′ i < x′ m → first m ≤ x′ i → Before last i m
+      fair-late i m hi hm l lt o = elim (ℕ-discrete m j) [
+        | yes q ↦
+            let a = ap x′ q in
+            let b = ap x q in
+            let w = else i (not-j i (omega arith)) in
+            S .fairFree i m hi hm (omega arith) (omega arith) (omega arith)
+        | no ne ↦
+            let w = else m ne in
+            let c = S .seated m hm (omega arith) in
+            let v = else i (not-j i (omega arith)) in
+            S .fairLate i m hi hm (omega arith) (omega arith) (omega arith)
+      ]
+
+      seat-best : SeatsSoFar n top first last z x′ (suc k) s
+      seat-best = record {
+        due = due-after;
+        unseated = omega (arith, S .unseated, count-suc n (free x′) (free x) j (λ i h ne t. is-free (else i ne ∙ eqb→eq (x i) 0 t)));
+        seated = seated-after;
+        placed = λ b hb. same-by b hb ∙ S .placed b hb;
+        here = one-more ∙ ap suc (S .here);
+        fairFree = fair-free;
+        fairLate = fair-late;
+      }
+
+  -- once the last slot is full, every unit has a seat
+  finish : (x : ℕ → ℕ) → SeatsSoFar n top first last z x (z top) (suc top) → Complete n top first last z x
+  finish x S = record {
+    seated = in-window;
+    counts = λ b hb. S .placed b (omega arith);
+    fair = λ i j hi hj. S .fairLate i j hi hj (omega (arith, P .window i hi, in-window i hi));
+  }
+    where
+      in-window : (j : ℕ) → j < n → (first j ≤ x j) × (x j ≤ last j)
+      in-window j h = elim (ℕ-discrete (x j) 0) [
+        | yes e ↦ absurd (count-none n (freeDue x last top) (omega (arith, S .due top (omega arith))) j h (le-free (x j) (last j) top e (P .window j h .2)))
+        | no ne ↦ let p = S .seated j h (omega arith) in (p .0, p .1)
+      ]
+
+  -- ---- a slot, place after place of the order
+  module _ (order : List ℕ) (O : InOrder n last order) where
+    abbrev PlanSoFar : ℕ → ℕ → List ℕ → Type 0
+    PlanSoFar k s plan = (length plan ≡ n) × SeatsSoFar n top first last z (at plan) k s
+
+    apart : (p q : ℕ) → p < q → q < n → at order p ≢ at order q
+    apart p q h hq = before-apart last (at order p) (at order q) (O .sorted p q h hq)
+
+    module _ (s : ℕ) (hs : 1 ≤ s) (ht : s ≤ top) where
+      -- no unit in the first p places of the order is free and open
+      abbrev Passed : ℕ → List ℕ → Type 0
+      Passed p plan = (q : ℕ) → q < p → T (freeOpen (at plan) first s (at order q)) → ⊥
+
+      passed-suc : (p : ℕ) (plan : List ℕ) → Passed p plan → (T (freeOpen (at plan) first s (at order p)) → ⊥) → Passed (suc p) plan
+      passed-suc p plan f g q hq = ⊎-elim (λ (e : q ≡ p). rw e g) (λ l. f q l) (eq-or-lt-of-le (omega arith))
+
+      module _ (p k : ℕ) (hp : p < n) (plan : List ℕ) (F : PlanSoFar k s plan) (f : Passed p plan) (o : T (freeOpen (at plan) first s (at order p))) where
+        abbrev seated-plan : List ℕ
+        seated-plan = set plan (at order p) s
+
+        here-now : at seated-plan (at order p) ≡ s
+        here-now = getD-set-same plan (at order p) s 0 (omega (arith, F .0, O .units p hp))
+
+        else-same : (i : ℕ) → i ≢ at order p → at seated-plan i ≡ at plan i
+        else-same i ne = getD-set-other plan (at order p) i s 0 ne
+
+        passed-seat : Passed (suc p) seated-plan
+        passed-seat = passed-suc p seated-plan
+            (λ q hq t.
+            let w = else-same (at order q) (apart q p hq hp) in
+            let r = free-le (at seated-plan (at order q)) (first (at order q)) s t in
+            f q hq (le-free (at plan (at order q)) (first (at order q)) s (sym w ∙ r .0) (r .1)))
+            (λ t. let r = free-le (at seated-plan (at order p)) (first (at order p)) s t in omega (arith, here-now))
+
+        best : (i : ℕ) → i < n → i ≢ at order p → at plan i ≡ 0 → first i ≤ s → Before last (at order p) i
+        best i hi ne e l =
+            let a = O .all i hi in
+            let after : p < a .0 = elim (decLe (a .0) p) [
+              | no g ↦ omega arith
+              | yes g ↦ ⊎-elim (λ (q : a .0 ≡ p). absurd (ne (sym (a .2) ∙ ap (at order) q)))
+                  (λ g. absurd (f (a .0) g (rw (a .2) (le-free (at plan i) (first i) s e l)))) (eq-or-lt-of-le g)
+            ] in
+            rw (sym (a .2)) (O .sorted p (a .0) after (a .1))
+
+        seat-filled : k < z s → z (s - 1) ≤ k → PlanSoFar (suc k) s seated-plan
+        seat-filled more before = let r = free-le (at plan (at order p)) (first (at order p)) s o in (
+          size,
+          seat-best (at plan) k s (F .1) hs ht more before (at order p) (O .units p hp) (r .0) (r .1) best (at seated-plan) here-now else-same,
+        )
+          where
+            size : length seated-plan ≡ n
+            size = length-set plan (at order p) s ∙ F .0
+
+      none-left : (k : ℕ) (plan : List ℕ) → PlanSoFar k s plan → z (s - 1) ≤ k → k ≤ z s → Passed n plan → k ≡ z s
+      none-left k plan F before le f = elim (decLe (z s) k) [
+        | yes l ↦ omega arith
+        | no g ↦
+            let j = some-open (at plan) k s (F .1) hs ht (omega arith) before in
+            let a = O .all (j .0) (j .1) in
+            absurd (f (a .0) (a .1) (rw (a .2) (le-free (at plan (j .0)) (first (j .0)) s (j .2) (j .3))))
+      ]
+
+      -- r seats are left, and m places of the order
+      slot-filled : (m p k r : ℕ) (plan : List ℕ) → p + m ≡ n → k + r ≡ z s → z (s - 1) ≤ k → Passed p plan → PlanSoFar k s plan
+          → PlanSoFar (z s) s (seatSlot first s (drop p order) r plan)
+      unfolding seatSlot
+      slot-filled zero p k r plan e c before f F =
+          let none : drop p order ≡ [] = drop-of-length-le order {i = p} (omega (arith, O .size)) in
+          let q : p ≡ n = omega arith in
+          let full = none-left k plan F before (omega arith) (rw (sym q) f) in
+          rw none (rw (sym full) F)
+      slot-filled (suc m) p k zero plan e c before f F =
+          let full : k ≡ z s = omega arith in
+          rw (drop-cons order p 0 (omega (arith, O .size))) (rw (sym full) F)
+      slot-filled (suc m) p k (suc r) plan e c before f F =
+          let u = at order p in
+          rw (drop-cons order p 0 (omega (arith, O .size))) (go (freeOpen (at plan) first s u) refl (slot-filled m (suc p)))
+        where
+          go : (t : Bool) → freeOpen (at plan) first s (at order p) ≡ t
+              → ((k r : ℕ) (plan : List ℕ) → suc p + m ≡ n → k + r ≡ z s → z (s - 1) ≤ k → Passed (suc p) plan → PlanSoFar k s plan
+              → PlanSoFar (z s) s (seatSlot first s (drop (suc p) order) r plan))
+              → PlanSoFar (z s) s (cond t (seatSlot first s (drop (suc p) order) r (set plan (at order p) s))
+              (seatSlot first s (drop (suc p) order) (suc r) plan))
+          go true q ih =
+              let o : T (freeOpen (at plan) first s (at order p)) = subst T (sym q) tt in
+              ih (suc k) r (set plan (at order p) s) (omega arith) (omega arith) (omega arith) (passed-seat p k (omega arith) plan F f o)
+              (seat-filled p k (omega arith) plan F f o (omega arith) before)
+          go false q ih = ih k (suc r) plan (omega arith) c before (passed-suc p plan f (λ t. subst T q t)) F
+
+    -- ---- slot after slot
+    slots-filled : (m b : ℕ) (plan : List ℕ) → b + m ≡ top → PlanSoFar (z b) (suc b) plan → PlanSoFar (z top) (suc top) (seatSlots first z order b m plan)
+    unfolding seatSlots
+    slots-filled zero b plan e F = let q : b ≡ top = omega arith in subst (λ (t : ℕ). PlanSoFar (z t) (suc t) plan) q F
+    slots-filled (suc m) b plan e F =
+        let same = ap z (let p : suc b - 1 ≡ b = omega arith in p) in
+        let full = slot-filled (suc b) (omega arith) (omega arith) n 0 (z b) (z (suc b) - z b) plan (omega arith)
+        (omega (arith, P .rising b (suc b) (omega arith) (omega arith))) (omega arith) (λ q hq. absurd (omega arith)) F in
+        let next = seatSlot first (suc b) order (z (suc b) - z b) plan in
+        slots-filled m (suc b) next (omega arith) (full .0, advance (at next) (suc b) (full .1))
+
+    all-filled : PlanSoFar (z top) (suc top) (seatSlots first z order 0 top (replicate n 0))
+    all-filled = slots-filled top 0 (replicate n 0) (omega arith)
+        (length-replicate n 0, rw (P .starts) (start (at (replicate n 0)) (λ j h. getD-replicate n j 0 0 h)))
+
+  in-order : InOrder n last (byRank last n n (replicate n 0))
+  in-order = byRank-inOrder last n (replicate n 0) (length-replicate n 0)
+
+  pub seats-size : length (seatsOf n top first last z) ≡ n
+  unfolding seatsOf
+  seats-size = all-filled (byRank last n n (replicate n 0)) in-order .0
+
+  pub seats-complete : Complete n top first last z (at (seatsOf n top first last z))
+  unfolding seatsOf
+  seats-complete = finish (at (seatsOf n top first last z)) (all-filled (byRank last n n (replicate n 0)) in-order .1)

@@ -1,0 +1,1 @@
+// Plans of a sheet: definitions and laws only.
