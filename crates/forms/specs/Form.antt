@@ -1,5 +1,5 @@
 -- The forms of a line, by concatenation of words and numbers. A line is the list of its bytes, without the line feed.
--- Definitions only, with no grid and no reading states: document 01, "The sheet and the answer page", and questions 2 to 4.
+-- Definitions only, with no grid and no reading states: docs/RULES.md, "Sheets and answers", and questions 2 to 4.
 use Prim.Native.Nat.{ℕ, _+_, _-_, _*_}
 use mathlib.Core.Bool.{Bool, true, false, _&&_, _||_, not, cond}
 use mathlib.Core.List.{List, [], _∷_, _++_}
@@ -43,7 +43,7 @@ valueFrom v (b ∷ l) = valueFrom (v * 10 + (b - zeroDigit)) l
 abbrev pub value : List ℕ → ℕ
 value digits = valueFrom 0 digits
 
-abbrev pub maxDigits : ℕ
+abbrev maxDigits : ℕ
 maxDigits = 4
 
 -- question 4: at most four digits and no needless leading zero

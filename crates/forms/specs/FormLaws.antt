@@ -1,31 +1,19 @@
 -- What `matches` and `numbers` mean: a line is of a form just when it is the form written out with some numbers, and these are its numbers.
 -- Key idea: form and line are read together from the left. A word is cut off by its length. A number is cut off by its digits, and ends where the
 -- next word begins, since in no form a digit follows a number.
-use Prim.Native.Nat.{ℕ, suc, _≤_}
-use mathlib.Core.Path.{_≡_, refl, sym, ap, ap₂, subst, _∙_}
+use Prim.Native.Nat.{ℕ}
+use mathlib.Core.Path.{_≡_, refl, ap, ap₂, _∙_}
 use mathlib.Core.Bool.{Bool, true, false, _&&_, not, cond}
 use mathlib.Core.List.{List, [], _∷_, _++_}
-use native.Mathlib.Omega.{arith}
 use lib.ListN.{length, drop}
 use lib.Seq.{drop-append-seam}
-use lib.Dec.{T, eqb}
+use lib.Dec.{eqb}
 use borrow.Author.Tests.{eqb-true, eq-eqb, not-true}
+use Rattle.lists.specs.Lists.{every}
+use Rattle.lists.specs.Members.{false-not-true, and-left, and-right}
 use Rattle.forms.specs.Words.{text}
 use Rattle.forms.specs.Form.{isDigit, some, leading, past, Piece, word, number, startsWith, matches, numbers, written}
 use Rattle.forms.specs.Forms.{sheetForm, unitForm, ruleForm}
-
--- ---- tests
-
-pub false-not-true : {A : Type 0} → false ≡ true → A
-false-not-true h = absurd (subst T (sym h) tt)
-
-pub and-left : (a b : Bool) → (a && b) ≡ true → a ≡ true
-and-left true b h = refl
-and-left false b h = h
-
-pub and-right : (a b : Bool) → (a && b) ≡ true → b ≡ true
-and-right true b h = h
-and-right false b h = false-not-true h
 
 -- ---- digits
 
@@ -60,15 +48,6 @@ past-drop (b ∷ l) = go (isDigit b) (past-drop l)
     go : (d : Bool) → past l ≡ drop (length (leading l)) l → cond d (past l) (b ∷ l) ≡ drop (length (cond d (b ∷ leading l) [])) (b ∷ l)
     go true e = e
     go false e = refl
-
-pub leading-short : (l : List ℕ) → length (leading l) ≤ length l
-unfolding leading
-leading-short [] = omega arith
-leading-short (b ∷ l) = go (isDigit b) (leading-short l)
-  where
-    go : (d : Bool) → length (leading l) ≤ length l → length (cond d (b ∷ leading l) []) ≤ suc (length l)
-    go true h = omega arith
-    go false h = omega arith
 
 -- ---- a line of a form is the form written out with its numbers
 
@@ -178,14 +157,7 @@ written-matches (number ∷ f) (n ∷ ns) h s =
     let r = written-matches f ns (separated-tail f h) (s .1) in
     record { matched = rw (a, b) (rw (s .0 .not-empty) (r .matched)); found = rw (a, b) (ap (λ (ms : List (List ℕ)). n ∷ ms) (r .found)) }
 
-pub sheet-separated : separated sheetForm ≡ true
+-- so it is of the lines of a sheet
+pub sheet-separated : every separated (sheetForm ∷ unitForm ∷ ruleForm ∷ []) ≡ true
 unfolding text
 sheet-separated = refl
-
-pub unit-separated : separated unitForm ≡ true
-unfolding text
-unit-separated = refl
-
-pub rule-separated : separated ruleForm ≡ true
-unfolding text
-rule-separated = refl

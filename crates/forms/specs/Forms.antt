@@ -1,5 +1,5 @@
--- The forms of all lines, those of a sheet and those of a page: words as shown, and a place for each number. Reading and printing both take them from here. A form is
--- changed in its one line; for a line of a sheet `scripts/grid_tables.py` then makes the form reader's tables anew.
+-- The forms of all lines, those of a sheet and those of a page: words as shown, and a place for each number. Reading and printing both take them
+-- from here. A form is changed in its one line; for a line of a sheet `scripts/grid_tables.py` then makes the form reader's constants anew.
 use mathlib.Core.List.{List, [], _∷_}
 use Rattle.forms.specs.Words.{text}
 use Rattle.forms.specs.Form.{Piece, word, number}

@@ -1,2 +1,2 @@
 pub mod SpreadLaws
-pub mod AnswerLaws
+pub mod ReadingLaws

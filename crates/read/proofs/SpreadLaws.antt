@@ -9,11 +9,10 @@ use native.Mathlib.Numerals.{add-one}
 use native.Mathlib.Nat.{zero-add, sub-zero, suc-mul, add-comm}
 use lib.ListN.{length, getD, drop, set, length-set, List·getD-append}
 use lib.Seq.{sets, sets-eq, getD-drop, drop-append-seam}
-use Rattle.lists.specs.Lists.{joined}
+use Rattle.lists.specs.Lists.{joined, onFront}
 use Rattle.read_ask.specs.Reading.{rooms}
-use Rattle.read.specs.Rooms.{onto}
 use Rattle.read.specs.Spread.{strided, Reach}
-use Rattle.read_ask.specs.PassLaws.{stream-length}
+use Rattle.read_ask.specs.SpanLaws.{stream-length}
 
 strided-length : (n k j : ℕ) (xs : List ℕ) → length (strided n k j xs) ≡ n
 unfolding strided
@@ -58,7 +57,7 @@ module _ (source : List ℕ) (n k start : ℕ) (room₀ room : List ℕ) (from i
         size = length-set room i (getD source from 0) ∙ s .size;
       }
 
-  pub spreading-end : n ≤ i → n ≤ length room₀ → room ≡ onto (strided n k start source) room₀
+  pub spreading-end : n ≤ i → n ≤ length room₀ → room ≡ onFront (strided n k start source) room₀
   unfolding strided
   spreading-end h fits =
       let e : n - i ≡ 0 = omega arith in

@@ -2,9 +2,9 @@
 use Prim.Native.Nat.{ℕ, zero, suc, _+_, _*_, _≤_, _<_}
 use mathlib.Core.List.{List, [], _∷_}
 use lib.ListN.{getD}
+use Rattle.lists.specs.Lists.{onFront}
 use Rattle.sheet.specs.declared.Sheet.{Sheet}
-use Rattle.read_ask.specs.Reading.{Rooms, rooms}
-use Rattle.read.specs.Rooms.{onto}
+use Rattle.read_ask.specs.Reading.{ListRooms, rooms}
 
 -- ---- every k-th number of an array, n of them, from the place j on
 
@@ -18,14 +18,14 @@ Reach zero k j bound = Unit {0}
 Reach (suc n) k j bound = (j < bound) × Reach n k (j + k) bound
 
 -- the numbers of the two arrays in the rooms
-abbrev pub filled : Sheet → List ℕ → List ℕ → Rooms (List ℕ) → Rooms (List ℕ)
+abbrev pub filled : Sheet → List ℕ → List ℕ → ListRooms (List ℕ) → ListRooms (List ℕ)
 filled s units rules m =
-    rooms (onto (strided (s .units) 2 0 units) (m .first)) (onto (strided (s .units) 2 1 units) (m .last))
-    (onto (strided (s .rules) 4 0 rules) (m .from)) (onto (strided (s .rules) 4 1 rules) (m .to))
-    (onto (strided (s .rules) 4 2 rules) (m .low)) (onto (strided (s .rules) 4 3 rules) (m .high))
+    rooms (onFront (strided (s .units) 2 0 units) (m .first)) (onFront (strided (s .units) 2 1 units) (m .last))
+    (onFront (strided (s .rules) 4 0 rules) (m .from)) (onFront (strided (s .rules) 4 1 rules) (m .to))
+    (onFront (strided (s .rules) 4 2 rules) (m .low)) (onFront (strided (s .rules) 4 3 rules) (m .high))
 
 -- the two arrays hold so many units and rules, and so do the rooms
-pub record Filling (s : Sheet) (units rules : ℕ) (sizes : Rooms ℕ) : Type 0 where
+pub record Filling (s : Sheet) (units rules : ℕ) (sizes : ListRooms ℕ) : Type 0 where
   pub in-units : s .units * 2 ≤ units
   pub in-rules : s .rules * 4 ≤ rules
   pub in-first : s .units ≤ sizes .first

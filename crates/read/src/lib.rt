@@ -1,11 +1,14 @@
 ghost use mathlib.Core.Path.{_≡_};
+ghost use mathlib.Core.Bool.{_&&_};
 ghost use Prim.Native.Nat.{_≤_};
+ghost use lib.Dec.{leb};
 ghost use lib.ListN.{length};
-ghost use Rattle.read_ask.specs.Reading.{answerOf, reading, rooms, roomsFit};
-ghost use Rattle.read.specs.Rooms.{sizesOf, roomsAfter, onto};
+ghost use Rattle.lists.specs.Lists.{onFront};
+ghost use Rattle.read_ask.specs.Reading.{answerOf, reading, rooms, listsFit};
+ghost use Rattle.read.specs.Rooms.{sizesOf, roomsAfter};
 ghost use Rattle.read.specs.Spread.{strided, Reach, Filling, filled};
+use questions::Refusal;
 use read_ask::Reading;
-use read_ask::Refusal;
 use sheet::Sheet;
 
 // Two numbers a unit and four a rule are kept on the way.
@@ -16,7 +19,7 @@ const RULE_NUMBERS: usize = 4 * Sheet::MAX_RULES;
 // Every k-th number of an array, n of them from a place on, at the front of a room.
 fn spread(source: &[u16], n: usize, k: usize, start: usize, room: &mut [u16])
     requires { ⌜ Reach n k start (length (now source)) × (k ≤ 4) × (n ≤ length (now room)) ⌝ }
-    ensures { λ _. ⌜ now (room .exit) ≡ onto (strided n k start (now (source .entry))) (now (room .entry)) ⌝ }
+    ensures { λ _. ⌜ now (room .exit) ≡ onFront (strided n k start (now (source .entry))) (now (room .entry)) ⌝ }
 {
     let mut from = start;
     let mut i: usize = 0;
@@ -27,8 +30,17 @@ fn spread(source: &[u16], n: usize, k: usize, start: usize, room: &mut [u16])
     }
 }
 
+fn both_hold(n: usize, a: usize, b: usize) -> bool
+    ensures { λ r. ⌜ r ≡ (leb n a && leb n b) ⌝ }
+{
+    if a < n {
+        return false;
+    }
+    n <= b
+}
+
 // Question 12.
-fn rooms_fit(
+fn lists_fit(
     s: Sheet,
     first: usize,
     last: usize,
@@ -37,24 +49,15 @@ fn rooms_fit(
     low: usize,
     high: usize,
 ) -> bool
-    ensures { λ r. ⌜ r ≡ roomsFit (s .units) (s .rules) (rooms first last from to low high) ⌝ }
+    ensures { λ r. ⌜ r ≡ listsFit (s .units) (s .rules) (rooms first last from to low high) ⌝ }
 {
-    if first < s.units {
+    if !both_hold(s.units, first, last) {
         return false;
     }
-    if last < s.units {
+    if !both_hold(s.rules, from, to) {
         return false;
     }
-    if from < s.rules {
-        return false;
-    }
-    if to < s.rules {
-        return false;
-    }
-    if low < s.rules {
-        return false;
-    }
-    s.rules <= high
+    both_hold(s.rules, low, high)
 }
 
 // The numbers of the two arrays into the rooms, which are long enough.
@@ -107,11 +110,11 @@ pub fn read(
     }
     let mut units = [0u16; UNIT_NUMBERS];
     let mut rules = [0u16; RULE_NUMBERS];
-    let asked = read_ask::ask(text, &mut units, &mut rules);
+    let asked = read_ask::ask_text(text, &mut units, &mut rules);
     match asked {
         Reading::Refused(refusal) => Reading::Refused(refusal),
         Reading::Sheet(s) => {
-            if !rooms_fit(
+            if !lists_fit(
                 s,
                 first.len(),
                 last.len(),

@@ -3,7 +3,7 @@
 -- definition; the code's tests of it are the same, by cases on what the line is (`line-verdict`). So what is left to ask decides the whole (`Asking`).
 use Prim.Native.Nat.{ℕ, suc, _+_, _*_, _≤_, _<_}
 use mathlib.Core.Path.{_≡_, refl, sym, ap, ap₂, subst, _∙_}
-use mathlib.Core.Bool.{Bool, true, false, _&&_, _||_, not, cond, and-false, or-false, or-true, or-assoc}
+use mathlib.Core.Bool.{Bool, true, false, _&&_, not, cond, and-false, or-true, Bool·not-not}
 use mathlib.Core.List.{List, [], _∷_, _++_, map, append-nil, append-assoc}
 use native.Mathlib.Omega.{arith}
 use native.Mathlib.Numerals.{add-one}
@@ -12,51 +12,26 @@ use lib.ListN.{length, drop, set, length-append}
 use lib.Seq.{sets, length-sets}
 use lib.Dec.{eqb, leb, ltb}
 use borrow.Author.Tests.{eq-eqb, ne-eqb, le-leb, leb-true, ltb-true}
-use Rattle.lists.specs.Lists.{within, every, joined}
+use Rattle.lists.specs.Lists.{every, joined}
+use Rattle.questions.specs.Questions.{Question, ask, Verdict, no, allYes, firstNo}
+use Rattle.questions.specs.FirstNoLaws.{first-then}
 use Rattle.sheet.specs.Sizes.{maxSlots, maxUnits, maxRules}
+use Rattle.sheet.specs.Questions.{isSpan, isStretch, isCount}
 use Rattle.sheet.specs.declared.Sheet.{Sheet}
 use Rattle.forms.specs.Form.{printable, plain, value}
-use Rattle.forms.specs.FormLaws.{false-not-true, and-left}
+use Rattle.lists.specs.Members.{and-left}
 use Rattle.forms.specs.Lines.{TextLine, textLine, lines, firstLine, hasFeed}
 use Rattle.forms.specs.LinesLaws.{lineEnd, end-within, lines-at, lines-none}
 use Rattle.read_line.specs.Content.{Content, note, sheet, unit, rule, other, contentOf, bracketsMatch, numbersIn}
 use Rattle.read_line.specs.Line.{valuesOf, said, lineOf}
 use Rattle.read_line.specs.declared.Line.{Line}
 use Rattle.read_line.specs.declared.Line.the-variants as Line
-use Rattle.read_ask.specs.Reading.{contents, isSheet, hasSheet, spanElse, spanIn, windowOf, unitsIn, ruleOf, rulesIn, sheetIn, Question, ask, isForm}
-use Rattle.read_ask.specs.Reading.{inOrder, spanFits, isStretch, inSpan, isCount, countFits, questionsOf, lineQuestions, refused, read}
-use Rattle.read_ask.specs.Reading.{Verdict, no, allYes, firstNo, concluded}
-use Rattle.read_ask.specs.Steps.{sheetOf, stepOf, windowNumbers, ruleNumbers, unitStream, ruleStream, unitPart, rulePart, passQuestions}
-use Rattle.read_ask.specs.Steps.{passAnswer}
-use Rattle.read_ask.specs.PassLaws.{andThen, firstNo-append, stream-length}
+use Rattle.read_ask.specs.Reading.{contents, isSheet, hasSheet, spanElse, spanIn, windowOf, unitsIn, ruleOf, rulesIn, sheetIn, isForm}
+use Rattle.read_ask.specs.Reading.{inOrder, spanAllowed, inSpan, countFits, questionsOf, lineQuestions, passQuestions, refused, read, concluded}
+use Rattle.read_ask.specs.Steps.{counted, stepOf, windowNumbers, ruleNumbers, unitStream, ruleStream, unitPart, rulePart, passAnswer}
+use Rattle.read_ask.specs.SpanLaws.{joined-append, stream-length, hasSheet-more, hasSheet-same, spanIn-same, spanIn-first}
 use Rattle.read_ask.specs.declared.Step.{Step}
 use Rattle.read_ask.specs.declared.Step.the-variants.{No, On}
-
--- ---- one line more
-
-joined-append : {A B : Type 0} (f : A → List B) (xs ys : List A) → joined (map f (xs ++ ys)) ≡ joined (map f xs) ++ joined (map f ys)
-joined-append f [] ys = refl
-joined-append f (x ∷ xs) ys = rw (joined-append f xs ys) (sym (append-assoc (f x) (joined (map f xs)) (joined (map f ys))))
-
-hasSheet-more : (xs : List Content) (x : Content) → hasSheet (xs ++ (x ∷ [])) ≡ (hasSheet xs || isSheet x)
-unfolding hasSheet
-hasSheet-more [] x = or-false (isSheet x)
-hasSheet-more (y ∷ ys) x = ap (λ (b : Bool). isSheet y || b) (hasSheet-more ys x) ∙ sym (or-assoc (isSheet y) (hasSheet ys) (isSheet x))
-
--- a line that is no sheet form leaves the span, and the first sheet form gives it
-spanIn-same : (xs : List Content) (x : Content) → ((p : ℕ) → spanElse x p ≡ p) → spanIn (xs ++ (x ∷ [])) ≡ spanIn xs
-unfolding spanIn
-spanIn-same [] x h = h 0
-spanIn-same (y ∷ ys) x h = ap (spanElse y) (spanIn-same ys x h)
-
-spanIn-first : (xs : List Content) (p : List ℕ) → hasSheet xs ≡ false → spanIn (xs ++ (sheet p ∷ [])) ≡ value p
-unfolding spanIn hasSheet
-spanIn-first [] p h = refl
-spanIn-first (note ∷ ys) p h = spanIn-first ys p h
-spanIn-first (sheet q ∷ ys) p h = false-not-true (sym h)
-spanIn-first (unit f l ∷ ys) p h = spanIn-first ys p h
-spanIn-first (rule a b lo hi ∷ ys) p h = spanIn-first ys p h
-spanIn-first (other ∷ ys) p h = spanIn-first ys p h
 
 -- ---- what the code's numbers stand for
 
@@ -68,12 +43,12 @@ pub record Matches (s : Sheet) (before : List Content) : Type 0 where
   pub few-units : s .units ≤ maxUnits
   pub few-rules : s .rules ≤ maxRules
 
-pub matches-none : Matches (sheetOf 0 0 0) []
+matches-none : Matches (counted 0 0 0) []
 unfolding spanIn hasSheet unitsIn rulesIn
 matches-none = record { span = refl; sheeted = refl; units = refl; rules = refl; few-units = omega arith; few-rules = omega arith }
 
 -- a line that passed: the numbers with it, and what it adds to the arrays
-record Passed (m : Sheet) (before : List Content) (x : Content) (line : Line) : Type 0 where
+record Added (m : Sheet) (before : List Content) (x : Content) (line : Line) : Type 0 where
   counts : Matches m (before ++ (x ∷ []))
   units : unitPart line ≡ unitStream (unitsIn (x ∷ []))
   rules : rulePart line ≡ ruleStream (rulesIn (x ∷ []))
@@ -81,28 +56,18 @@ record Passed (m : Sheet) (before : List Content) (x : Content) (line : Line) : 
 -- what a step says of the questions, where w is what is left to ask
 abbrev Verdicts : Step → Line → List Content → Content → ℕ → Verdict → Verdict → Type 0
 Verdicts (No q) line before x n v w = v ≡ no q n
-Verdicts (On m) line before x n v w = (v ≡ w) × Passed m before x line
+Verdicts (On m) line before x n v w = (v ≡ w) × Added m before x line
 
 module _ (s : Sheet) (before : List Content) (c : Matches s before) where
   more-units : (x : Content) → length (unitsIn (before ++ (x ∷ []))) ≡ s .units + length (unitsIn (x ∷ []))
   unfolding unitsIn
-  more-units x = omega (
-    arith,
-    c .units,
-    ap length (joined-append windowOf before (x ∷ [])),
-    length-append (joined (map windowOf before))
-        (joined (map windowOf (x ∷ []))),
-  )
+  more-units x =
+      omega (arith, c .units, ap length (joined-append windowOf before (x ∷ [])), length-append (unitsIn before) (unitsIn (x ∷ [])))
 
   more-rules : (x : Content) → length (rulesIn (before ++ (x ∷ []))) ≡ s .rules + length (rulesIn (x ∷ []))
   unfolding rulesIn
-  more-rules x = omega (
-    arith,
-    c .rules,
-    ap length (joined-append ruleOf before (x ∷ [])),
-    length-append (joined (map ruleOf before))
-        (joined (map ruleOf (x ∷ []))),
-  )
+  more-rules x =
+      omega (arith, c .rules, ap length (joined-append ruleOf before (x ∷ [])), length-append (rulesIn before) (rulesIn (x ∷ [])))
 
   -- questions 9 and 10 of a line that adds no unit, or no rule
   nine : (x : Content) → length (unitsIn (x ∷ [])) ≡ 0 → leb (length (unitsIn (before ++ (x ∷ [])))) maxUnits ≡ true
@@ -120,19 +85,19 @@ module _ (s : Sheet) (before : List Content) (c : Matches s before) where
 
   -- the numbers with a line that is no sheet form
   matches-more : (x : Content) (u r : ℕ) → isSheet x ≡ false → ((p : ℕ) → spanElse x p ≡ p) → u ≡ s .units + length (unitsIn (x ∷ []))
-      → r ≡ s .rules + length (rulesIn (x ∷ [])) → u ≤ maxUnits → r ≤ maxRules → Matches (sheetOf (s .span) u r) (before ++ (x ∷ []))
+      → r ≡ s .rules + length (rulesIn (x ∷ [])) → u ≤ maxUnits → r ≤ maxRules → Matches (counted (s .span) u r) (before ++ (x ∷ []))
   matches-more x u r e h a b k l =
       record {
         span = c .span ∙ sym (spanIn-same before x h);
-        sheeted = hasSheet-more before x ∙ ap (λ (t : Bool). hasSheet before || t) e ∙ or-false (hasSheet before) ∙ c .sheeted;
+        sheeted = hasSheet-same before x e ∙ c .sheeted;
         units = a ∙ sym (more-units x);
         rules = b ∙ sym (more-rules x);
         few-units = k;
         few-rules = l;
       }
 
-  matches-sheet : (p : List ℕ) → eqb (s .span) 0 ≡ true → within 1 maxSlots (value p) ≡ true
-      → Matches (sheetOf (value p) (s .units) (s .rules)) (before ++ (sheet p ∷ []))
+  matches-sheet : (p : List ℕ) → eqb (s .span) 0 ≡ true → isSpan (value p) ≡ true
+      → Matches (counted (value p) (s .units) (s .rules)) (before ++ (sheet p ∷ []))
   unfolding unitsIn rulesIn
   matches-sheet p z h =
       let none : hasSheet before ≡ false = c .sheeted ∙ ap not z in
@@ -146,86 +111,64 @@ module _ (s : Sheet) (before : List Content) (c : Matches s before) where
         few-rules = c .few-rules;
       }
 
--- ---- the verdict on a line, by what it is: the code asks on the left what the definition asks on the right
+-- ---- the verdict on a line, by what it is: the code asks questions 5 to 10 by its own tests, which are those of the definition
 
 module _ (before : List Content) (n : ℕ) (w : Verdict) (m : Sheet) (x : Content) (line : Line) where
-  sheet-verdict : (z t₆ h g₉ g₁₀ : Bool) → h ≡ not z → g₉ ≡ true → g₁₀ ≡ true → (z ≡ true → t₆ ≡ true → Passed m before x line)
-      → Verdicts (cond z (cond t₆ (On m) (No 6)) (No 5)) line before x n
-      (cond (not h) (cond t₆ (cond g₉ (cond g₁₀ w (no 10 n)) (no 9 n)) (no 6 n)) (no 5 n)) w
-  sheet-verdict z t₆ h g₉ g₁₀ e₅ e₉ e₁₀ p = rw (e₅, e₉, e₁₀) (go z t₆ p)
+  same-verdict : (t₅ t₆ t₇ t₈ t₉ t₁₀ g₅ g₇ g₉ g₁₀ : Bool) → g₅ ≡ t₅ → g₇ ≡ t₇ → g₉ ≡ t₉ → g₁₀ ≡ t₁₀
+      → (t₅ ≡ true → t₆ ≡ true → t₉ ≡ true → t₁₀ ≡ true → Added m before x line)
+      → Verdicts (cond t₅ (cond t₆ (cond t₇ (cond t₈ (cond t₉ (cond t₁₀ (On m) (No 10)) (No 9)) (No 8)) (No 7)) (No 6)) (No 5)) line before x n
+      (cond g₅ (cond t₆ (cond g₇ (cond t₈ (cond g₉ (cond g₁₀ w (no 10 n)) (no 9 n)) (no 8 n)) (no 7 n)) (no 6 n)) (no 5 n)) w
+  same-verdict t₅ t₆ t₇ t₈ t₉ t₁₀ g₅ g₇ g₉ g₁₀ e₅ e₇ e₉ e₁₀ p = rw (e₅, e₇, e₉, e₁₀) (go t₅ t₆ t₇ t₈ t₉ t₁₀ p)
     where
-      go : (z t₆ : Bool) → (z ≡ true → t₆ ≡ true → Passed m before x line)
-          → Verdicts (cond z (cond t₆ (On m) (No 6)) (No 5)) line before x n (cond (not (not z)) (cond t₆ w (no 6 n)) (no 5 n)) w
-      go true true p = (refl, p refl refl)
-      go true false p = refl
-      go false t₆ p = refl
-
-  unit-verdict : (z t₇ t₉ h g₇ g₉ g₁₀ : Bool) → h ≡ not z → g₇ ≡ t₇ → g₉ ≡ t₉ → g₁₀ ≡ true → (t₉ ≡ true → Passed m before x line)
-      → Verdicts (cond z (No 5) (cond t₇ (cond t₉ (On m) (No 9)) (No 7))) line before x n
-      (cond h (cond g₇ (cond g₉ (cond g₁₀ w (no 10 n)) (no 9 n)) (no 7 n)) (no 5 n)) w
-  unit-verdict z t₇ t₉ h g₇ g₉ g₁₀ e₅ e₇ e₉ e₁₀ p = rw (e₅, e₇, e₉, e₁₀) (go z t₇ t₉ p)
-    where
-      go : (z t₇ t₉ : Bool) → (t₉ ≡ true → Passed m before x line)
-          → Verdicts (cond z (No 5) (cond t₇ (cond t₉ (On m) (No 9)) (No 7))) line before x n (cond (not z) (cond t₇ (cond t₉ w (no 9 n)) (no 7 n)) (no 5 n)) w
-      go true t₇ t₉ p = refl
-      go false false t₉ p = refl
-      go false true false p = refl
-      go false true true p = (refl, p refl)
-
-  rule-verdict : (z t₇ t₈ t₁₀ h g₇ g₉ g₁₀ : Bool) → h ≡ not z → g₇ ≡ t₇ → g₉ ≡ true → g₁₀ ≡ t₁₀ → (t₁₀ ≡ true → Passed m before x line)
-      → Verdicts (cond z (No 5) (cond t₇ (cond t₈ (cond t₁₀ (On m) (No 10)) (No 8)) (No 7))) line before x n
-      (cond h (cond g₇ (cond t₈ (cond g₉ (cond g₁₀ w (no 10 n)) (no 9 n)) (no 8 n)) (no 7 n)) (no 5 n)) w
-  rule-verdict z t₇ t₈ t₁₀ h g₇ g₉ g₁₀ e₅ e₇ e₉ e₁₀ p = rw (e₅, e₇, e₉, e₁₀) (go z t₇ t₈ t₁₀ p)
-    where
-      go : (z t₇ t₈ t₁₀ : Bool) → (t₁₀ ≡ true → Passed m before x line)
-          → Verdicts (cond z (No 5) (cond t₇ (cond t₈ (cond t₁₀ (On m) (No 10)) (No 8)) (No 7))) line before x n
-          (cond (not z) (cond t₇ (cond t₈ (cond t₁₀ w (no 10 n)) (no 8 n)) (no 7 n)) (no 5 n)) w
-      go true t₇ t₈ t₁₀ p = refl
-      go false false t₈ t₁₀ p = refl
-      go false true false t₁₀ p = refl
-      go false true true false p = refl
-      go false true true true p = (refl, p refl)
+      go : (t₅ t₆ t₇ t₈ t₉ t₁₀ : Bool) → (t₅ ≡ true → t₆ ≡ true → t₉ ≡ true → t₁₀ ≡ true → Added m before x line)
+          → Verdicts (cond t₅ (cond t₆ (cond t₇ (cond t₈ (cond t₉ (cond t₁₀ (On m) (No 10)) (No 9)) (No 8)) (No 7)) (No 6)) (No 5)) line before x n
+          (cond t₅ (cond t₆ (cond t₇ (cond t₈ (cond t₉ (cond t₁₀ w (no 10 n)) (no 9 n)) (no 8 n)) (no 7 n)) (no 6 n)) (no 5 n)) w
+      go false t₆ t₇ t₈ t₉ t₁₀ p = refl
+      go true false t₇ t₈ t₉ t₁₀ p = refl
+      go true true false t₈ t₉ t₁₀ p = refl
+      go true true true false t₉ t₁₀ p = refl
+      go true true true true false t₁₀ p = refl
+      go true true true true true false p = refl
+      go true true true true true true p = (refl, p refl refl refl refl)
 
 module _ (s : Sheet) (before : List Content) (c : Matches s before) (n : ℕ) (w : Verdict) where
   -- questions 5 to 10
   abbrev later : Content → Verdict
   later x =
-      cond (inOrder before x) (cond (spanFits x) (cond (inSpan (spanIn before) x) (cond (countFits x)
+      cond (inOrder before x) (cond (spanAllowed x) (cond (inSpan (spanIn before) x) (cond (countFits x)
       (cond (leb (length (unitsIn (before ++ (x ∷ [])))) maxUnits) (cond (leb (length (rulesIn (before ++ (x ∷ [])))) maxRules) w (no 10 n)) (no 9 n))
       (no 8 n)) (no 7 n)) (no 6 n)) (no 5 n)
 
   stretch-same : (f l : ℕ) → isStretch (spanIn before) f l ≡ isStretch (s .span) f l
   stretch-same f l = ap (λ (p : ℕ). isStretch p f l) (sym (c .span))
 
-  both-yes : (a b : Bool) (y z : Verdict) → a ≡ true → b ≡ true → cond a (cond b w y) z ≡ w
-  both-yes a b y z p q = rw (p, q) refl
-
   note-later : Verdicts (stepOf s Line.Note) Line.Note before note n (later note) w
   unfolding stepOf unitsIn rulesIn unitStream ruleStream
-  note-later = (
-    both-yes _ _ (no 10 n) (no 9 n) (nine s before c note refl) (ten s before c note refl),
-    record {
-      counts = matches-more s before c note (s .units) (s .rules) refl (λ p. refl) (sym (add-zero (s .units))) (sym (add-zero (s .rules))) (c .few-units)
-          (c .few-rules);
-      units = refl;
-      rules = refl;
-    },
-  )
+  note-later =
+      same-verdict before n w s note Line.Note true true true true true true true true _ _ refl refl
+      (nine s before c note refl) (ten s before c note refl)
+      (λ a b d e. record {
+        counts = matches-more s before c note (s .units) (s .rules) refl (λ p. refl) (sym (add-zero (s .units))) (sym (add-zero (s .rules))) (c .few-units)
+            (c .few-rules);
+        units = refl;
+        rules = refl;
+      })
 
   sheet-later : (p : List ℕ) → Verdicts (stepOf s (valuesOf (sheet p))) (valuesOf (sheet p)) before (sheet p) n (later (sheet p)) w
   unfolding stepOf unitsIn rulesIn unitStream ruleStream
   sheet-later p =
-      sheet-verdict before n w (sheetOf (value p) (s .units) (s .rules)) (sheet p) (valuesOf (sheet p)) (eqb (s .span) 0) (within 1 maxSlots (value p)) _ _ _
-      (c .sheeted) (nine s before c (sheet p) refl) (ten s before c (sheet p) refl)
-      (λ z t. record { counts = matches-sheet s before c p z t; units = refl; rules = refl })
+      same-verdict before n w (counted (value p) (s .units) (s .rules)) (sheet p) (valuesOf (sheet p))
+      (eqb (s .span) 0) (isSpan (value p)) true true true true _ true _ _
+      (ap not (c .sheeted) ∙ Bool·not-not (eqb (s .span) 0)) refl (nine s before c (sheet p) refl) (ten s before c (sheet p) refl)
+      (λ z t d e. record { counts = matches-sheet s before c p z t; units = refl; rules = refl })
 
   unit-later : (f l : List ℕ) → Verdicts (stepOf s (valuesOf (unit f l))) (valuesOf (unit f l)) before (unit f l) n (later (unit f l)) w
   unfolding stepOf unitsIn rulesIn unitStream ruleStream
   unit-later f l =
-      unit-verdict before n w (sheetOf (s .span) (s .units + 1) (s .rules)) (unit f l) (valuesOf (unit f l))
-      (eqb (s .span) 0) (isStretch (s .span) (value f) (value l)) (ltb (s .units) maxUnits) _ _ _ _
+      same-verdict before n w (counted (s .span) (s .units + 1) (s .rules)) (unit f l) (valuesOf (unit f l))
+      (not (eqb (s .span) 0)) true (isStretch (s .span) (value f) (value l)) true (ltb (s .units) maxUnits) true _ _ _ _
       (c .sheeted) (stretch-same (value f) (value l)) (nine-more s before c (unit f l) refl) (ten s before c (unit f l) refl)
-      (λ t. record {
+      (λ a b t e. record {
         counts =
             matches-more s before c (unit f l) (s .units + 1) (s .rules) refl (λ p. refl) refl (sym (add-zero (s .rules)))
             (omega (arith, ltb-true (s .units) maxUnits t)) (c .few-rules);
@@ -237,10 +180,10 @@ module _ (s : Sheet) (before : List Content) (c : Matches s before) (n : ℕ) (w
       Verdicts (stepOf s (valuesOf (rule a b lo hi))) (valuesOf (rule a b lo hi)) before (rule a b lo hi) n (later (rule a b lo hi)) w
   unfolding stepOf unitsIn rulesIn unitStream ruleStream
   rule-later a b lo hi =
-      rule-verdict before n w (sheetOf (s .span) (s .units) (s .rules + 1)) (rule a b lo hi) (valuesOf (rule a b lo hi))
-      (eqb (s .span) 0) (isStretch (s .span) (value a) (value b)) (isCount (value lo) (value hi)) (ltb (s .rules) maxRules) _ _ _ _
+      same-verdict before n w (counted (s .span) (s .units) (s .rules + 1)) (rule a b lo hi) (valuesOf (rule a b lo hi))
+      (not (eqb (s .span) 0)) true (isStretch (s .span) (value a) (value b)) (isCount (value lo) (value hi)) true (ltb (s .rules) maxRules) _ _ _ _
       (c .sheeted) (stretch-same (value a) (value b)) (nine s before c (rule a b lo hi) refl) (ten-more s before c (rule a b lo hi) refl)
-      (λ t. record {
+      (λ y z d t. record {
         counts =
             matches-more s before c (rule a b lo hi) (s .units) (s .rules + 1) refl (λ p. refl) (sym (add-zero (s .units))) refl
             (c .few-units) (omega (arith, ltb-true (s .rules) maxRules t));
@@ -320,7 +263,7 @@ pub record Asking (t : List ℕ) (at n : ℕ) (s : Sheet) (units₀ units rules�
   pub in-units : units ≡ sets units₀ 0 (unitStream (unitsIn before))
   pub in-rules : rules ≡ sets rules₀ 0 (ruleStream (rulesIn before))
 
-pub asking-start : (t : List ℕ) (s : Sheet) (units rules : List ℕ) → s ≡ sheetOf 0 0 0 → Asking t 0 1 s units units rules rules
+pub asking-start : (t : List ℕ) (s : Sheet) (units rules : List ℕ) → s ≡ counted 0 0 0 → Asking t 0 1 s units units rules rules
 unfolding unitsIn rulesIn unitStream ruleStream
 asking-start t s units rules e =
     record {
@@ -363,8 +306,7 @@ module _ (t : List ℕ) (at n : ℕ) (s : Sheet) (units₀ units rules₀ rules 
     asking-no q r =
         let v : firstNo (lineQuestions 1 [] (lines t)) ≡ no q n = all-left ∙ verdict (No q) r in
         let last = ask 5 0 (hasSheet (contents (lines t))) ∷ [] in
-        let a : firstNo (passQuestions t) ≡ no q n = firstNo-append (lineQuestions 1 [] (lines t)) last ∙ ap (λ (x : Verdict). andThen x (firstNo last)) v in
-        sym (ap (λ (x : Verdict). concluded x (sheetIn t)) a)
+        sym (ap (λ (x : Verdict). concluded x (sheetIn t)) (first-then (lineQuestions 1 [] (lines t)) last (no q n) v))
 
     pub asking-on : (m : Sheet) (units′ rules′ : List ℕ) → stepOf s line ≡ On m → units′ ≡ sets units (2 * s .units) (unitPart line)
         → rules′ ≡ sets rules (4 * s .rules) (rulePart line) → Asking t next (n + 1) m units₀ units′ rules₀ rules′
@@ -397,8 +339,7 @@ module _ (t : List ℕ) (at n : ℕ) (s : Sheet) (units₀ units rules₀ rules 
     last-asked : (z : Bool) → eqb (s .span) 0 ≡ z → firstNo (passQuestions t) ≡ cond (not z) allYes (no 5 0)
     unfolding firstNo
     last-asked z e =
-        firstNo-append (lineQuestions 1 [] (lines t)) (ask 5 0 (hasSheet (contents (lines t))) ∷ [])
-        ∙ ap (λ (x : Verdict). andThen x (cond (hasSheet (contents (lines t))) allYes (no 5 0))) all-asked
+        first-then (lineQuestions 1 [] (lines t)) (ask 5 0 (hasSheet (contents (lines t))) ∷ []) allYes all-asked
         ∙ ap (λ (b : Bool). cond b allYes (no 5 0)) (ap hasSheet all-before ∙ i .counts .sheeted ∙ ap not e)
 
     pub asking-none : s .span ≡ 0 → refused 5 0 ≡ passAnswer t

@@ -1,4 +1,4 @@
--- The laws that the steps of one line and question 12 rest on.
+-- The laws that the steps of one line rest on.
 -- Key idea: numbers written one after the other are a list set from a place on; and no number written changes nothing.
 use Prim.Native.Nat.{ℕ, suc, _+_, _*_}
 use mathlib.Core.Path.{_≡_, refl, ap}

@@ -1,6 +1,6 @@
 pub mod Reading
 pub mod Steps
-pub mod PassLaws
+pub mod SpanLaws
 pub mod Samples
 pub mod AcceptedLaws
 pub mod RefusalLaws

@@ -1,13 +1,15 @@
--- What reading a text answers (document 01, "Questions a call asks"): the text's lines, what each line is, the questions in their order, and the first
+-- What reading a text answers (docs/RULES.md, "The order of the questions"): the text's lines, what each line is, the questions in their order, and the first
 -- that is answered no. Definitions only, with no grid and no reading states.
 use Prim.Native.Nat.{ℕ, suc}
-use mathlib.Core.Bool.{Bool, true, false, _&&_, _||_, not, cond}
+use mathlib.Core.Bool.{Bool, true, false, _&&_, _||_, not}
 use mathlib.Core.List.{List, [], _∷_, _++_, map}
 use lib.ListN.{length}
 use lib.Dec.{leb}
-use Rattle.lists.specs.Lists.{within, every, joined}
-use Rattle.sheet.specs.Sizes.{maxSlots, maxUnits, maxRules, maxCount, maxBytes}
+use Rattle.lists.specs.Lists.{every, joined}
+use Rattle.questions.specs.Questions.{Question, ask, Verdict, no, allYes, firstNo}
+use Rattle.sheet.specs.Sizes.{maxUnits, maxRules, maxBytes}
 use Rattle.sheet.specs.Sheet.{Window, Rule, Sheet}
+use Rattle.sheet.specs.Questions.{isSpan, isStretch, isCount}
 use Rattle.forms.specs.Form.{printable, plain, value}
 use Rattle.forms.specs.Lines.{TextLine, lines}
 use Rattle.read_line.specs.Content.{Content, note, sheet, unit, rule, other, contentOf, bracketsMatch, numbersIn}
@@ -70,14 +72,6 @@ sheetIn text =
 
 -- ---- the questions of a line
 
-pub record Question : Type 0 where
-  pub number : ℕ
-  pub line : ℕ
-  pub yes : Bool
-
-abbrev pub ask : ℕ → ℕ → Bool → Question
-ask q n y = record { number = q; line = n; yes = y }
-
 -- 3
 abbrev pub isForm : Content → Bool
 isForm note = true
@@ -95,16 +89,12 @@ inOrder before (rule a b lo hi) = hasSheet before
 inOrder before other = true
 
 -- 6
-abbrev pub spanFits : Content → Bool
-spanFits note = true
-spanFits (sheet p) = within 1 maxSlots (value p)
-spanFits (unit f l) = true
-spanFits (rule a b lo hi) = true
-spanFits other = true
-
--- 1 ≤ first ≤ last ≤ span
-abbrev pub isStretch : ℕ → ℕ → ℕ → Bool
-isStretch span first last = leb 1 first && (leb first last && leb last span)
+abbrev pub spanAllowed : Content → Bool
+spanAllowed note = true
+spanAllowed (sheet p) = isSpan (value p)
+spanAllowed (unit f l) = true
+spanAllowed (rule a b lo hi) = true
+spanAllowed other = true
 
 -- 7, with this span
 abbrev pub inSpan : ℕ → Content → Bool
@@ -113,10 +103,6 @@ inSpan span (sheet p) = true
 inSpan span (unit f l) = isStretch span (value f) (value l)
 inSpan span (rule a b lo hi) = isStretch span (value a) (value b)
 inSpan span other = true
-
--- low ≤ high ≤ 300
-abbrev pub isCount : ℕ → ℕ → Bool
-isCount low high = leb low high && leb high maxCount
 
 -- 8
 abbrev pub countFits : Content → Bool
@@ -135,7 +121,7 @@ questionsOf n before l x =
     ask 3 n (isForm x && (l .ended)) ∷
     ask 4 n (every plain (numbersIn x)) ∷
     ask 5 n (inOrder before x) ∷
-    ask 6 n (spanFits x) ∷
+    ask 6 n (spanAllowed x) ∷
     ask 7 n (inSpan (spanIn before) x) ∷
     ask 8 n (countFits x) ∷
     ask 9 n (leb (length (unitsIn here)) maxUnits) ∷
@@ -152,7 +138,7 @@ lineQuestions n before (l ∷ ls) =
 -- ---- the questions of a call
 
 -- one of these for each lent room
-pub record Rooms (A : Type 0) : Type 0 where
+pub record ListRooms (A : Type 0) : Type 0 where
   pub first : A
   pub last : A
   pub from : A
@@ -160,24 +146,27 @@ pub record Rooms (A : Type 0) : Type 0 where
   pub low : A
   pub high : A
 
-abbrev pub rooms : {A : Type 0} → A → A → A → A → A → A → Rooms A
+abbrev pub rooms : {A : Type 0} → A → A → A → A → A → A → ListRooms A
 rooms a b c d e f = record { first = a; last = b; from = c; to = d; low = e; high = f }
 
 -- 12, for so many units and rules
-abbrev pub roomsFit : ℕ → ℕ → Rooms ℕ → Bool
-roomsFit units rules sizes =
-    leb units (sizes .first) && (leb units (sizes .last) &&
-    (leb rules (sizes .from) && (leb rules (sizes .to) && (leb rules (sizes .low) && leb rules (sizes .high)))))
+abbrev pub listsFit : ℕ → ℕ → ListRooms ℕ → Bool
+listsFit units rules sizes =
+    (leb units (sizes .first) && leb units (sizes .last)) &&
+    ((leb rules (sizes .from) && leb rules (sizes .to)) && (leb rules (sizes .low) && leb rules (sizes .high)))
 
 -- rooms for as many units and rules as a sheet may have
-abbrev pub roomsForAll : Rooms ℕ
+abbrev pub roomsForAll : ListRooms ℕ
 roomsForAll = rooms maxUnits maxUnits maxRules maxRules maxRules maxRules
 
-unfoldable pub questions : List ℕ → Rooms ℕ → List Question
+-- of every line, and then of the text: has it a sheet form?
+abbrev pub passQuestions : List ℕ → List Question
+passQuestions text = lineQuestions 1 [] (lines text) ++ (ask 5 0 (hasSheet (contents (lines text))) ∷ [])
+
+unfoldable pub questions : List ℕ → ListRooms ℕ → List Question
 questions text sizes =
-    (ask 1 0 (leb (length text) maxBytes) ∷ []) ++
-    (lineQuestions 1 [] (lines text) ++
-    (ask 5 0 (hasSheet (contents (lines text))) ∷ ask 12 0 (roomsFit (length (sheetIn text .units)) (length (sheetIn text .rules)) sizes) ∷ []))
+    ask 1 0 (leb (length text) maxBytes) ∷
+    (passQuestions text ++ (ask 12 0 (listsFit (length (sheetIn text .units)) (length (sheetIn text .rules)) sizes) ∷ []))
 
 -- ---- the answer
 
@@ -186,23 +175,14 @@ pub data Answer : Type 0 where
   refused : (number line : ℕ) → Answer
   read : (span units rules : ℕ) → Answer
 
--- document 01's number and values for each case of the reply
+-- the number and the values for each case of the reply
 abbrev pub answerOf : Reading → Answer
 answerOf (Reading.Refused f) = refused (f .number) (f .line)
 answerOf (Reading.Sheet s) = read (s .span) (s .units) (s .rules)
-
-pub data Verdict : Type 0 where
-  no : (number line : ℕ) → Verdict
-  allYes : Verdict
-
--- the first no decides
-unfoldable pub firstNo : List Question → Verdict
-firstNo [] = allYes
-firstNo (q ∷ qs) = cond (q .yes) (firstNo qs) (no (q .number) (q .line))
 
 abbrev pub concluded : Verdict → Sheet → Answer
 concluded (no q n) s = refused q n
 concluded allYes s = read (s .span) (length (s .units)) (length (s .rules))
 
-unfoldable pub reading : List ℕ → Rooms ℕ → Answer
+unfoldable pub reading : List ℕ → ListRooms ℕ → Answer
 reading text sizes = concluded (firstNo (questions text sizes)) (sheetIn text)

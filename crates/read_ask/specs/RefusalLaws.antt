@@ -2,23 +2,23 @@
 -- last.
 -- Key idea: the first no is one of the questions asked, and a text has no more lines than bytes. Question 12 comes after the lines' own, which keep the units
 -- and rules as few as the rooms are long.
-use mathlib.Core.Path.{_≡_, refl, sym, subst}
+use mathlib.Core.Path.{_≡_, refl, sym, _∙_}
 use mathlib.Core.Bool.{Bool, true, false, _&&_, cond}
 use mathlib.Core.List.{List, [], _∷_, _++_}
 use Prim.Native.Nat.{ℕ, suc, _+_, _≤_}
 use native.Mathlib.Omega.{arith}
-use lib.Dec.{T, eqb, leb}
+use lib.Dec.{T, eqb, leb, leb→le}
 use lib.ListN.{length}
-use borrow.Author.Tests.{leb-true}
-use Rattle.lists.specs.Lists.{within}
-use Rattle.lists.specs.Members.{both}
-use Rattle.sheet.specs.Sizes.{maxUnits, maxRules}
+use borrow.Author.Tests.{le-leb, leb-true}
+use Rattle.lists.specs.Lists.{within, every}
+use Rattle.lists.specs.Members.{both, left, right, every-both}
+use Rattle.questions.specs.Questions.{Question, ask, Verdict, no, allYes, firstNo}
+use Rattle.questions.specs.FirstNoLaws.{first-then, yes-every, yes-front, first-passes}
+use Rattle.sheet.specs.Sizes.{maxUnits, maxRules, maxBytes}
 use Rattle.forms.specs.Words.{lineFeed}
 use Rattle.forms.specs.Lines.{TextLine, textLine, inFront, lines}
 use Rattle.read_line.specs.Content.{Content, contentOf}
-use Rattle.sheet.specs.Sizes.{maxBytes}
-use Rattle.read_ask.specs.Reading.{contents, hasSheet, sheetIn, Question, ask, questionsOf, lineQuestions, questions, roomsFit, roomsForAll, Verdict, no, allYes, firstNo}
-use Rattle.read_ask.specs.PassLaws.{andThen, firstNo-append}
+use Rattle.read_ask.specs.Reading.{contents, hasSheet, sheetIn, lineQuestions, passQuestions, questions, listsFit, roomsForAll}
 use Rattle.read_ask.specs.AcceptedLaws.{few-lines}
 
 -- ---- a text has no more lines than bytes
@@ -27,7 +27,7 @@ front-count : (b : ℕ) (ls : List TextLine) → length (inFront b ls) ≤ suc (
 front-count b [] = omega arith
 front-count b (l ∷ ls) = omega arith
 
-pub line-count : (text : List ℕ) → length (lines text) ≤ length text
+line-count : (text : List ℕ) → length (lines text) ≤ length text
 unfolding lines
 line-count [] = omega arith
 line-count (b ∷ t) = go (eqb b lineFeed) (line-count t)
@@ -43,86 +43,65 @@ pub record Refusable (number line : ℕ) : Type 0 where
   pub number-known : T (within 1 11 number)
   pub line-known : line ≤ maxBytes
 
-abbrev Each : List Question → Type 0
-Each [] = Unit {0}
-Each (q ∷ qs) = Refusable (q .number) (q .line) × Each qs
+abbrev known : ℕ → ℕ → Bool
+known q n = within 1 11 q && leb n maxBytes
 
-abbrev Known : Verdict → Type 0
-Known (no q n) = Refusable q n
-Known allYes = Unit {0}
-
-each-append : (xs ys : List Question) → Each xs → Each ys → Each (xs ++ ys)
-each-append [] ys h k = k
-each-append (x ∷ xs) ys h k = (h .0, each-append xs ys (h .1) k)
-
-first-known : (qs : List Question) → Each qs → Known (firstNo qs)
-unfolding firstNo
-first-known [] h = tt
-first-known (q ∷ qs) h = go (q .yes) (first-known qs (h .1))
-  where
-    go : (b : Bool) → Known (firstNo qs) → Known (cond b (firstNo qs) (no (q .number) (q .line)))
-    go true k = k
-    go false k = h .0
-
-module _ (n : ℕ) (h : n ≤ maxBytes) where
-  at : (q : ℕ) → T (within 1 11 q) → Refusable q n
-  at q t = record { number-known = t; line-known = h }
-
-  line-each : (before : List Content) (l : TextLine) (x : Content) → Each (questionsOf n before l x)
-  line-each before l x =
-      (at 2 tt, (at 11 tt, (at 3 tt, (at 4 tt, (at 5 tt, (at 6 tt, (at 7 tt, (at 8 tt, (at 9 tt, (at 10 tt, tt))))))))))
-
-lines-each : (n : ℕ) (before : List Content) (ls : List TextLine) → n + length ls ≤ suc maxBytes → Each (lineQuestions n before ls)
+-- every question of the lines from n on is known
+lines-known : (n : ℕ) (before : List Content) (ls : List TextLine) → n + length ls ≤ suc maxBytes
+    → T (every (λ q. known (q .number) (q .line)) (lineQuestions n before ls))
 unfolding lineQuestions
-lines-each n before [] h = tt
-lines-each n before (l ∷ ls) h =
-    let x = contentOf (l .bytes) in
-    each-append (questionsOf n before l x) (lineQuestions (suc n) (before ++ (x ∷ [])) ls) (line-each n (omega arith) before l x)
-    (lines-each (suc n) (before ++ (x ∷ [])) ls (omega arith))
+lines-known n before [] h = tt
+lines-known n before (l ∷ ls) h =
+    rw (le-leb n maxBytes (omega arith)) (lines-known (suc n) (before ++ (contentOf (l .bytes) ∷ [])) ls (omega arith))
 
 -- ---- rooms for every sheet
 
-all-fit : (u r : ℕ) → T (leb u maxUnits) → T (leb r maxRules) → T (roomsFit u r roomsForAll)
+all-fit : (u r : ℕ) → T (leb u maxUnits) → T (leb r maxRules) → T (listsFit u r roomsForAll)
 all-fit u r hu hr =
     let a = leb u maxUnits in
     let b = leb r maxRules in
-    both a (a && (b && (b && (b && b)))) hu (both a (b && (b && (b && b))) hu (both b (b && (b && b)) hr (both b (b && b) hr (both b b hr hr))))
+    both (a && a) ((b && b) && (b && b)) (both a a hu hu) (both (b && b) (b && b) (both b b hr hr) (both b b hr hr))
 
 -- ---- what reading can be refused by
-module _ (text : List ℕ) where
+module _ (text : List ℕ) (number line : ℕ) where
   abbrev fits : Bool
-  fits = roomsFit (length (sheetIn text .units)) (length (sheetIn text .rules)) roomsForAll
+  fits = listsFit (length (sheetIn text .units)) (length (sheetIn text .rules)) roomsForAll
 
-  end-known : T fits → Known (firstNo (ask 5 0 (hasSheet (contents (lines text))) ∷ ask 12 0 fits ∷ []))
+  abbrev ends : List Question
+  ends = ask 5 0 (hasSheet (contents (lines text))) ∷ []
+
+  is-refusable : T (known number line) → Refusable number line
+  is-refusable h =
+      record { number-known = left (within 1 11 number) (leb line maxBytes) h; line-known = leb→le line maxBytes (right (within 1 11 number) _ h) }
+
+  -- question 12 is not answered no
+  not-rooms : (b : Bool) → T b → cond b allYes (no 12 0) ≡ no number line → ⊥
+  not-rooms true h e = let z : _≡_ {A = ℕ} 0 1 = cc in omega arith
+  not-rooms false h e = h
+
+  by-pass : length text ≤ maxBytes → firstNo (passQuestions text ++ (ask 12 0 fits ∷ [])) ≡ no number line → Refusable number line
   unfolding firstNo
-  end-known = go (hasSheet (contents (lines text))) fits
+  by-pass short e = go (firstNo (passQuestions text)) refl
     where
-      go : (b c : Bool) → T c → Known (cond b (cond c allYes (no 12 0)) (no 5 0))
-      go true true t = tt
-      go true false t = absurd t
-      go false c t = record { number-known = tt; line-known = omega arith }
+      all-known : T (every (λ q. known (q .number) (q .line)) (passQuestions text))
+      all-known =
+          every-both (λ q. known (q .number) (q .line)) (lineQuestions 1 [] (lines text)) ends
+          (lines-known 1 [] (lines text) (omega (arith, line-count text))) tt
 
-  lines-known : length text ≤ maxBytes
-      → Known (firstNo (lineQuestions 1 [] (lines text) ++ (ask 5 0 (hasSheet (contents (lines text))) ∷ ask 12 0 fits ∷ [])))
-  lines-known h =
-      subst Known (sym (firstNo-append (lineQuestions 1 [] (lines text)) (ask 5 0 (hasSheet (contents (lines text))) ∷ ask 12 0 fits ∷ [])))
-      (go (firstNo (lineQuestions 1 [] (lines text))) refl (first-known (lineQuestions 1 [] (lines text)) (lines-each 1 [] (lines text) (omega (arith, line-count text)))))
-    where
-      go : (v : Verdict) → firstNo (lineQuestions 1 [] (lines text)) ≡ v → Known v
-          → Known (andThen v (firstNo (ask 5 0 (hasSheet (contents (lines text))) ∷ ask 12 0 fits ∷ [])))
-      go (no q n) e k = k
-      go allYes e k =
-          let f = few-lines text e in
-          end-known (all-fit (length (sheetIn text .units)) (length (sheetIn text .rules)) (f .0) (f .1))
+      go : (v : Verdict) → firstNo (passQuestions text) ≡ v → Refusable number line
+      go (no q n) f =
+          let g = first-then (passQuestions text) (ask 12 0 fits ∷ []) (no q n) f in
+          is-refusable (first-passes known (passQuestions text) all-known number line (f ∙ sym g ∙ e))
+      go allYes f =
+          let few = few-lines text (yes-front (lineQuestions 1 [] (lines text)) ends (yes-every (passQuestions text) f)) in
+          let g = first-then (passQuestions text) (ask 12 0 fits ∷ []) allYes f in
+          absurd (not-rooms fits (all-fit (length (sheetIn text .units)) (length (sheetIn text .rules)) (few .0) (few .1)) (sym g ∙ e))
 
-  all-known : Known (firstNo (questions text roomsForAll))
+  pub reading-refusals : firstNo (questions text roomsForAll) ≡ no number line → Refusable number line
   unfolding questions firstNo
-  all-known = go (leb (length text) maxBytes) refl
+  reading-refusals = go (leb (length text) maxBytes) refl
     where
-      go : (b : Bool) → leb (length text) maxBytes ≡ b
-          → Known (cond b (firstNo (lineQuestions 1 [] (lines text) ++ (ask 5 0 (hasSheet (contents (lines text))) ∷ ask 12 0 fits ∷ []))) (no 1 0))
-      go true e = lines-known (leb-true (length text) maxBytes e)
-      go false e = record { number-known = tt; line-known = omega arith }
-
-  pub reading-refusals : (number line : ℕ) → firstNo (questions text roomsForAll) ≡ no number line → Refusable number line
-  reading-refusals number line e = subst Known e all-known
+      go : (b : Bool) → leb (length text) maxBytes ≡ b → cond b (firstNo (passQuestions text ++ (ask 12 0 fits ∷ []))) (no 1 0) ≡ no number line
+          → Refusable number line
+      go true h e = by-pass (leb-true (length text) maxBytes h) e
+      go false h e = is-refusable (first-passes known (ask 1 0 false ∷ []) tt number line e)

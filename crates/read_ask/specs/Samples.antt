@@ -1,4 +1,4 @@
--- Texts read by the definitions alone: document 01's sheet, and a refusal by each question that a short text can fail. Each claim is computed.
+-- Texts read by the definitions alone: P2 of docs/RULES.md, and a refusal by each question that a short text can fail. Each claim is computed.
 use Prim.Native.Nat.{ℕ, _+_}
 use mathlib.Core.Path.{_≡_, refl}
 use mathlib.Core.List.{List, [], _∷_, _++_, map}
@@ -9,8 +9,9 @@ use Rattle.forms.specs.Forms.{sheetForm, unitForm, ruleForm}
 use Rattle.read_notes.specs.Note.{matched}
 use Rattle.forms.specs.Lines.{lines}
 use Rattle.read_line.specs.Content.{isNote, noteMatched, contentOf}
-use Rattle.read_ask.specs.Reading.{contents, hasSheet, spanIn, unitsIn, rulesIn, sheetIn, lineQuestions, Rooms, rooms, questions}
-use Rattle.read_ask.specs.Reading.{Answer, refused, read, firstNo, reading}
+use Rattle.read_ask.specs.Reading.{contents, hasSheet, spanIn, unitsIn, rulesIn, sheetIn, lineQuestions, ListRooms, rooms, roomsForAll, questions}
+use Rattle.questions.specs.Questions.{firstNo}
+use Rattle.read_ask.specs.Reading.{Answer, refused, read, reading}
 
 -- ---- lines
 
@@ -43,12 +44,12 @@ tab = 9
 
 pub record Sample : Type 0 where
   pub text : List ℕ
-  pub sizes : Rooms ℕ
+  pub sizes : ListRooms ℕ
   pub answer : Answer
 
 -- with rooms that are long enough
 abbrev sample : List (List ℕ) → Answer → Sample
-sample ls a = record { text = joined ls; sizes = rooms 300 300 60 60 60 60; answer = a }
+sample ls a = record { text = joined ls; sizes = roomsForAll; answer = a }
 
 abbrev shownSheet : List (List ℕ)
 shownSheet =
@@ -85,7 +86,7 @@ unfolding printable leading past valueFrom plain written matches numbers matched
     contents hasSheet spanIn unitsIn rulesIn sheetIn lineQuestions questions firstNo reading text
 samples-read = refl
 
--- the lists of document 01's sheet
+-- the lists of P2
 pub shown-lists :
     sheetIn (joined shownSheet) ≡ record {
       span = 4;

@@ -1,19 +1,19 @@
 -- What the reader's code answers on the way: questions 5 to 10 of a line, and the numbers that it keeps of the lines so far.
 use Prim.Native.Nat.{ℕ, _+_, _≤_}
 use mathlib.Core.Path.{_≡_}
-use mathlib.Core.Bool.{cond}
-use mathlib.Core.List.{List, [], _∷_, _++_, map}
+use mathlib.Core.Bool.{not, cond}
+use mathlib.Core.List.{List, [], _∷_, map}
 use lib.Seq.{sets}
 use lib.Dec.{eqb, ltb}
-use Rattle.lists.specs.Lists.{within, joined}
-use Rattle.sheet.specs.Sizes.{maxSlots, maxUnits, maxRules}
+use Rattle.lists.specs.Lists.{joined}
+use Rattle.questions.specs.Questions.{firstNo}
+use Rattle.sheet.specs.Sizes.{maxUnits, maxRules}
 use Rattle.sheet.specs.Sheet.{Window, Rule}
+use Rattle.sheet.specs.Questions.{isSpan, isStretch, isCount}
 use Rattle.sheet.specs.declared.Sheet.{Sheet}
-use Rattle.forms.specs.Lines.{lines}
 use Rattle.read_line.specs.declared.Line.{Line}
 use Rattle.read_line.specs.declared.Line.the-variants as Line
-use Rattle.read_ask.specs.Reading.{isStretch, isCount, contents, hasSheet, sheetIn, Question, ask, lineQuestions, Answer, firstNo}
-use Rattle.read_ask.specs.Reading.{concluded}
+use Rattle.read_ask.specs.Reading.{sheetIn, passQuestions, Answer, concluded}
 use Rattle.read_ask.specs.declared.Step.{Step}
 use Rattle.read_ask.specs.declared.Step.the-variants.{No, On}
 use Rattle.read_ask.specs.declared.Reading.{Reading}
@@ -22,24 +22,21 @@ use Rattle.read_ask.specs.declared.Reading.the-variants as Reading
 -- ---- a line after those of a sheet so far
 
 -- a span, which is 0 before the sheet form, and so many units and rules
-abbrev pub sheetOf : ℕ → ℕ → ℕ → Sheet
-sheetOf p u r = record { span = p; units = u; rules = r }
+abbrev pub counted : ℕ → ℕ → ℕ → Sheet
+counted p u r = record { span = p; units = u; rules = r }
 
 -- questions 5 to 10, in their order
 unfoldable pub stepOf : Sheet → Line → Step
 stepOf s (Line.Refused q) = No q
 stepOf s Line.Note = On s
 stepOf s (Line.Sheet p) =
-    cond (eqb (s .span) 0) (cond (within 1 maxSlots p) (On (sheetOf p (s .units) (s .rules))) (No 6)) (No 5)
+    cond (eqb (s .span) 0) (cond (isSpan p) (On (counted p (s .units) (s .rules))) (No 6)) (No 5)
 stepOf s (Line.Unit f l) =
-    cond (eqb (s .span) 0) (No 5)
-    (cond (isStretch (s .span) f l)
-    (cond (ltb (s .units) maxUnits) (On (sheetOf (s .span) (s .units + 1) (s .rules))) (No 9)) (No 7))
+    cond (not (eqb (s .span) 0)) (cond (isStretch (s .span) f l)
+    (cond (ltb (s .units) maxUnits) (On (counted (s .span) (s .units + 1) (s .rules))) (No 9)) (No 7)) (No 5)
 stepOf s (Line.Rule a b lo hi) =
-    cond (eqb (s .span) 0) (No 5)
-    (cond (isStretch (s .span) a b)
-    (cond (isCount lo hi)
-    (cond (ltb (s .rules) maxRules) (On (sheetOf (s .span) (s .units) (s .rules + 1))) (No 10)) (No 8)) (No 7))
+    cond (not (eqb (s .span) 0)) (cond (isStretch (s .span) a b) (cond (isCount lo hi)
+    (cond (ltb (s .rules) maxRules) (On (counted (s .span) (s .units) (s .rules + 1))) (No 10)) (No 8)) (No 7)) (No 5)
 
 -- ---- the numbers of the units and rules so far, one after the other, in two arrays
 
@@ -76,9 +73,6 @@ keptBy (No q) array at xs = array
 keptBy (On s) array at xs = sets array at xs
 
 -- ---- the pass over the text: all questions but 1 and 12, and what the arrays then hold
-
-abbrev pub passQuestions : List ℕ → List Question
-passQuestions text = lineQuestions 1 [] (lines text) ++ (ask 5 0 (hasSheet (contents (lines text))) ∷ [])
 
 unfoldable pub passAnswer : List ℕ → Answer
 passAnswer text = concluded (firstNo (passQuestions text)) (sheetIn text)

@@ -3,16 +3,12 @@ ghost use mathlib.Core.List.{[], _∷_};
 ghost use Prim.Native.Nat.{_*_, _≤_};
 ghost use lib.ListN.{length};
 ghost use Rattle.sheet.specs.Sizes.{maxUnits, maxRules};
-ghost use Rattle.read_ask.specs.Reading.{isStretch, isCount, answerOf};
+ghost use Rattle.sheet.specs.Questions.{isStretch, isCount};
+ghost use Rattle.read_ask.specs.Reading.{answerOf};
 ghost use Rattle.read_ask.specs.Steps.{stepOf, unitPart, rulePart, keptBy, passAnswer, Kept};
+use questions::Refusal;
 use read_line::Line;
 use sheet::Sheet;
-
-// Document 01's number of the question that was answered no, and the line; 0 where no line is to blame.
-pub struct Refusal {
-    pub number: usize,
-    pub line: usize,
-}
 
 pub enum Reading {
     Refused(Refusal),
@@ -25,23 +21,18 @@ pub enum Step {
     On(Sheet),
 }
 
-fn wide(x: u16) -> usize
-    ensures { λ r. ⌜ r ≡ x ⌝ }
-{
-    x as usize
-}
-
 // Question 7.
 fn is_stretch(span: usize, first: u16, last: u16) -> bool
     ensures { λ r. ⌜ r ≡ isStretch span first last ⌝ }
 {
-    if first < 1 {
-        return false;
-    }
-    if last < first {
-        return false;
-    }
-    wide(last) <= span
+    sheet::rises(1, span, first as usize, last as usize)
+}
+
+// Question 8.
+fn is_count(low: u16, high: u16) -> bool
+    ensures { λ r. ⌜ r ≡ isCount low high ⌝ }
+{
+    sheet::rises(0, Sheet::MAX_COUNT, low as usize, high as usize)
 }
 
 // Questions 5 and 6.
@@ -51,11 +42,8 @@ fn sheet_step(s: Sheet, span: u16) -> Step
     if s.span != 0 {
         return Step::No(5);
     }
-    let p = wide(span);
-    if p < 1 {
-        return Step::No(6);
-    }
-    if Sheet::MAX_SLOTS < p {
+    let p = span as usize;
+    if !sheet::is_span(p) {
         return Step::No(6);
     }
     Step::On(Sheet {
@@ -89,16 +77,6 @@ fn unit_step(s: Sheet, first: u16, last: u16, units: &mut [u16]) -> Step
         });
     }
     Step::No(9)
-}
-
-// Question 8.
-fn is_count(low: u16, high: u16) -> bool
-    ensures { λ r. ⌜ r ≡ isCount low high ⌝ }
-{
-    if high < low {
-        return false;
-    }
-    wide(high) <= Sheet::MAX_COUNT
 }
 
 // Questions 5, 7, 8 and 10; a rule that passes is kept.
@@ -149,7 +127,7 @@ fn line_step(s: Sheet, line: Line, units: &mut [u16], rules: &mut [u16]) -> Step
 }
 
 // The pass over the text: every question but 1 and 12. The numbers of units and rules go into the arrays.
-pub fn ask(text: &[u8], units: &mut [u16], rules: &mut [u16]) -> Reading
+pub fn ask_text(text: &[u8], units: &mut [u16], rules: &mut [u16]) -> Reading
     requires { ⌜ (2 * maxUnits ≤ length (now units)) × (4 * maxRules ≤ length (now rules)) ⌝ }
     ensures { λ r. ⌜ answerOf r ≡ passAnswer (now (text .entry)) ⌝ }
     ensures { λ r. ⌜ Kept r (now (text .entry)) (now (units .entry)) (now (units .exit)) (now (rules .entry)) (now (rules .exit)) ⌝ }

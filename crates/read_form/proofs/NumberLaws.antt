@@ -13,8 +13,9 @@ use lib.Seq.{drop-cons}
 use lib.Dec.{eqb, leb, leb·suc-suc, leb·zero, leb·suc-zero}
 use borrow.Author.Tests.{eqb-true, eqb-false, le-leb, lt-leb, leb-true}
 use Rattle.forms.specs.Form.{isDigit, leading, some, plain, valueFrom}
-use Rattle.forms.specs.FormLaws.{Digits, leading-digits, and-left, and-right}
-use Rattle.read_form.specs.Number.{numberOf}
+use Rattle.forms.specs.FormLaws.{Digits, leading-digits}
+use Rattle.lists.specs.Members.{and-left, and-right}
+use Rattle.read_form.specs.Number.{numberRead}
 use Rattle.read_form.specs.declared.Number.{Number}
 use Rattle.read_form.specs.declared.Number.the-variants.{Plain, Faulty}
 
@@ -45,8 +46,8 @@ room : (v : ℕ) → 1 ≤ v → v ≤ 9 → Room 3 v
 room v p q = (p, omega arith, λ d h. (omega arith, omega arith, λ e k. (omega arith, omega arith, λ f m. omega arith)))
 
 -- the digits of one number, from the first on
-number-law : (b : ℕ) (l : List ℕ) (at : ℕ) → isDigit b ≡ true → Digits l → more (b - 48) (at + 1) l ≡ numberOf (b ∷ l) at
-unfolding numberOf plain valueFrom more
+number-law : (b : ℕ) (l : List ℕ) (at : ℕ) → isDigit b ≡ true → Digits l → more (b - 48) (at + 1) l ≡ numberRead (b ∷ l) at
+unfolding numberRead plain valueFrom more
 number-law b l at d ds = rw (leb·suc-suc (length l) 3) (go (eqb b 48) refl l ds)
   where
     w : 0 + (b - 48) ≡ b - 48
@@ -77,20 +78,20 @@ module _ (s : List ℕ) (i : ℕ) where
   unfolding leading
   at-digit h e = rw (add-one i) (rw (drop-cons s i 0 h) (ap (λ (d : Bool). cond d (getD s i 0 ∷ leading (drop (suc i) s)) []) e))
 
-  pub none-end : length s ≤ i → Faulty ≡ numberOf (leading (drop i s)) i
-  unfolding numberOf plain
-  none-end h = ap (λ (n : List ℕ). numberOf n i) (sym (at-end h))
+  pub none-end : length s ≤ i → Faulty ≡ numberRead (leading (drop i s)) i
+  unfolding numberRead plain
+  none-end h = ap (λ (n : List ℕ). numberRead n i) (sym (at-end h))
 
-  pub none-other : i < length s → isDigit (getD s i 0) ≡ false → Faulty ≡ numberOf (leading (drop i s)) i
-  unfolding numberOf plain
-  none-other h e = ap (λ (n : List ℕ). numberOf n i) (sym (at-other h e))
+  pub none-other : i < length s → isDigit (getD s i 0) ≡ false → Faulty ≡ numberRead (leading (drop i s)) i
+  unfolding numberRead plain
+  none-other h e = ap (λ (n : List ℕ). numberRead n i) (sym (at-other h e))
 
   pub begins : (v : ℕ) → i < length s → isDigit (getD s i 0) ≡ true → v ≡ getD s i 0 - 48 → more v (i + 1) (leading (drop (i + 1) s))
-      ≡ numberOf (leading (drop i s)) i
+      ≡ numberRead (leading (drop i s)) i
   begins v h e q =
       ap (λ (x : ℕ). more x (i + 1) (leading (drop (i + 1) s))) q
       ∙ number-law (getD s i 0) (leading (drop (i + 1) s)) i e (leading-digits (drop (i + 1) s))
-      ∙ ap (λ (n : List ℕ). numberOf n i) (sym (at-digit h e))
+      ∙ ap (λ (n : List ℕ). numberRead n i) (sym (at-digit h e))
 
   pub stops-end : (v : ℕ) → length s ≤ i → Plain v i ≡ more v i (leading (drop i s))
   unfolding more

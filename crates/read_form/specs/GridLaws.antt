@@ -1,414 +1,313 @@
 -- The grid reads the forms: `grid-reads`, that the state after a line tells what the line is.
--- Key idea: a state stands for the ways in which a line may still go on, and a byte takes it to the state of the ways that go on over that byte.
--- A byte and the byte that stands for its class are the same to every state, so this is one test over all states and classes, which is computed.
-use Prim.Native.Nat.{ℕ, zero, suc, _+_, _-_, _<_}
+-- Key idea: what a line is, is the same read from a state as read past its first byte from the state that follows (`follows-law`). A byte and the
+-- byte that stands for its class lead to the same state (`follows-same`). It is left that every state that follows over such a byte has a number: one
+-- test over all states and classes, which is computed (`numbered`).
+use Prim.Native.Nat.{ℕ, zero, suc, _<_}
 use mathlib.Core.Path.{_≡_, refl, sym, ap, ap₂, subst, _∙_}
-use mathlib.Core.Bool.{Bool, true, false, _&&_, not, cond, Bool·beq, and-assoc}
-use mathlib.Core.List.{List, [], _∷_}
+use mathlib.Core.Bool.{Bool, true, false, _&&_, _||_, not, cond, and-assoc}
+use mathlib.Core.List.{List, [], _∷_, _++_, map}
 use native.Mathlib.Omega.{arith}
 use lib.ListN.{length, getD, drop}
-use lib.Dec.{T, eqb, eqb→eq, eqb·suc-zero, leb, ltb, ltb→lt}
-use borrow.Author.Tests.{eqb-true, ne-eqb}
-use Rattle.lists.specs.Lists.{run, every}
-use Rattle.lists.specs.Members.{left, right, every-in, run-in}
-use Rattle.forms.specs.Words.{classBytes, text}
-use Rattle.forms.specs.Form.{isPrintable, isDigit, printable, some, leading, past, Piece, word, number, startsWith}
-use Rattle.forms.specs.Forms.{sheetForm, unitForm, ruleForm}
-use Rattle.forms.specs.Form.{matches}
-use Rattle.read_form.specs.Kinds.{formOf, kindOf}
-use Rattle.read_form.specs.Grid.{grid, states, unprintable, start, sheetEnd, unitEnd, kindAt, place, member, classOf, nextOf, runOf}
+use lib.Dec.{T, eqb, eqb→eq, ltb→lt}
+use borrow.Author.Tests.{ne-eqb}
+use Rattle.lists.specs.Lists.{every, consIf}
+use Rattle.lists.specs.Members.{left, right, every-at}
+use Rattle.forms.specs.Words.{zeroDigit, text}
+use Rattle.forms.specs.Form.{isPrintable, isDigit, printable, some, leading, past, Piece, word, number, startsWith, matches}
+use Rattle.read_form.specs.Kinds.{Shape, shapes, firstShape, kindOf}
+use Rattle.read_form.specs.Grid.{Sign, byte, digit, more, signs, fits, Way, way, firstOf, goOn, over, State, unprintable, going, follows}
+use Rattle.read_form.specs.Grid.{kindFrom, startWays, code, signCode, sameAll, sameKind, sameSign, sameWay, sameState, memberBy, placeIn, states}
+use Rattle.read_form.specs.Grid.{start, placeOf, stateAt, kindAt, otherByte, classBytes, standIn, classOf, grid, nextOf, runOf}
 use Rattle.read_form.specs.declared.Kind.{Kind}
 use Rattle.read_form.specs.declared.Kind.the-variants.{Unprintable, Sheet, Unit, Rule, Other}
 
--- a rule of a table, at each number below n, by one test that is computed
-pub below : (n : ℕ) (f : ℕ → Bool) → T (every f (run 0 n)) → (k : ℕ) → k < n → T (f k)
-below n f t k h = every-in f k (run 0 n) (run-in k 0 n (omega arith) (omega arith)) t
+-- ---- forms, sign by sign
 
--- ---- forms, byte by byte
-
-data Sign : Type 0 where
-  byte : ℕ → Sign
-  digits : Sign
-
-abbrev spelt : List ℕ → List Sign → List Sign
-spelt [] t = t
-spelt (x ∷ w) t = byte x ∷ spelt w t
-
-abbrev signs : List Piece → List Sign
-signs [] = []
-signs (word w ∷ f) = spelt w (signs f)
-signs (number ∷ f) = digits ∷ signs f
-
-unfoldable fits : List Sign → List ℕ → Bool
-fits [] l = not (some l)
-fits (byte x ∷ t) [] = false
-fits (byte x ∷ t) (b ∷ l) = eqb x b && fits t l
-fits (digits ∷ t) l = some (leading l) && fits t (past l)
-
-spelt-fits : (w : List ℕ) (t : List Sign) (l : List ℕ) → fits (spelt w t) l ≡ (startsWith w l && fits t (drop (length w) l))
+word-fits : (w : List ℕ) (t : List Sign) (l : List ℕ) → fits (map byte w ++ t) l ≡ (startsWith w l && fits t (drop (length w) l))
 unfolding fits
-spelt-fits [] t l = refl
-spelt-fits (x ∷ w) t [] = refl
-spelt-fits (x ∷ w) t (b ∷ l) =
-    ap (λ (v : Bool). eqb x b && v) (spelt-fits w t l) ∙ sym (and-assoc (eqb x b) (startsWith w l) (fits t (drop (length w) l)))
+word-fits [] t l = refl
+word-fits (x ∷ w) t [] = refl
+word-fits (x ∷ w) t (b ∷ l) =
+    ap (λ (v : Bool). eqb x b && v) (word-fits w t l) ∙ sym (and-assoc (eqb x b) (startsWith w l) (fits t (drop (length w) l)))
 
 signs-fit : (f : List Piece) (l : List ℕ) → fits (signs f) l ≡ matches f l
-unfolding fits matches
+unfolding fits matches leading past
 signs-fit [] l = refl
-signs-fit (word w ∷ f) l = spelt-fits w (signs f) l ∙ ap (λ (v : Bool). startsWith w l && v) (signs-fit f (drop (length w) l))
-signs-fit (number ∷ f) l = ap (λ (v : Bool). some (leading l) && v) (signs-fit f (past l))
-
--- ---- ways: a form, whether one of its numbers is being read, and its signs that are left
-
-data Way : Type 0 where
-  way : Kind → Bool → List Sign → Way
-
-abbrev goes : Bool → List Sign → List ℕ → Bool
-goes true t l = fits t (past l)
-goes false t l = fits t l
-
--- the form of the first way that a line goes
-unfoldable firstOf : List Way → List ℕ → Kind
-firstOf [] l = Other
-firstOf (way k r t ∷ ws) l = cond (goes r t l) k (firstOf ws l)
-
-abbrev on : Bool → Way → List Way → List Way
-on true w ws = w ∷ ws
-on false w ws = ws
-
--- the ways that go on over a byte (d: whether it is a digit), where no number is being read, and where one may be
-abbrev fresh : Kind → List Sign → Bool → ℕ → List Way → List Way
-fresh k [] d b ws = ws
-fresh k (digits ∷ t) d b ws = on d (way k true t) ws
-fresh k (byte x ∷ t) d b ws = on (eqb x b) (way k false t) ws
-
-abbrev onward : Kind → Bool → List Sign → Bool → ℕ → List Way → List Way
-onward k true t true b ws = way k true t ∷ ws
-onward k true t false b ws = fresh k t false b ws
-onward k false t d b ws = fresh k t d b ws
-
-unfoldable over : List Way → ℕ → List Way
-over [] b = []
-over (way k r t ∷ ws) b = onward k r t (isDigit b) b (over ws b)
-
-fresh-law : (k : Kind) (t : List Sign) (b : ℕ) (l : List ℕ) (ws : List Way) → firstOf (fresh k t (isDigit b) b ws) l ≡ cond (fits t (b ∷ l)) k (firstOf ws l)
-unfolding firstOf fits leading past
-fresh-law k [] b l ws = refl
-fresh-law k (digits ∷ t) b l ws = go (isDigit b)
+signs-fit (word w ∷ f) l = word-fits w (signs f) l ∙ ap (λ (v : Bool). startsWith w l && v) (signs-fit f (drop (length w) l))
+signs-fit (number ∷ f) [] = refl
+signs-fit (number ∷ f) (b ∷ l) = go (isDigit b) (signs-fit f (past l))
   where
-    go : (d : Bool) → firstOf (on d (way k true t) ws) l ≡ cond (some (cond d (b ∷ leading l) []) && fits t (cond d (past l) (b ∷ l))) k (firstOf ws l)
-    go true = refl
-    go false = refl
-fresh-law k (byte x ∷ t) b l ws = go (eqb x b)
-  where
-    go : (e : Bool) → firstOf (on e (way k false t) ws) l ≡ cond (e && fits t l) k (firstOf ws l)
-    go true = refl
-    go false = refl
+    go : (d : Bool) → fits (signs f) (past l) ≡ matches f (past l)
+        → (d && fits (signs f) (past l)) ≡ (some (cond d (b ∷ leading l) []) && matches f (cond d (past l) (b ∷ l)))
+    go true e = e
+    go false e = refl
 
-onward-law : (k : Kind) (r : Bool) (t : List Sign) (b : ℕ) (l : List ℕ) (ws : List Way)
-    → firstOf (onward k r t (isDigit b) b ws) l ≡ cond (goes r t (b ∷ l)) k (firstOf ws l)
-unfolding firstOf past
-onward-law k false t b l ws = fresh-law k t b l ws
-onward-law k true t b l ws = go (isDigit b) refl
+-- ---- what a line is, from a state on
+
+taken : (k : Kind) (t : List Sign) (l : List ℕ) (ws : List Way) (e : Bool) → firstOf (consIf e (way k t) ws) l ≡ cond (e && fits t l) k (firstOf ws l)
+unfolding firstOf
+taken k t l ws true = refl
+taken k t l ws false = refl
+
+goOn-law : (k : Kind) (t : List Sign) (b : ℕ) (l : List ℕ) (ws : List Way) → firstOf (goOn k t b ws) l ≡ cond (fits t (b ∷ l)) k (firstOf ws l)
+unfolding firstOf fits past
+goOn-law k [] b l ws = refl
+goOn-law k (byte x ∷ t) b l ws = taken k t l ws (eqb x b)
+goOn-law k (digit ∷ t) b l ws = taken k t l ws (isDigit b)
+goOn-law k (more ∷ t) b l ws = go (isDigit b) (goOn-law k t b l ws)
   where
-    go : (d : Bool) → d ≡ isDigit b → firstOf (onward k true t d b ws) l ≡ cond (fits t (cond d (past l) (b ∷ l))) k (firstOf ws l)
+    go : (d : Bool) → firstOf (goOn k t b ws) l ≡ cond (fits t (b ∷ l)) k (firstOf ws l)
+        → firstOf (cond d (way k (more ∷ t) ∷ ws) (goOn k t b ws)) l ≡ cond (fits t (cond d (past l) (b ∷ l))) k (firstOf ws l)
     go true e = refl
-    go false e = ap (λ (d : Bool). firstOf (fresh k t d b ws) l) e ∙ fresh-law k t b l ws
+    go false e = e
 
 over-law : (ws : List Way) (b : ℕ) (l : List ℕ) → firstOf (over ws b) l ≡ firstOf ws (b ∷ l)
 unfolding firstOf over
 over-law [] b l = refl
-over-law (way k r t ∷ ws) b l = onward-law k r t b l (over ws b) ∙ ap (cond (goes r t (b ∷ l)) k) (over-law ws b l)
+over-law (way k t ∷ ws) b l = goOn-law k t b l (over ws b) ∙ ap (cond (fits t (b ∷ l)) k) (over-law ws b l)
 
--- ---- a printable byte and the byte that stands for its class are the same to every state
-
-abbrev stands : ℕ → ℕ
-stands c = getD classBytes c 0
-
-placed : (xs : List ℕ) (b : ℕ) → member b xs ≡ true → getD xs (place xs b) 0 ≡ b
-unfolding place
-placed [] b m = absurd (subst T (sym m) tt)
-placed (x ∷ xs) b m = go (eqb x b) refl m (placed xs b)
+follows-law : (s : State) (b : ℕ) (l : List ℕ) → kindFrom (follows s b) l ≡ kindFrom s (b ∷ l)
+unfolding printable
+follows-law unprintable b l = refl
+follows-law (going ws) b l = go (isPrintable b)
   where
-    go : (e : Bool) → eqb x b ≡ e → cond e true (member b xs) ≡ true → (member b xs ≡ true → getD xs (place xs b) 0 ≡ b)
-        → getD (x ∷ xs) (cond e zero (suc (place xs b))) 0 ≡ b
-    go true e m h = eqb-true x b e
-    go false e m h = h m
+    go : (p : Bool) → kindFrom (cond p (going (over ws b)) unprintable) l ≡ cond (p && printable l) (firstOf ws (b ∷ l)) Unprintable
+    go true = ap (λ (k : Kind). cond (printable l) k Unprintable) (over-law ws b l)
+    go false = refl
 
-place-inside : (xs : List ℕ) (b : ℕ) → member b xs ≡ true → place xs b < length xs
-unfolding place
-place-inside [] b m = absurd (subst T (sym m) tt)
-place-inside (x ∷ xs) b m = go (eqb x b) m (place-inside xs b)
-  where
-    go : (e : Bool) → cond e true (member b xs) ≡ true → (member b xs ≡ true → place xs b < length xs) → cond e zero (suc (place xs b)) < suc (length xs)
-    go true m h = omega arith
-    go false m h = let k = h m in omega arith
-
-pub class-small : (b : ℕ) → classOf b < 19
-unfolding classOf text
-class-small b = go (isPrintable b) (isDigit b) (member b classBytes) refl
-  where
-    go : (p d e : Bool) → member b classBytes ≡ e → cond p (cond d 5 (cond e (place classBytes b) 1)) 0 < 19
-    go false d e m = omega arith
-    go true true e m = omega arith
-    go true false true m = omega (arith, place-inside classBytes b m)
-    go true false false m = omega arith
+-- ---- a byte and the byte that stands for its class lead to the same state
 
 -- a byte that a form may show: it has a class of its own
 abbrev shown : ℕ → Bool
-shown x = member x classBytes && (not (isDigit x) && not (eqb x 33))
+shown x = memberBy eqb classBytes x && (not (isDigit x) && not (eqb x otherByte))
 
-fails-false : (b : Bool) → T (not b) → b ≡ false
-fails-false true h = absurd h
-fails-false false h = refl
+fails : (b : Bool) → T (not b) → b ≡ false
+fails true h = absurd h
+fails false h = refl
 
-member-apart : (xs : List ℕ) (x b : ℕ) → T (member x xs) → member b xs ≡ false → eqb x b ≡ false
-member-apart xs x b m n = ne-eqb x b (λ e. subst T n (subst (λ (y : ℕ). T (member y xs)) e m))
+holds : (b : Bool) → T b → not b ≡ false
+holds true h = refl
+holds false h = absurd h
 
-digit-apart : (x b : ℕ) → isDigit x ≡ false → isDigit b ≡ true → eqb x b ≡ false
-digit-apart x b f t = ne-eqb x b (λ e. let z : false ≡ true = sym f ∙ ap isDigit e ∙ t in subst T (sym z) tt)
+apart : (f : ℕ → Bool) (x b : ℕ) → f x ≡ false → f b ≡ true → eqb x b ≡ false
+apart f x b n y = ne-eqb x b (λ e. subst T (sym (sym n ∙ ap f e ∙ y)) tt)
 
-agree : (x b : ℕ) → T (shown x) → isPrintable b ≡ true → eqb x b ≡ eqb x (stands (classOf b))
-unfolding classOf text
-agree x b h p = rw p (go (isDigit b) (member b classBytes) refl refl)
-  where
-    others : T (not (isDigit x) && not (eqb x 33))
-    others = right (member x classBytes) (not (isDigit x) && not (eqb x 33)) h
+module _ (b : ℕ) where
+  stands-printable : isPrintable (standIn b) ≡ isPrintable b
+  unfolding standIn
+  stands-printable = go (isPrintable b) (isDigit b) (memberBy eqb classBytes b) refl
+    where
+      go : (p d m : Bool) → isPrintable b ≡ p → isPrintable (cond p (cond d zeroDigit (cond m b otherByte)) 0) ≡ isPrintable b
+      go false d m e = sym e
+      go true true m e = sym e
+      go true false true e = refl
+      go true false false e = sym e
 
-    no-digit : isDigit x ≡ false
-    no-digit = fails-false (isDigit x) (left (not (isDigit x)) (not (eqb x 33)) others)
+  -- the same to every sign
+  stands-same : isPrintable b ≡ true → (isDigit (standIn b) ≡ isDigit b) × ((x : ℕ) → T (shown x) → eqb x (standIn b) ≡ eqb x b)
+  unfolding standIn
+  stands-same p = rw p (go (isDigit b) (memberBy eqb classBytes b) refl refl)
+    where
+      no-digit : (x : ℕ) → T (shown x) → isDigit x ≡ false
+      no-digit x h = fails (isDigit x) (left (not (isDigit x)) _ (right (memberBy eqb classBytes x) _ h))
 
-    go : (d e : Bool) → isDigit b ≡ d → member b classBytes ≡ e → eqb x b ≡ eqb x (stands (cond d 5 (cond e (place classBytes b) 1)))
-    go true e q m = digit-apart x b no-digit q ∙ sym (digit-apart x 48 no-digit refl)
-    go false true q m = ap (eqb x) (sym (placed classBytes b m))
-    go false false q m =
-        member-apart classBytes x b (left (member x classBytes) (not (isDigit x) && not (eqb x 33)) h) m
-        ∙ sym (fails-false (eqb x 33) (right (not (isDigit x)) (not (eqb x 33)) others))
+      go : (d m : Bool) → isDigit b ≡ d → memberBy eqb classBytes b ≡ m → (isDigit (cond d zeroDigit (cond m b otherByte)) ≡ isDigit b)
+          × ((x : ℕ) → T (shown x) → eqb x (cond d zeroDigit (cond m b otherByte)) ≡ eqb x b)
+      go true m e f = (sym e, λ x h. apart isDigit x zeroDigit (no-digit x h) refl ∙ sym (apart isDigit x b (no-digit x h) e))
+      go false true e f = (refl, λ x h. refl)
+      go false false e f = (
+        sym e,
+        λ x h. fails (eqb x otherByte) (right (not (isDigit x)) _ (right (memberBy eqb classBytes x) _ h))
+            ∙ sym (apart (λ y. not (memberBy eqb classBytes y)) x b (holds (memberBy eqb classBytes x) (left (memberBy eqb classBytes x) _ h)) (ap not f)),
+      )
 
-agree-digit : (b : ℕ) → isPrintable b ≡ true → isDigit b ≡ isDigit (stands (classOf b))
-unfolding classOf text
-agree-digit b p = rw p (go (isDigit b) (member b classBytes) refl refl)
-  where
-    go : (d e : Bool) → isDigit b ≡ d → member b classBytes ≡ e → isDigit b ≡ isDigit (stands (cond d 5 (cond e (place classBytes b) 1)))
-    go true e q m = q
-    go false true q m = ap isDigit (sym (placed classBytes b m))
-    go false false q m = q
+-- what a state looks at in a byte: its next sign
+abbrev firstShown : List Sign → Bool
+firstShown [] = true
+firstShown (byte x ∷ t) = shown x
+firstShown (digit ∷ t) = true
+firstShown (more ∷ t) = firstShown t
 
-abbrev shownFirst : List Sign → Bool
-shownFirst [] = true
-shownFirst (digits ∷ t) = true
-shownFirst (byte x ∷ t) = shown x
+abbrev wayShown : Way → Bool
+wayShown (way k t) = firstShown t
 
-abbrev shownFirsts : List Way → Bool
-shownFirsts [] = true
-shownFirsts (way k r t ∷ ws) = shownFirst t && shownFirsts ws
+abbrev stateShown : State → Bool
+stateShown unprintable = true
+stateShown (going ws) = every wayShown ws
 
 module _ (b : ℕ) (p : isPrintable b ≡ true) where
-  fresh-same : (k : Kind) (t : List Sign) (d : Bool) (ws : List Way) → T (shownFirst t) → fresh k t d b ws ≡ fresh k t d (stands (classOf b)) ws
-  fresh-same k [] d ws h = refl
-  fresh-same k (digits ∷ t) d ws h = refl
-  fresh-same k (byte x ∷ t) d ws h = ap (λ (e : Bool). on e (way k false t) ws) (agree x b h p)
+  goOn-same : (k : Kind) (t : List Sign) (ws : List Way) → T (firstShown t) → goOn k t (standIn b) ws ≡ goOn k t b ws
+  goOn-same k [] ws h = refl
+  goOn-same k (byte x ∷ t) ws h = ap (λ (e : Bool). consIf e (way k t) ws) (stands-same b p .1 x h)
+  goOn-same k (digit ∷ t) ws h = ap (λ (e : Bool). consIf e (way k t) ws) (stands-same b p .0)
+  goOn-same k (more ∷ t) ws h =
+      ap₂ (λ (e : Bool) (us : List Way). cond e (way k (more ∷ t) ∷ ws) us) (stands-same b p .0) (goOn-same k t ws h)
 
-  onward-same : (k : Kind) (r : Bool) (t : List Sign) (d : Bool) (ws : List Way) → T (shownFirst t) → onward k r t d b ws
-      ≡ onward k r t d (stands (classOf b)) ws
-  onward-same k true t true ws h = refl
-  onward-same k true t false ws h = fresh-same k t false ws h
-  onward-same k false t d ws h = fresh-same k t d ws h
-
-  over-same : (ws : List Way) → T (shownFirsts ws) → over ws b ≡ over ws (stands (classOf b))
+  over-same : (ws : List Way) → T (every wayShown ws) → over ws (standIn b) ≡ over ws b
   unfolding over
   over-same [] h = refl
-  over-same (way k r t ∷ ws) h =
-      onward-same k r t (isDigit b) (over ws b) (left (shownFirst t) (shownFirsts ws) h)
-      ∙ ap₂ (λ (d : Bool) (us : List Way). onward k r t d (stands (classOf b)) us) (agree-digit b p)
-      (over-same ws (right (shownFirst t) (shownFirsts ws) h))
+  over-same (way k t ∷ ws) h =
+      goOn-same k t (over ws (standIn b)) (left (firstShown t) (every wayShown ws) h)
+      ∙ ap (goOn k t b) (over-same ws (right (firstShown t) (every wayShown ws) h))
 
--- ---- ways are compared by computing
-
-abbrev code : Kind → ℕ
-code Unprintable = 0
-code Sheet = 1
-code Unit = 2
-code Rule = 3
-code Other = 4
-
-abbrev decode : ℕ → Kind
-decode n = cond (eqb n 0) Unprintable (cond (eqb n 1) Sheet (cond (eqb n 2) Unit (cond (eqb n 3) Rule Other)))
-
-decode-code : (k : Kind) → decode (code k) ≡ k
-decode-code Unprintable = refl
-decode-code Sheet = refl
-decode-code Unit = refl
-decode-code Rule = refl
-decode-code Other = refl
-
-code-eq : (j k : Kind) → T (eqb (code j) (code k)) → j ≡ k
-code-eq j k h = sym (decode-code j) ∙ ap decode (eqb→eq (code j) (code k) h) ∙ decode-code k
-
-eqBool→eq : (a b : Bool) → T (Bool·beq a b) → a ≡ b
-eqBool→eq true true h = refl
-eqBool→eq true false h = absurd h
-eqBool→eq false true h = absurd h
-eqBool→eq false false h = refl
-
-abbrev eqSigns : List Sign → List Sign → Bool
-eqSigns [] [] = true
-eqSigns [] (y ∷ u) = false
-eqSigns (x ∷ t) [] = false
-eqSigns (digits ∷ t) (digits ∷ u) = eqSigns t u
-eqSigns (digits ∷ t) (byte y ∷ u) = false
-eqSigns (byte x ∷ t) (digits ∷ u) = false
-eqSigns (byte x ∷ t) (byte y ∷ u) = eqb x y && eqSigns t u
-
-eqSigns→eq : (t u : List Sign) → T (eqSigns t u) → t ≡ u
-eqSigns→eq [] [] h = refl
-eqSigns→eq [] (y ∷ u) h = absurd h
-eqSigns→eq (digits ∷ t) [] h = absurd h
-eqSigns→eq (byte x ∷ t) [] h = absurd h
-eqSigns→eq (digits ∷ t) (digits ∷ u) h = ap (λ (v : List Sign). digits ∷ v) (eqSigns→eq t u h)
-eqSigns→eq (digits ∷ t) (byte y ∷ u) h = absurd h
-eqSigns→eq (byte x ∷ t) (digits ∷ u) h = absurd h
-eqSigns→eq (byte x ∷ t) (byte y ∷ u) h =
-    ap₂ (λ (z : ℕ) (v : List Sign). byte z ∷ v) (eqb→eq x y (left (eqb x y) (eqSigns t u) h)) (eqSigns→eq t u (right (eqb x y) (eqSigns t u) h))
-
-abbrev eqWays : List Way → List Way → Bool
-eqWays [] [] = true
-eqWays [] (w ∷ ws) = false
-eqWays (w ∷ ws) [] = false
-eqWays (way j r t ∷ vs) (way k s u ∷ ws) = eqb (code j) (code k) && (Bool·beq r s && (eqSigns t u && eqWays vs ws))
-
-eqWays→eq : (vs ws : List Way) → T (eqWays vs ws) → vs ≡ ws
-eqWays→eq [] [] h = refl
-eqWays→eq [] (w ∷ ws) h = absurd h
-eqWays→eq (way j r t ∷ vs) [] h = absurd h
-eqWays→eq (way j r t ∷ vs) (way k s u ∷ ws) h =
-    let p : j ≡ k = code-eq j k (left (eqb (code j) (code k)) _ h) in
-    let h₁ = right (eqb (code j) (code k)) _ h in
-    let q : r ≡ s = eqBool→eq r s (left (Bool·beq r s) _ h₁) in
-    let h₂ = right (Bool·beq r s) _ h₁ in
-    let o : t ≡ u = eqSigns→eq t u (left (eqSigns t u) _ h₂) in
-    let m : vs ≡ ws = eqWays→eq vs ws (right (eqSigns t u) _ h₂) in
-    cc
-
--- ---- the ways of each state
-
-abbrev isDigits : Sign → Bool
-isDigits digits = true
-isDigits (byte x) = false
-
--- after i signs of a form
-abbrev cut : Kind → List Piece → ℕ → Way
-cut k f i = way k (isDigits (getD (signs f) (i - 1) digits)) (drop i (signs f))
-
--- the forms share the start and the opening bracket; the states of each follow, in the order of the forms
-unfoldable waysOf : ℕ → List Way
-waysOf q =
-    cond (ltb q start) []
-    (cond (ltb q (start + 2)) (cut Sheet sheetForm (q - start) ∷ cut Unit unitForm (q - start) ∷ cut Rule ruleForm (q - start) ∷ [])
-    (cond (leb q sheetEnd) (cut Sheet sheetForm (q - 2) ∷ [])
-    (cond (leb q unitEnd) (cut Unit unitForm (q - 10) ∷ []) (cut Rule ruleForm (q - 28) ∷ []))))
-
--- A byte of class 0, and the state of unprintable lines, lead to that state. A byte of another class leads from any other state to the state of
--- the ways that go on over it.
-abbrev entryRight : ℕ → ℕ → Bool
-entryRight q c =
-    cond (eqb q unprintable) (eqb (nextOf q c) unprintable)
-    (cond (eqb c 0) (eqb (nextOf q c) unprintable)
-    (not (eqb (nextOf q c) unprintable) && (ltb (nextOf q c) states && eqWays (over (waysOf q) (stands c)) (waysOf (nextOf q c)))))
-
-entry-right : (q c : ℕ) → q < states → c < 19 → T (entryRight q c)
-unfolding grid over waysOf text
-entry-right q c hq hc = below 19 (λ j. entryRight q j) (below states (λ i. every (λ j. entryRight i j) (run 0 19)) tt q hq) c hc
-
-record Step (q c : ℕ) : Type 0 where
-  inside : nextOf q c < states
-  still : eqb (nextOf q c) unprintable ≡ false
-  ways : over (waysOf q) (stands c) ≡ waysOf (nextOf q c)
-
-stepped : (q c : ℕ) → q < states → c < 19 → eqb q unprintable ≡ false → eqb c 0 ≡ false → Step q c
-stepped q c hq hc hp hz =
-    let t : T (not (eqb (nextOf q c) unprintable) && (ltb (nextOf q c) states && eqWays (over (waysOf q) (stands c)) (waysOf (nextOf q c)))) = rw (hp, hz) at
-    (entry-right q c hq hc) in
-    let u = right (not (eqb (nextOf q c) unprintable)) _ t in
-    record {
-      inside = ltb→lt (nextOf q c) states (left (ltb (nextOf q c) states) _ u);
-      still = fails-false (eqb (nextOf q c) unprintable) (left (not (eqb (nextOf q c) unprintable)) _ t);
-      ways = eqWays→eq (over (waysOf q) (stands c)) (waysOf (nextOf q c)) (right (ltb (nextOf q c) states) _ u);
-    }
-
--- every entry of the grid is a state
-pub next-inside : (q c : ℕ) → q < states → c < 19 → nextOf q c < states
-unfolding grid
-next-inside q c hq hc =
-    ltb→lt (nextOf q c) states
-    (below 19 (λ j. ltb (nextOf q j) states) (below states (λ i. every (λ j. ltb (nextOf i j) states) (run 0 19)) tt q hq) c hc)
-
--- from the state of unprintable lines, and over a byte that is not printable
-kept-unprintable : (c : ℕ) → c < 19 → nextOf unprintable c ≡ unprintable
-kept-unprintable c hc = eqb→eq (nextOf unprintable c) unprintable (entry-right unprintable c (ltb→lt unprintable states tt) hc)
-
-met-unprintable : (q : ℕ) → q < states → nextOf q 0 ≡ unprintable
-met-unprintable q hq = eqb→eq (nextOf q 0) unprintable (go (eqb q unprintable) (entry-right q 0 hq (ltb→lt 0 19 tt)))
+follows-same : (s : State) → T (stateShown s) → (b : ℕ) → follows s (standIn b) ≡ follows s b
+follows-same unprintable h b = refl
+follows-same (going ws) h b =
+    ap (λ (p : Bool). cond p (going (over ws (standIn b))) unprintable) (stands-printable b) ∙ go (isPrintable b) refl
   where
-    go : (p : Bool) → T (cond p (eqb (nextOf q 0) unprintable) (eqb (nextOf q 0) unprintable)) → T (eqb (nextOf q 0) unprintable)
-    go true h = h
-    go false h = h
+    go : (p : Bool) → isPrintable b ≡ p → cond p (going (over ws (standIn b))) unprintable ≡ cond p (going (over ws b)) unprintable
+    go true e = ap going (over-same b e ws h)
+    go false e = refl
 
-all-shown : (q : ℕ) → q < states → T (shownFirsts (waysOf q))
-unfolding waysOf text
-all-shown q h = below states (λ i. shownFirsts (waysOf i)) tt q h
+-- ---- what has a place in a list is found there
 
--- where a line ends in a state, the state tells its form
-abbrev endRight : ℕ → Bool
-endRight q = cond (eqb q unprintable) true (eqb (code (kindAt q)) (code (firstOf (waysOf q) [])))
+module _ {A : Type 0} (same : A → A → Bool) (equal : (x y : A) → T (same x y) → x ≡ y) where
+  placed : (xs : List A) (x d : A) → T (memberBy same xs x) → getD xs (placeIn same xs x) d ≡ x
+  placed [] x d m = absurd m
+  placed (y ∷ ys) x d m = go (same y x) refl m (placed ys x d)
+    where
+      go : (e : Bool) → same y x ≡ e → T (e || memberBy same ys x) → (T (memberBy same ys x) → getD ys (placeIn same ys x) d ≡ x)
+          → getD (y ∷ ys) (cond e zero (suc (placeIn same ys x))) d ≡ x
+      go true e m h = equal y x (subst T (sym e) tt)
+      go false e m h = h m
 
-unless : (p t : Bool) → p ≡ false → T (cond p true t) → T t
-unless true t e h = absurd (subst T e tt)
-unless false t e h = h
+  place-inside : (xs : List A) (x : A) → T (memberBy same xs x) → placeIn same xs x < length xs
+  place-inside [] x m = absurd m
+  place-inside (y ∷ ys) x m = go (same y x) m (place-inside ys x)
+    where
+      go : (e : Bool) → T (e || memberBy same ys x) → (T (memberBy same ys x) → placeIn same ys x < length ys)
+          → cond e zero (suc (placeIn same ys x)) < suc (length ys)
+      go true m h = omega arith
+      go false m h = let k = h m in omega arith
 
-ends : (q : ℕ) → q < states → eqb q unprintable ≡ false → kindAt q ≡ firstOf (waysOf q) []
-unfolding waysOf firstOf kindAt fits leading past text
-ends q h e = code-eq (kindAt q) (firstOf (waysOf q) []) (unless (eqb q unprintable) _ e (below states endRight tt q h))
+  pub same-all : (xs ys : List A) → T (sameAll same xs ys) → xs ≡ ys
+  same-all [] [] h = refl
+  same-all [] (y ∷ ys) h = absurd h
+  same-all (x ∷ xs) [] h = absurd h
+  same-all (x ∷ xs) (y ∷ ys) h =
+      ap₂ (λ (z : A) (zs : List A). z ∷ zs) (equal x y (left (same x y) (sameAll same xs ys) h))
+      (same-all xs ys (right (same x y) (sameAll same xs ys) h))
 
-stays-unprintable : (l : List ℕ) → runOf unprintable l ≡ unprintable
-unfolding runOf
-stays-unprintable [] = refl
-stays-unprintable (b ∷ l) = ap (λ (q : ℕ). runOf q l) (kept-unprintable (classOf b) (class-small b)) ∙ stays-unprintable l
+stands-in : (b : ℕ) → T (memberBy eqb classBytes (standIn b))
+unfolding standIn classBytes text
+stands-in b = go (isPrintable b) (isDigit b) (memberBy eqb classBytes b) refl
+  where
+    go : (p d m : Bool) → memberBy eqb classBytes b ≡ m → T (memberBy eqb classBytes (cond p (cond d zeroDigit (cond m b otherByte)) 0))
+    go false d m e = tt
+    go true true m e = tt
+    go true false true e = subst T (sym e) tt
+    go true false false e = tt
 
-class-unprintable : (b : ℕ) → isPrintable b ≡ false → classOf b ≡ 0
+pub class-small : (b : ℕ) → classOf b < length classBytes
 unfolding classOf
-class-unprintable b p = rw p refl
+class-small b = place-inside eqb eqb→eq classBytes (standIn b) (stands-in b)
 
-class-printable : (b : ℕ) → isPrintable b ≡ true → eqb (classOf b) 0 ≡ false
-unfolding classOf place
-class-printable b p = rw p (go (isDigit b) (member b classBytes) (eqb 0 b) refl)
-  where
-    go : (d e z : Bool) → eqb 0 b ≡ z → eqb (cond d 5 (cond e (cond z zero (suc (place (drop 1 classBytes) b))) 1)) 0 ≡ false
-    go true e z q = refl
-    go false false z q = refl
-    go false true false q = eqb·suc-zero (place (drop 1 classBytes) b)
-    go false true true q = absurd (subst T (sym (ap isPrintable (eqb-true 0 b q) ∙ p)) tt)
+pub few-classes : length classBytes < 256
+unfolding classBytes text
+few-classes = ltb→lt (length classBytes) 256 tt
 
--- from a state on: unprintable where a byte is, and else the form of the first way that the rest of the line goes
-abbrev Runs : List ℕ → Type 0
-Runs l = (q : ℕ) → q < states → eqb q unprintable ≡ false → kindAt (runOf q l) ≡ cond (printable l) (firstOf (waysOf q) l) Unprintable
+class-byte : (b : ℕ) → getD classBytes (classOf b) 0 ≡ standIn b
+unfolding classOf
+class-byte b = placed eqb eqb→eq classBytes (standIn b) 0 (stands-in b)
 
-runs : (l : List ℕ) → Runs l
-unfolding runOf printable kindAt
-runs [] q h e = ends q h e
-runs (b ∷ l) q h e = go (isPrintable b) refl (λ r i n. runs l r i n)
-  where
-    go : (p : Bool) → isPrintable b ≡ p → Runs l → kindAt (runOf (nextOf q (classOf b)) l) ≡ cond (p && printable l) (firstOf (waysOf q) (b ∷ l)) Unprintable
-    go false p rest =
-        let z : nextOf q (classOf b) ≡ unprintable = ap (nextOf q) (class-unprintable b p) ∙ met-unprintable q h in
-        ap (λ (r : ℕ). kindAt (runOf r l)) z ∙ ap kindAt (stays-unprintable l)
-    go true p rest =
-        let s = stepped q (classOf b) h (class-small b) e (class-printable b p) in
-        rest (nextOf q (classOf b)) (s .inside) (s .still)
-        ∙ ap (λ (ws : List Way). cond (printable l) (firstOf ws l) Unprintable) (sym (over-same b p (waysOf q) (all-shown q h) ∙ s .ways))
-        ∙ ap (λ (k : Kind). cond (printable l) k Unprintable) (over-law (waysOf q) b l)
+-- ---- states are compared by computing
+
+coded : {A : Type 0} (toCode : A → ℕ) (ofCode : ℕ → A) → ((x : A) → ofCode (toCode x) ≡ x) → (x y : A) → T (eqb (toCode x) (toCode y)) → x ≡ y
+coded toCode ofCode back x y h = sym (back x) ∙ ap ofCode (eqb→eq (toCode x) (toCode y) h) ∙ back y
+
+abbrev kindOfCode : ℕ → Kind
+kindOfCode n = cond (eqb n 0) Unprintable (cond (eqb n 1) Sheet (cond (eqb n 2) Unit (cond (eqb n 3) Rule Other)))
+
+kind-back : (k : Kind) → kindOfCode (code k) ≡ k
+kind-back Unprintable = refl
+kind-back Sheet = refl
+kind-back Unit = refl
+kind-back Rule = refl
+kind-back Other = refl
+
+pub same-kind : (j k : Kind) → T (sameKind j k) → j ≡ k
+same-kind j k h = coded code kindOfCode kind-back j k h
+
+abbrev signOfCode : ℕ → Sign
+signOfCode zero = digit
+signOfCode (suc zero) = more
+signOfCode (suc (suc x)) = byte x
+
+sign-back : (s : Sign) → signOfCode (signCode s) ≡ s
+sign-back digit = refl
+sign-back more = refl
+sign-back (byte x) = refl
+
+same-way : (v w : Way) → T (sameWay v w) → v ≡ w
+same-way (way j t) (way k u) h =
+    ap₂ way (same-kind j k (left (sameKind j k) (sameAll sameSign t u) h))
+    (same-all sameSign (coded signCode signOfCode sign-back) t u (right (sameKind j k) (sameAll sameSign t u) h))
+
+same-state : (r s : State) → T (sameState r s) → r ≡ s
+same-state unprintable unprintable h = refl
+same-state unprintable (going ws) h = absurd h
+same-state (going vs) unprintable h = absurd h
+same-state (going vs) (going ws) h = ap going (same-all sameWay same-way vs ws h)
+
+-- ---- the grid follows the states
+
+-- what a state looks at has a class of its own, and every state that follows has a number
+abbrev tested : State → Bool
+tested s = stateShown s && every (λ b. memberBy sameState states (follows s b)) classBytes
+
+numbered : T (every tested states)
+unfolding states over classBytes text
+numbered = tt
+
+at-map : {A B : Type 0} (f : A → B) (xs : List A) (i : ℕ) (d : A) (e : B) → i < length xs → getD (map f xs) i e ≡ f (getD xs i d)
+at-map f [] i d e h = absurd (omega arith)
+at-map f (x ∷ xs) zero d e h = refl
+at-map f (x ∷ xs) (suc i) d e h = at-map f xs i d e (omega arith)
+
+abbrev following : ℕ → ℕ → State
+following q c = follows (stateAt q) (getD classBytes c 0)
+
+module _ (q : ℕ) (hq : q < length states) where
+  state-tested : T (tested (stateAt q))
+  state-tested = every-at tested (going []) states numbered q hq
+
+  module _ (c : ℕ) (hc : c < length classBytes) where
+    next-is : nextOf q c ≡ placeOf (following q c)
+    unfolding grid
+    next-is =
+        ap (λ (row : List ℕ). getD row c 0) (at-map (λ s. map (λ b. placeOf (follows s b)) classBytes) states q (going []) [] hq)
+        ∙ at-map (λ b. placeOf (follows (stateAt q) b)) classBytes c 0 0 hc
+
+    next-member : T (memberBy sameState states (following q c))
+    next-member = every-at (λ b. memberBy sameState states (follows (stateAt q) b)) 0 classBytes (right (stateShown (stateAt q)) _ state-tested) c hc
+
+    pub next-inside : nextOf q c < length states
+    next-inside = rw next-is (place-inside sameState same-state states (following q c) next-member)
+
+    next-state : stateAt (nextOf q c) ≡ following q c
+    next-state = rw next-is (placed sameState same-state states (following q c) (going []) next-member)
+
+reads : (l : List ℕ) (q : ℕ) → q < length states → kindAt (runOf q l) ≡ kindFrom (stateAt q) l
+unfolding runOf kindAt
+reads [] q h = refl
+reads (b ∷ l) q h =
+    let c = class-small b in
+    reads l (nextOf q (classOf b)) (next-inside q h (classOf b) c)
+    ∙ ap (λ (s : State). kindFrom s l)
+    (next-state q h (classOf b) c ∙ ap (follows (stateAt q)) (class-byte b)
+    ∙ follows-same (stateAt q) (left (stateShown (stateAt q)) _ (state-tested q h)) b)
+    ∙ follows-law (stateAt q) b l
+
+shapes-fit : (ss : List Shape) (l : List ℕ) → firstOf (startWays ss) l ≡ firstShape ss l
+unfolding firstOf
+shapes-fit [] l = refl
+shapes-fit (s ∷ ss) l = ap₂ (λ (m : Bool) (k : Kind). cond m (s .kind) k) (signs-fit (s .form) l) (shapes-fit ss l)
+
+pub start-inside : start < length states
+unfolding states over text
+start-inside = ltb→lt start (length states) tt
 
 -- the state after a line tells what the line is
 pub grid-reads : (l : List ℕ) → kindAt (runOf start l) ≡ kindOf l
-unfolding kindOf formOf firstOf waysOf fits text
-grid-reads l = rw (← signs-fit sheetForm l, ← signs-fit unitForm l, ← signs-fit ruleForm l) (runs l start (ltb→lt start states tt) refl)
+unfolding kindOf states over text
+grid-reads l = reads l start start-inside ∙ ap (λ (k : Kind). cond (printable l) k Unprintable) (shapes-fit shapes l)

@@ -8,5 +8,10 @@ use Rattle.read_form.specs.declared.Number.{Number}
 use Rattle.read_form.specs.declared.Number.the-variants.{Plain, Faulty}
 
 -- the number with these digits, which starts at a place
-unfoldable pub numberOf : List ℕ → ℕ → Number
-numberOf digits at = cond (plain digits) (Plain (value digits) (at + length digits)) Faulty
+unfoldable pub numberRead : List ℕ → ℕ → Number
+numberRead digits at = cond (plain digits) (Plain (value digits) (at + length digits)) Faulty
+
+-- the place past a number
+abbrev pub numberEnd : Number → ℕ
+numberEnd (Plain v next) = next
+numberEnd Faulty = 0

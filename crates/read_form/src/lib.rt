@@ -1,15 +1,18 @@
 ghost use mathlib.Core.Path.{_≡_};
 ghost use mathlib.Core.Bool.{true, false};
 ghost use Prim.Native.Nat.{_+_, _-_, _<_, _≤_};
-ghost use lib.ListN.{drop};
+ghost use lib.ListN.{length, drop};
 ghost use Rattle.forms.specs.Form.{isDigit, leading};
-ghost use Rattle.read_form.specs.Grid.{grid, classes, states, nextOf, classOf, kindAt, Tables};
-ghost use Rattle.read_form.specs.Number.{numberOf};
+ghost use Rattle.read_form.specs.Grid.{grid, classes, states, classBytes, nextOf, classOf, kindAt, Tables};
+ghost use Rattle.read_form.specs.Number.{numberRead, numberEnd};
 
-mod tables;
+pub mod tables;
+
+// The state that follows each state over each class of bytes.
+pub type Grid = [[u8; tables::CLASSES]; tables::STATES];
 
 // The two tables. A caller takes each once and lends it: a constant array that is indexed is rebuilt at each use.
-pub fn grid_table() -> [[u8; 19]; 59]
+pub fn grid_table() -> Grid
     ensures { λ r. ⌜ r ≡ grid ⌝ }
 {
     tables::GRID
@@ -18,11 +21,8 @@ pub fn grid_table() -> [[u8; 19]; 59]
 pub fn class_table() -> [u8; 256]
     ensures { λ r. ⌜ r ≡ classes ⌝ }
 {
-    tables::CLASSES
+    tables::CLASS_OF
 }
-
-// The state in which the first byte of a line is read.
-pub const START: usize = 2;
 
 // What a line is, as far as its bytes alone tell.
 pub enum Kind {
@@ -35,16 +35,16 @@ pub enum Kind {
 
 fn class_of(table: &[u8; 256], b: u8) -> usize
     requires { ⌜ now table ≡ classes ⌝ }
-    ensures { λ r. ⌜ (r ≡ classOf b) × (r < 19) ⌝ }
+    ensures { λ r. ⌜ (r ≡ classOf b) × (r < length classBytes) ⌝ }
 {
     let c = table[b as usize];
     c as usize
 }
 
 // One step of the form reader: the state after one byte more.
-pub fn next_state(grid: &[[u8; 19]; 59], table: &[u8; 256], state: usize, b: u8) -> usize
-    requires { ⌜ Tables (now grid) (now table) × (state < states) ⌝ }
-    ensures { λ r. ⌜ (r ≡ nextOf state (classOf b)) × (r < states) ⌝ }
+pub fn next_state(grid: &Grid, table: &[u8; 256], state: usize, b: u8) -> usize
+    requires { ⌜ Tables (now grid) (now table) × (state < length states) ⌝ }
+    ensures { λ r. ⌜ (r ≡ nextOf state (classOf b)) × (r < length states) ⌝ }
 {
     let c = class_of(table, b);
     let next = grid[state][c];
@@ -53,13 +53,14 @@ pub fn next_state(grid: &[[u8; 19]; 59], table: &[u8; 256], state: usize, b: u8)
 
 // What the line is whose last byte led to a state.
 pub fn kind_at(state: usize) -> Kind
+    requires { ⌜ state < length states ⌝ }
     ensures { λ r. ⌜ r ≡ kindAt state ⌝ }
 {
     match state {
-        1 => Kind::Unprintable,
-        11 => Kind::Sheet,
-        29 => Kind::Unit,
-        58 => Kind::Rule,
+        tables::UNPRINTABLE => Kind::Unprintable,
+        tables::SHEET_END => Kind::Sheet,
+        tables::UNIT_END => Kind::Unit,
+        tables::RULE_END => Kind::Rule,
         _ => Kind::Other,
     }
 }
@@ -91,7 +92,8 @@ const MAX_PREFIX: u16 = 999;
 
 // The number whose digits start at a place.
 pub fn number_at(s: &[u8], at: usize) -> Number
-    ensures { λ r. ⌜ r ≡ numberOf (leading (drop at (now (s .entry)))) at ⌝ }
+    ensures { λ r. ⌜ r ≡ numberRead (leading (drop at (now (s .entry)))) at ⌝ }
+    ensures { λ r. ⌜ numberEnd r ≤ length (now (s .entry)) ⌝ }
 {
     if s.len() <= at {
         return Number::Faulty;

@@ -1,24 +1,25 @@
--- What the answers of the number and note readers mean for the definition of a line.
--- Key idea: a number's answer says that its digits are plain, its value, and its end; the text past its digits is the text from that end on. So the
--- places at which the code reads are those at which `numbers` cuts the line.
+-- What the code of a line reads and asks is what the definition of a line says.
+-- Key idea: the text past a number's digits is the text from the number's end on (`past-at`), so the code reads where `numbers` cuts the line, and
+-- what it says of each answer is one equation a form (`sheet-said`, `unit-said`, `rule-said`). The questions in the code's order are `lineOf` (`asked`).
 use Prim.Native.Nat.{ℕ, zero, suc, _+_, _-_, _≤_, _<_}
-use mathlib.Core.Path.{_≡_, refl, sym, ap, _∙_}
-use mathlib.Core.Bool.{Bool, true, false, _&&_, cond, and-true, and-assoc}
+use mathlib.Core.Path.{_≡_, refl, sym, ap, subst, _∙_}
+use mathlib.Core.Bool.{Bool, true, false, _&&_, cond}
 use mathlib.Core.List.{List, [], _∷_}
 use native.Mathlib.Omega.{arith}
 use native.Mathlib.Numerals.{add-one}
-use lib.ListN.{length, getD, drop, length-drop, drop-of-length-le}
+use lib.ListN.{length, getD, drop, drop-of-length-le}
 use lib.Seq.{drop-cons, drop-drop}
 use lib.Dec.{eqb}
 use borrow.Author.Tests.{eq-eqb, ne-eqb}
 use Rattle.forms.specs.Words.{lineFeed, text}
-use Rattle.forms.specs.Form.{printable, leading, past, plain, value, startsWith, matches, numbers}
+use Rattle.forms.specs.Form.{printable, leading, past, plain, value, Piece, word, number, startsWith, matches, numbers}
 use Rattle.forms.specs.Forms.{sheetForm, unitForm, ruleForm}
 use Rattle.read_form.specs.Kinds.{formOf, kindOf}
-use Rattle.forms.specs.FormLaws.{past-drop, leading-short, false-not-true}
+use Rattle.forms.specs.FormLaws.{past-drop}
+use Rattle.lists.specs.Members.{false-not-true}
 use Rattle.read_form.specs.Grid.{runOf, kindAt, nextOf, classOf, start, states}
 use Rattle.read_form.specs.GridLaws.{grid-reads}
-use Rattle.read_form.specs.Number.{numberOf}
+use Rattle.read_form.specs.Number.{numberRead}
 use Rattle.read_form.specs.declared.Number.{Number}
 use Rattle.read_form.specs.declared.Number.the-variants as Number
 use Rattle.read_form.specs.declared.Kind.{Kind}
@@ -28,9 +29,11 @@ use Rattle.read_notes.specs.ReaderLaws.{list-matched}
 use Rattle.read_notes.specs.declared.End.the-variants as End
 use Rattle.forms.specs.Lines.{firstLine}
 use Rattle.forms.specs.LinesLaws.{lineEnd}
-use Rattle.read_line.specs.Content.{Content, isNote, noteMatched, bracketsMatch, contentOf, sheetWith, unitWith, ruleWith}
-use Rattle.read_line.specs.Line.{said, lineOf, pairOf, formContent, printableKind}
+use Rattle.read_line.specs.Content.{Content, isNote, noteMatched, bracketsMatch, contentOf, sheetContent, unitContent, ruleContent, formContent}
+use Rattle.read_line.specs.Line.{said, lineOf, pairOf, printableKind}
+use Rattle.read_line.specs.declared.Line.{Line}
 use Rattle.read_line.specs.declared.Line.the-variants.{Refused, Note, Sheet, Unit, Rule}
+use Rattle.read_line.specs.declared.Pair.{Pair}
 use Rattle.read_line.specs.declared.Pair.the-variants.{Both, Faulty}
 
 -- ---- the scan: the states that are left to run through give the line's kind, and the place goes with its length
@@ -63,8 +66,8 @@ module _ (t : List ℕ) (i q : ℕ) where
 
 -- at the place i in the state q: what is left leads to the line's end and kind
 pub record Scanning (t : List ℕ) (at i q : ℕ) : Type 0 where
-  pub place : i ≤ length t
-  pub inside : q < states
+  pub within : i ≤ length t
+  pub inside : q < length states
   pub end : lineEnd t i ≡ lineEnd t at
   pub kind : runsOn t i q ≡ runsOn t at start
 
@@ -87,167 +90,135 @@ module _ (w s : List ℕ) (i : ℕ) where
   pub word-same : i < length w → i < length s → getD s i 0 ≡ getD w i 0 → startsWith (drop (i + 1) w) (drop (i + 1) s) ≡ startsWith (drop i w) (drop i s)
   word-same h k e = rw (add-one i) (rw (drop-cons w i 0 h) (rw (drop-cons s i 0 k) (simp (eq-eqb (getD w i 0) (getD s i 0) (sym e)))))
 
--- ---- a number that was read
-
-pub record Got (digits : List ℕ) (at v next : ℕ) : Type 0 where
-  pub is-plain : plain digits ≡ true
-  pub is-value : v ≡ value digits
-  pub is-end : next ≡ at + length digits
-
-pub got : (digits : List ℕ) (at v next : ℕ) → numberOf digits at ≡ Number.Plain v next → Got digits at v next
-unfolding numberOf
-got digits at v next h = go (plain digits) refl h
-  where
-    go : (p : Bool) → plain digits ≡ p → cond p (Number.Plain (value digits) (at + length digits)) Number.Faulty ≡ Number.Plain v next → Got digits at v next
-    go true e h = record { is-plain = e; is-value = cc; is-end = cc }
-    go false e h = let z : _≡_ {A = ℕ} 0 1 = cc in absurd (omega arith)
-
-pub got-none : (digits : List ℕ) (at : ℕ) → numberOf digits at ≡ Number.Faulty → plain digits ≡ false
-unfolding numberOf
-got-none digits at h = go (plain digits) refl h
-  where
-    go : (p : Bool) → plain digits ≡ p → cond p (Number.Plain (value digits) (at + length digits)) Number.Faulty ≡ Number.Faulty → plain digits ≡ false
-    go true e h = let z : _≡_ {A = ℕ} 0 1 = cc in absurd (omega arith)
-    go false e h = e
-
-plain-some : (digits : List ℕ) → plain digits ≡ true → 1 ≤ length digits
-unfolding plain
-plain-some [] h = false-not-true h
-plain-some (b ∷ l) h = omega arith
-
--- a number's digits stand within the text
-pub number-within : (s : List ℕ) (at : ℕ) → plain (leading (drop at s)) ≡ true → at + length (leading (drop at s)) ≤ length s
-number-within s at h = omega (arith, plain-some (leading (drop at s)) h, leading-short (drop at s), length-drop at s)
+-- ---- numbers, where the code reads them
 
 -- the text past a number's digits, from k bytes on
-past-at : (s : List ℕ) (at next : ℕ) → next ≡ at + length (leading (drop at s)) → (k : ℕ) → drop k (past (drop at s)) ≡ drop (next + k) s
-past-at s at next e k =
-    ap (drop k) (past-drop (drop at s) ∙ drop-drop (length (leading (drop at s))) at s ∙ ap (λ (j : ℕ). drop j s) (sym e)) ∙ drop-drop k next s
+past-at : (s : List ℕ) (at k : ℕ) → drop (at + length (leading (drop at s)) + k) s ≡ drop k (past (drop at s))
+past-at s at k =
+    sym (ap (drop k) (past-drop (drop at s) ∙ drop-drop (length (leading (drop at s))) at s) ∙ drop-drop k (at + length (leading (drop at s))) s)
 
--- ---- two numbers
+abbrev pub numberAt : List ℕ → ℕ → Number
+numberAt s at = numberRead (leading (drop at s)) at
 
-module _ (s : List ℕ) (at v middle : ℕ) (g : numberOf (leading (drop at s)) at ≡ Number.Plain v middle) where
-  pub first-within : middle ≤ length s
-  first-within = let p = got (leading (drop at s)) at v middle g in omega (arith, number-within s at (p .is-plain))
+abbrev withSecond : ℕ → Number → Pair
+withSecond v (Number.Plain w next) = Both v w next
+withSecond v Number.Faulty = Faulty
 
-  pub pair-both : (w next : ℕ) → numberOf (leading (drop (middle + 1) s)) (middle + 1) ≡ Number.Plain w next → Both v w next ≡ pairOf (drop at s) at
-  unfolding pairOf
-  pair-both w next h =
-      let p = got (leading (drop at s)) at v middle g in
-      let q = got (leading (drop (middle + 1) s)) (middle + 1) w next h in
-      let a : next ≡ at + length (leading (drop at s)) + 1 + length (leading (drop (middle + 1) s)) = omega arith in
-      rw (past-at s at middle (p .is-end) 1) (simp (p .is-plain, q .is-plain, ← p .is-value, ← q .is-value, ← a))
+-- two numbers, one after the other
+abbrev inTurn : Number → (ℕ → Number) → Pair
+inTurn (Number.Plain v next) f = withSecond v (f next)
+inTurn Number.Faulty f = Faulty
 
-  pub pair-second : numberOf (leading (drop (middle + 1) s)) (middle + 1) ≡ Number.Faulty → Faulty ≡ pairOf (drop at s) at
-  unfolding pairOf
-  pair-second h =
-      let p = got (leading (drop at s)) at v middle g in
-      rw (past-at s at middle (p .is-end) 1) (simp (p .is-plain, got-none (leading (drop (middle + 1) s)) (middle + 1) h))
-
-pub pair-first : (s : List ℕ) (at : ℕ) → numberOf (leading (drop at s)) at ≡ Number.Faulty → Faulty ≡ pairOf (drop at s) at
-unfolding pairOf
-pair-first s at h = simp (got-none (leading (drop at s)) at h)
-
-abbrev secondOf : List ℕ → List ℕ
-secondOf l = leading (drop 1 (past l))
-
-record GotTwo (l : List ℕ) (at v w next : ℕ) : Type 0 where
-  first-plain : plain (leading l) ≡ true
-  second-plain : plain (secondOf l) ≡ true
-  first-value : v ≡ value (leading l)
-  second-value : w ≡ value (secondOf l)
-  is-end : next ≡ at + length (leading l) + 1 + length (secondOf l)
-
-got-two : (l : List ℕ) (at v w next : ℕ) → pairOf l at ≡ Both v w next → GotTwo l at v w next
-unfolding pairOf
-got-two l at v w next h = go (plain (leading l)) (plain (secondOf l)) refl refl h
+second-law : (v : ℕ) (digits : List ℕ) (at : ℕ)
+    → withSecond v (numberRead digits at) ≡ cond (plain digits) (Both v (value digits) (at + length digits)) Faulty
+unfolding numberRead
+second-law v digits at = go (plain digits) (value digits) (at + length digits)
   where
-    go : (p q : Bool) → plain (leading l) ≡ p → plain (secondOf l) ≡ q
-        → cond (p && q) (Both (value (leading l)) (value (secondOf l)) (at + length (leading l) + 1 + length (secondOf l))) Faulty ≡ Both v w next
-        → GotTwo l at v w next
-    go true true e f h = record { first-plain = e; second-plain = f; first-value = cc; second-value = cc; is-end = cc }
-    go true false e f h = let z : _≡_ {A = ℕ} 0 1 = cc in absurd (omega arith)
-    go false q e f h = let z : _≡_ {A = ℕ} 0 1 = cc in absurd (omega arith)
+    go : (p : Bool) (w n : ℕ) → withSecond v (cond p (Number.Plain w n) Number.Faulty) ≡ cond p (Both v w n) Faulty
+    go true w n = refl
+    go false w n = refl
 
-got-no-two : (l : List ℕ) (at : ℕ) → pairOf l at ≡ Faulty → (plain (leading l) && plain (secondOf l)) ≡ false
-unfolding pairOf
-got-no-two l at h = go (plain (leading l) && plain (secondOf l)) refl h
+abbrev secondOf : ℕ → List ℕ → List ℕ
+secondOf k l = leading (drop k (past l))
+
+pub pair-law : (s : List ℕ) (k at : ℕ) → inTurn (numberAt s at) (λ next. numberAt s (next + k)) ≡ pairOf (drop at s) k at
+unfolding pairOf numberRead
+pair-law s k at = go (plain (leading (drop at s)))
   where
-    go : (p : Bool) → (plain (leading l) && plain (secondOf l)) ≡ p
-        → cond p (Both (value (leading l)) (value (secondOf l)) (at + length (leading l) + 1 + length (secondOf l))) Faulty ≡ Faulty
-        → (plain (leading l) && plain (secondOf l)) ≡ false
-    go true e h = let z : _≡_ {A = ℕ} 0 1 = cc in absurd (omega arith)
-    go false e h = e
+    go : (p : Bool) → let l = drop at s in
+        inTurn (cond p (Number.Plain (value (leading l)) (at + length (leading l))) Number.Faulty) (λ next. numberAt s (next + k))
+        ≡ cond (p && plain (secondOf k l)) (Both (value (leading l)) (value (secondOf k l)) (at + length (leading l) + k + length (secondOf k l))) Faulty
+    go true = rw (past-at s at k) (second-law (value (leading (drop at s))) (secondOf k (drop at s)) (at + length (leading (drop at s)) + k))
+    go false = refl
 
 -- ---- the three forms
 
-pub sheet-read : (s : List ℕ) (v next : ℕ) → numberOf (leading (drop 7 s)) 7 ≡ Number.Plain v next → Sheet v ≡ said (sheetWith (numbers sheetForm s))
-unfolding said numbers text
-sheet-read s v next h = let p = got (leading (drop 7 s)) 7 v next h in simp (p .is-plain, ← p .is-value)
+-- how long a form's words are
+abbrev wordLengths : List Piece → List ℕ
+wordLengths [] = []
+wordLengths (word w ∷ f) = length w ∷ wordLengths f
+wordLengths (number ∷ f) = wordLengths f
 
-pub sheet-faulty : (s : List ℕ) → numberOf (leading (drop 7 s)) 7 ≡ Number.Faulty → Refused 4 ≡ said (sheetWith (numbers sheetForm s))
-unfolding said numbers text
-sheet-faulty s h = simp (got-none (leading (drop 7 s)) 7 h)
+abbrev wordLength : List Piece → ℕ → ℕ
+wordLength f i = getD (wordLengths f) i 0
 
-pub unit-read : (s : List ℕ) (v w next : ℕ) → pairOf (drop 14 s) 14 ≡ Both v w next → Unit v w ≡ said (unitWith (numbers unitForm s))
-unfolding said numbers text
-unit-read s v w next h =
-    let p = got-two (drop 14 s) 14 v w next h in
-    simp (p .first-plain, p .second-plain, ← p .first-value, ← p .second-value)
+-- what the code says of the numbers that it reads
+abbrev sheetSays : Number → Line
+sheetSays (Number.Plain v next) = Sheet v
+sheetSays Number.Faulty = Refused 4
 
-and-last : (p q : Bool) → (p && (q && true)) ≡ (p && q)
-and-last p q = simp (and-true q)
+abbrev unitSays : Pair → Line
+unitSays (Both v w next) = Unit v w
+unitSays Faulty = Refused 4
 
-pub unit-faulty : (s : List ℕ) → pairOf (drop 14 s) 14 ≡ Faulty → Refused 4 ≡ said (unitWith (numbers unitForm s))
-unfolding said numbers text
-unit-faulty s h = simp (and-last, got-no-two (drop 14 s) 14 h)
+abbrev countSays : ℕ → ℕ → Pair → Line
+countSays v w (Both x y next) = Rule v w x y
+countSays v w Faulty = Refused 4
 
-module _ (s : List ℕ) (v w next : ℕ) (h : pairOf (drop 13 s) 13 ≡ Both v w next) where
-  stretch : GotTwo (drop 13 s) 13 v w next
-  stretch = got-two (drop 13 s) 13 v w next h
+abbrev ruleSays : Pair → (ℕ → Pair) → Line
+ruleSays (Both v w next) f = countSays v w (f next)
+ruleSays Faulty f = Refused 4
 
-  second-at : drop 1 (past (drop 13 s)) ≡ drop (13 + length (leading (drop 13 s)) + 1) s
-  second-at = past-at s 13 (13 + length (leading (drop 13 s))) refl 1
+pub sheet-said : (s : List ℕ) → sheetSays (numberAt s (wordLength sheetForm 0)) ≡ said (sheetContent s)
+unfolding said numbers numberRead
+sheet-said s = go (plain (leading (drop (wordLength sheetForm 0) s))) _ _
+  where
+    go : (p : Bool) (v n : ℕ) → sheetSays (cond p (Number.Plain v n) Number.Faulty) ≡ cond (p && true) (Sheet v) (Refused 4)
+    go true v n = refl
+    go false v n = refl
 
-  pub stretch-within : next ≤ length s
-  stretch-within =
-      let p = stretch in
-      let e = ap leading second-at in
-      let k = number-within s (13 + length (leading (drop 13 s)) + 1) (ap plain (sym e) ∙ p .second-plain) in
-      omega (arith, ap length e)
+pub unit-said : (s : List ℕ) → let a = wordLength unitForm 0 in unitSays (pairOf (drop a s) (wordLength unitForm 1) a) ≡ said (unitContent s)
+unfolding said numbers pairOf
+unit-said s = go (plain _) (plain _) _ _ _
+  where
+    go : (p q : Bool) (v w n : ℕ) → unitSays (cond (p && q) (Both v w n) Faulty) ≡ cond (p && (q && true)) (Unit v w) (Refused 4)
+    go true true v w n = refl
+    go true false v w n = refl
+    go false q v w n = refl
 
-  count-at : drop 9 (past (drop 1 (past (drop 13 s)))) ≡ drop (next + 9) s
-  count-at =
-      let e : next ≡ 13 + length (leading (drop 13 s)) + 1 + length (leading (drop (13 + length (leading (drop 13 s)) + 1) s)) = stretch .is-end
-      ∙ ap (λ (l : List ℕ). 13 + length (leading (drop 13 s)) + 1 + length (leading l)) second-at in
-      ap (λ (l : List ℕ). drop 9 (past l)) second-at ∙ past-at s (13 + length (leading (drop 13 s)) + 1) next e 9
+-- the text past two numbers, from c bytes on
+past-two : (s : List ℕ) (a b c : ℕ)
+    → drop (a + length (leading (drop a s)) + b + length (leading (drop b (past (drop a s)))) + c) s ≡ drop c (past (drop b (past (drop a s))))
+past-two s a b c =
+    let n = a + length (leading (drop a s)) + b in
+    subst (λ (l : List ℕ). drop (n + length (leading l) + c) s ≡ drop c (past l)) (past-at s a b) (past-at s n c)
 
-  pub rule-read : (x y end : ℕ) → pairOf (drop (next + 9) s) (next + 9) ≡ Both x y end → Rule v w x y ≡ said (ruleWith (numbers ruleForm s))
-  unfolding said numbers text
-  rule-read x y end k =
-      let p = stretch in
-      let q = got-two (drop (next + 9) s) (next + 9) x y end k in
-      simp (
-        count-at,
-        p .first-plain,
-        p .second-plain,
-        q .first-plain,
-        q .second-plain,
-        ← p .first-value,
-        ← p .second-value,
-        ← q .first-value,
-        ← q .second-value,
-      )
+count-law : (v w : ℕ) (l : List ℕ) (k at : ℕ) → countSays v w (pairOf l k at)
+    ≡ cond (plain (leading l) && (plain (secondOf k l) && true)) (Rule v w (value (leading l)) (value (secondOf k l))) (Refused 4)
+unfolding pairOf
+count-law v w l k at = go (plain (leading l)) (plain (secondOf k l)) _ _ _
+  where
+    go : (p q : Bool) (x y n : ℕ) → countSays v w (cond (p && q) (Both x y n) Faulty) ≡ cond (p && (q && true)) (Rule v w x y) (Refused 4)
+    go true true x y n = refl
+    go true false x y n = refl
+    go false q x y n = refl
 
-  pub count-faulty : pairOf (drop (next + 9) s) (next + 9) ≡ Faulty → Refused 4 ≡ said (ruleWith (numbers ruleForm s))
-  unfolding said numbers text
-  count-faulty k =
-      let p = stretch in
-      simp (count-at, p .first-plain, p .second-plain, and-last, got-no-two (drop (next + 9) s) (next + 9) k)
+two-pairs : (s : List ℕ) (a b c d : ℕ) →
+    let l = drop a s in
+    let t = drop c (past (drop b (past l))) in
+    ruleSays (pairOf l b a) (λ next. pairOf (drop (next + c) s) d (next + c))
+    ≡ cond (plain (leading l) && (plain (secondOf b l) && (plain (leading t) && (plain (secondOf d t) && true))))
+    (Rule (value (leading l)) (value (secondOf b l)) (value (leading t)) (value (secondOf d t))) (Refused 4)
+unfolding pairOf
+two-pairs s a b c d = go (plain (leading (drop a s))) (plain (secondOf b (drop a s)))
+  where
+    go : (p q : Bool) →
+        let l = drop a s in
+        let t = drop c (past (drop b (past l))) in
+        ruleSays (cond (p && q) (Both (value (leading l)) (value (secondOf b l)) (a + length (leading l) + b + length (secondOf b l))) Faulty)
+        (λ next. pairOf (drop (next + c) s) d (next + c))
+        ≡ cond (p && (q && (plain (leading t) && (plain (secondOf d t) && true))))
+        (Rule (value (leading l)) (value (secondOf b l)) (value (leading t)) (value (secondOf d t))) (Refused 4)
+    go true true = rw (past-two s a b c) (count-law _ _ (drop c (past (drop b (past (drop a s))))) d _)
+    go true false = refl
+    go false q = refl
 
-pub stretch-faulty : (s : List ℕ) → pairOf (drop 13 s) 13 ≡ Faulty → Refused 4 ≡ said (ruleWith (numbers ruleForm s))
-unfolding said numbers text
-stretch-faulty s h = simp (← and-assoc, got-no-two (drop 13 s) 13 h)
+pub rule-said : (s : List ℕ) →
+    let a = wordLength ruleForm 0 in
+    let c = wordLength ruleForm 2 in
+    ruleSays (pairOf (drop a s) (wordLength ruleForm 1) a) (λ next. pairOf (drop (next + c) s) (wordLength ruleForm 3) (next + c)) ≡ said (ruleContent s)
+unfolding said numbers
+rule-said s = two-pairs s (wordLength ruleForm 0) (wordLength ruleForm 1) (wordLength ruleForm 2) (wordLength ruleForm 3)
 
 -- ---- a note's end
 
@@ -275,60 +246,38 @@ note-some (b ∷ l) h = omega arith
 
 -- ---- the questions of a line in their order
 
-kind-printable : (p q r t : Bool) → printableKind (cond p (cond q Kind.Sheet (cond r Kind.Unit (cond t Kind.Rule Kind.Other))) Kind.Unprintable) ≡ p
-kind-printable true true r t = refl
-kind-printable true false true t = refl
-kind-printable true false false true = refl
-kind-printable true false false false = refl
-kind-printable false q r t = refl
-
-form-content : (l : List ℕ) (q r t : Bool)
-    → formContent (cond q Kind.Sheet (cond r Kind.Unit (cond t Kind.Rule Kind.Other))) l
-    ≡ cond q (sheetWith (numbers sheetForm l)) (cond r (unitWith (numbers unitForm l)) (cond t (ruleWith (numbers ruleForm l)) Content.other))
-form-content l true r t = refl
-form-content l false true t = refl
-form-content l false false true = refl
-form-content l false false false = refl
+form-printable : (l : List ℕ) → printableKind (formOf l) ≡ true
+form-printable l = go (matches sheetForm l) (matches unitForm l) (matches ruleForm l)
+  where
+    go : (p q r : Bool) → printableKind (cond p Kind.Sheet (cond q Kind.Unit (cond r Kind.Rule Kind.Other))) ≡ true
+    go true q r = refl
+    go false true r = refl
+    go false false true = refl
+    go false false false = refl
 
 -- only notes are asked about brackets
-form-brackets : (l : List ℕ) (q r t : Bool)
-    → bracketsMatch (cond q (sheetWith (numbers sheetForm l)) (cond r (unitWith (numbers unitForm l))
-    (cond t (ruleWith (numbers ruleForm l)) Content.other))) l ≡ true
-form-brackets l true r t = refl
-form-brackets l false true t = refl
-form-brackets l false false true = refl
-form-brackets l false false false = refl
+form-brackets : (k : Kind) (l : List ℕ) → bracketsMatch (formContent k l) l ≡ true
+form-brackets Kind.Unprintable l = refl
+form-brackets Kind.Sheet l = refl
+form-brackets Kind.Unit l = refl
+form-brackets Kind.Rule l = refl
+form-brackets Kind.Other l = refl
 
-module _ (l : List ℕ) (k : Kind) (ended : Bool) (e : k ≡ kindOf l) where
-  is-printable : printableKind k ≡ printable l
-  unfolding kindOf formOf
-  is-printable = ap printableKind e ∙ kind-printable (printable l) (matches sheetForm l) (matches unitForm l) (matches ruleForm l)
-
-  pub asks-bytes : printableKind k ≡ false → Refused 2 ≡ lineOf l ended
-  unfolding lineOf
-  asks-bytes p = simp (sym is-printable ∙ p)
-
-  module _ (p : printableKind k ≡ true) where
-    pub asks-brackets : isNote l ≡ true → noteMatched l ≡ false → Refused 11 ≡ lineOf l ended
-    unfolding lineOf contentOf
-    asks-brackets n c = simp (sym is-printable ∙ p, n, c)
-
-    pub is-note-line : isNote l ≡ true → noteMatched l ≡ true → ended ≡ true → Note ≡ lineOf l ended
-    unfolding lineOf contentOf said
-    is-note-line n c f = simp (sym is-printable ∙ p, n, c, f)
-
-    pub asks-note-feed : isNote l ≡ true → noteMatched l ≡ true → ended ≡ false → Refused 3 ≡ lineOf l ended
-    unfolding lineOf contentOf
-    asks-note-feed n c f = simp (sym is-printable ∙ p, n, c, f)
-
-    pub asks-feed : isNote l ≡ false → ended ≡ false → Refused 3 ≡ lineOf l ended
-    unfolding lineOf contentOf
-    asks-feed n f = simp (sym is-printable ∙ p, n, f, form-brackets l (matches sheetForm l) (matches unitForm l) (matches ruleForm l))
-
-    pub is-form-line : isNote l ≡ false → ended ≡ true → said (formContent k l) ≡ lineOf l ended
-    unfolding lineOf contentOf kindOf formOf
-    is-form-line n f =
-        let q : printable l ≡ true = sym is-printable ∙ p in
-        let m : k ≡ formOf l = e ∙ ap (λ (b : Bool). cond b (formOf l) Kind.Unprintable) q in
-        simp (q, n, f, form-brackets l (matches sheetForm l) (matches unitForm l) (matches ruleForm l))
-        (ap (λ (j : Kind). said (formContent j l)) m ∙ ap said (form-content l (matches sheetForm l) (matches unitForm l) (matches ruleForm l)))
+-- the questions as the code asks them
+pub asked : (l : List ℕ) (k : Kind) (ended : Bool) → k ≡ kindOf l → lineOf l ended
+    ≡ cond (printableKind k)
+    (cond (isNote l) (cond (noteMatched l) (cond ended Note (Refused 3)) (Refused 11)) (cond ended (said (formContent k l)) (Refused 3)))
+    (Refused 2)
+unfolding lineOf contentOf kindOf said
+asked l k ended e = rw e (go (printable l) (isNote l))
+  where
+    go : (p n : Bool)
+        → cond p (cond (bracketsMatch (cond n Content.note (formContent (formOf l) l)) l)
+        (cond ended (said (cond n Content.note (formContent (formOf l) l))) (Refused 3)) (Refused 11)) (Refused 2)
+        ≡ cond (printableKind (cond p (formOf l) Kind.Unprintable))
+        (cond n (cond (noteMatched l) (cond ended Note (Refused 3)) (Refused 11))
+        (cond ended (said (formContent (cond p (formOf l) Kind.Unprintable) l)) (Refused 3)))
+        (Refused 2)
+    go false n = refl
+    go true true = rw (form-printable l)
+    go true false = rw (form-printable l, form-brackets (formOf l) l)

@@ -4,8 +4,11 @@ use mathlib.Core.Bool.{Bool, true, _||_, cond}
 use mathlib.Core.List.{List, [], _∷_, _++_}
 use lib.ListN.{drop, getD}
 use Rattle.forms.specs.Words.{space, closing, openNote}
-use Rattle.forms.specs.Form.{startsWith, matches, numbers}
+use Rattle.forms.specs.Form.{startsWith, numbers}
 use Rattle.forms.specs.Forms.{sheetForm, unitForm, ruleForm}
+use Rattle.read_form.specs.Kinds.{formOf}
+use Rattle.read_form.specs.declared.Kind.{Kind}
+use Rattle.read_form.specs.declared.Kind.the-variants as Kind
 use Rattle.read_notes.specs.Note.{matched}
 
 -- a note, a form with the digits of its numbers, or neither
@@ -32,21 +35,25 @@ bracketsMatch (unit f l) line = true
 bracketsMatch (rule a b lo hi) line = true
 bracketsMatch other line = true
 
-abbrev pub sheetWith : List (List ℕ) → Content
-sheetWith ns = sheet (getD ns 0 [])
+-- a line of a form, by the digits of its numbers
+abbrev pub sheetContent : List ℕ → Content
+sheetContent line = sheet (getD (numbers sheetForm line) 0 [])
 
-abbrev pub unitWith : List (List ℕ) → Content
-unitWith ns = unit (getD ns 0 []) (getD ns 1 [])
+abbrev pub unitContent : List ℕ → Content
+unitContent line = let ns = numbers unitForm line in unit (getD ns 0 []) (getD ns 1 [])
 
-abbrev pub ruleWith : List (List ℕ) → Content
-ruleWith ns = rule (getD ns 0 []) (getD ns 1 []) (getD ns 2 []) (getD ns 3 [])
+abbrev pub ruleContent : List ℕ → Content
+ruleContent line = let ns = numbers ruleForm line in rule (getD ns 0 []) (getD ns 1 []) (getD ns 2 []) (getD ns 3 [])
+
+abbrev pub formContent : Kind → List ℕ → Content
+formContent Kind.Sheet line = sheetContent line
+formContent Kind.Unit line = unitContent line
+formContent Kind.Rule line = ruleContent line
+formContent Kind.Unprintable line = other
+formContent Kind.Other line = other
 
 unfoldable pub contentOf : List ℕ → Content
-contentOf line =
-    cond (isNote line) note
-    (cond (matches sheetForm line) (sheetWith (numbers sheetForm line))
-    (cond (matches unitForm line) (unitWith (numbers unitForm line))
-    (cond (matches ruleForm line) (ruleWith (numbers ruleForm line)) other)))
+contentOf line = cond (isNote line) note (formContent (formOf line) line)
 
 -- the digits of each number of a line
 abbrev pub numbersIn : Content → List (List ℕ)

@@ -4,11 +4,10 @@ use mathlib.Core.Bool.{Bool, true, false, _&&_, cond}
 use mathlib.Core.List.{List}
 use lib.ListN.{length, drop}
 use Rattle.lists.specs.Lists.{every}
-use Rattle.forms.specs.Form.{printable, leading, past, plain, value, numbers}
-use Rattle.forms.specs.Forms.{sheetForm, unitForm, ruleForm}
+use Rattle.forms.specs.Form.{printable, leading, past, plain, value}
 use Rattle.read_form.specs.declared.Kind.{Kind}
 use Rattle.read_form.specs.declared.Kind.the-variants as Kind
-use Rattle.read_line.specs.Content.{Content, note, sheet, unit, rule, other, bracketsMatch, contentOf, numbersIn, sheetWith, unitWith, ruleWith}
+use Rattle.read_line.specs.Content.{Content, note, sheet, unit, rule, other, bracketsMatch, contentOf, numbersIn}
 use Rattle.read_line.specs.declared.Line.{Line}
 use Rattle.read_line.specs.declared.Line.the-variants.{Refused, Note, Sheet, Unit, Rule}
 use Rattle.read_line.specs.declared.Pair.{Pair}
@@ -30,14 +29,6 @@ lineOf line ended =
     let x = contentOf line in
     cond (printable line) (cond (bracketsMatch x line) (cond ended (said x) (Refused 3)) (Refused 11)) (Refused 2)
 
--- what a line is that is no note, by its kind
-abbrev pub formContent : Kind → List ℕ → Content
-formContent Kind.Sheet line = sheetWith (numbers sheetForm line)
-formContent Kind.Unit line = unitWith (numbers unitForm line)
-formContent Kind.Rule line = ruleWith (numbers ruleForm line)
-formContent Kind.Unprintable line = other
-formContent Kind.Other line = other
-
 abbrev pub printableKind : Kind → Bool
 printableKind Kind.Unprintable = false
 printableKind Kind.Sheet = true
@@ -45,9 +36,14 @@ printableKind Kind.Unit = true
 printableKind Kind.Rule = true
 printableKind Kind.Other = true
 
--- two numbers with a byte between them, from a place on
-unfoldable pub pairOf : List ℕ → ℕ → Pair
-pairOf text at =
+-- two numbers that are so many bytes apart, from a place on
+unfoldable pub pairOf : List ℕ → ℕ → ℕ → Pair
+pairOf text apart at =
     let first = leading text in
-    let second = leading (drop 1 (past text)) in
-    cond (plain first && plain second) (Both (value first) (value second) (at + length first + 1 + length second)) Faulty
+    let second = leading (drop apart (past text)) in
+    cond (plain first && plain second) (Both (value first) (value second) (at + length first + apart + length second)) Faulty
+
+-- the place past them
+abbrev pub pairEnd : Pair → ℕ
+pairEnd (Both v w next) = next
+pairEnd Faulty = 0

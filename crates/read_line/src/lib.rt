@@ -1,16 +1,17 @@
 ghost use mathlib.Core.Path.{_≡_};
-ghost use Prim.Native.Nat.{_+_, _≤_};
+ghost use Prim.Native.Nat.{_+_, _≤_, _<_};
 ghost use lib.ListN.{length, drop};
-ghost use Rattle.forms.specs.Form.{startsWith, numbers};
-ghost use Rattle.forms.specs.Forms.{sheetForm, unitForm, ruleForm};
+ghost use Rattle.forms.specs.Form.{startsWith};
 ghost use Rattle.read_form.specs.Kinds.{kindOf};
 ghost use Rattle.read_form.specs.Grid.{Tables};
 ghost use Rattle.forms.specs.Lines.{firstLine, hasFeed};
 ghost use Rattle.forms.specs.LinesLaws.{lineEnd};
-ghost use Rattle.read_line.specs.Content.{isNote, noteMatched, sheetWith, unitWith, ruleWith};
-ghost use Rattle.read_line.specs.Line.{said, lineOf, pairOf, formContent, printableKind};
+ghost use Rattle.read_line.specs.Content.{isNote, noteMatched, sheetContent, unitContent, ruleContent, formContent};
+ghost use Rattle.read_line.specs.Line.{said, lineOf, pairOf, pairEnd, printableKind};
+use read_form::Grid;
 use read_form::Kind;
 use read_form::Number;
+use read_form::tables;
 use read_notes::End;
 
 // What one line says, or the question it fails.
@@ -45,11 +46,11 @@ pub enum Pair {
 }
 
 // The form reader over the bytes from a place to the next line feed or the text's end.
-fn scan(text: &[u8], at: usize, grid: &[[u8; 19]; 59], table: &[u8; 256]) -> Scanned
+fn scan(text: &[u8], at: usize, grid: &Grid, table: &[u8; 256]) -> Scanned
     requires { ⌜ (at ≤ length (now text)) × Tables (now grid) (now table) ⌝ }
     ensures { λ r. ⌜ (r .end ≡ lineEnd (now (text .entry)) at) × (r .kind ≡ kindOf (firstLine (drop at (now (text .entry))))) ⌝ }
 {
-    let mut state = read_form::START;
+    let mut state = tables::START;
     let mut i = at;
     while i < text.len() {
         let b = text[i];
@@ -102,8 +103,11 @@ fn note_matched(s: &[u8]) -> bool
     }
 }
 
-fn pair_at(s: &[u8], at: usize) -> Pair
-    ensures { λ r. ⌜ r ≡ pairOf (drop at (now (s .entry))) at ⌝ }
+// Two numbers that are so many bytes apart, from a place on; few, so that no place wraps.
+fn pair_at(s: &[u8], at: usize, apart: usize) -> Pair
+    requires { ⌜ apart < 256 ⌝ }
+    ensures { λ r. ⌜ r ≡ pairOf (drop at (now (s .entry))) apart at ⌝ }
+    ensures { λ r. ⌜ pairEnd r ≤ length (now (s .entry)) ⌝ }
 {
     let one = read_form::number_at(s, at);
     match one {
@@ -111,7 +115,7 @@ fn pair_at(s: &[u8], at: usize) -> Pair
             value: first,
             next: middle,
         } => {
-            let two = read_form::number_at(s, middle + 1);
+            let two = read_form::number_at(s, middle + apart);
             match two {
                 Number::Plain {
                     value: second,
@@ -128,11 +132,10 @@ fn pair_at(s: &[u8], at: usize) -> Pair
     }
 }
 
-// The places are those past `(sheet `, `(unit (window `, `(rule (slots ` and `) (count `.
 fn sheet_line(s: &[u8]) -> Line
-    ensures { λ r. ⌜ r ≡ said (sheetWith (numbers sheetForm (now (s .entry)))) ⌝ }
+    ensures { λ r. ⌜ r ≡ said (sheetContent (now (s .entry))) ⌝ }
 {
-    let span = read_form::number_at(s, 7);
+    let span = read_form::number_at(s, tables::SHEET_WORD_1);
     match span {
         Number::Plain { value, next: _ } => Line::Sheet(value),
         Number::Faulty => Line::Refused(4),
@@ -140,9 +143,9 @@ fn sheet_line(s: &[u8]) -> Line
 }
 
 fn unit_line(s: &[u8]) -> Line
-    ensures { λ r. ⌜ r ≡ said (unitWith (numbers unitForm (now (s .entry)))) ⌝ }
+    ensures { λ r. ⌜ r ≡ said (unitContent (now (s .entry))) ⌝ }
 {
-    let window = pair_at(s, 14);
+    let window = pair_at(s, tables::UNIT_WORD_1, tables::UNIT_WORD_2);
     match window {
         Pair::Both {
             first,
@@ -154,16 +157,16 @@ fn unit_line(s: &[u8]) -> Line
 }
 
 fn rule_line(s: &[u8]) -> Line
-    ensures { λ r. ⌜ r ≡ said (ruleWith (numbers ruleForm (now (s .entry)))) ⌝ }
+    ensures { λ r. ⌜ r ≡ said (ruleContent (now (s .entry))) ⌝ }
 {
-    let slots = pair_at(s, 13);
+    let slots = pair_at(s, tables::RULE_WORD_1, tables::RULE_WORD_2);
     match slots {
         Pair::Both {
             first: from,
             second: to,
             next,
         } => {
-            let count = pair_at(s, next + 9);
+            let count = pair_at(s, next + tables::RULE_WORD_3, tables::RULE_WORD_4);
             match count {
                 Pair::Both {
                     first: low,
@@ -226,7 +229,7 @@ fn read_line(s: &[u8], kind: Kind, ended: bool) -> Line
 }
 
 // The line that starts at a place of a text.
-pub fn line_at(text: &[u8], at: usize, grid: &[[u8; 19]; 59], table: &[u8; 256]) -> Found
+pub fn line_at(text: &[u8], at: usize, grid: &Grid, table: &[u8; 256]) -> Found
     requires { ⌜ (at ≤ length (now text)) × Tables (now grid) (now table) ⌝ }
     ensures { λ r. ⌜ r .line ≡ lineOf (firstLine (drop at (now (text .entry)))) (hasFeed (drop at (now (text .entry)))) ⌝ }
     ensures { λ r. ⌜ r .next ≡ lineEnd (now (text .entry)) at + 1 ⌝ }

@@ -1,4 +1,4 @@
--- When the brackets of a note match (document 01, question 11).
+-- When the brackets of a note match (question 11).
 use Prim.Native.Nat.{ℕ, zero, suc}
 use mathlib.Core.Bool.{Bool, true, false, _&&_, cond}
 use mathlib.Core.List.{List, [], _∷_}

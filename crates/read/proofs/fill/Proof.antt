@@ -1,5 +1,5 @@
+-- Each room takes its column of the two arrays, which hold as many units and rules as the rooms do.
 use native.Mathlib.Omega.{arith}
-use lib.ListN.{length}
 use Rattle.read.proofs.SpreadLaws.{reaches, rooms-same}
 use borrow.Author.Needs.{needs}
 use Rattle.read.proofs.fill.Statement.{statement}
@@ -24,42 +24,6 @@ call-4 c = c .before .before .before .before
 abbrev call-5 : tie.After-spread-arg6 → tie.After-spread-arg5
 call-5 c = c .before .before .before .before
 
-spread-requires : tie.Need-spread-requires
-spread-requires c κs =
-    let a = start c .args in
-    let p = start c .pre in
-    (reaches (a .s .units) 2 0 (length (a .units .now)) (omega (arith, p .in-units)), omega arith, p .in-first)
-
-spread-requires-2 : tie.Need-spread-requires-2
-spread-requires-2 c κs =
-    let a = start (call-1 c) .args in
-    let p = start (call-1 c) .pre in
-    (reaches (a .s .units) 2 1 (length (a .units .now)) (omega (arith, p .in-units)), omega arith, p .in-last)
-
-spread-requires-3 : tie.Need-spread-requires-3
-spread-requires-3 c κs =
-    let a = start (call-1 (call-2 c)) .args in
-    let p = start (call-1 (call-2 c)) .pre in
-    (reaches (a .s .rules) 4 0 (length (a .rules .now)) (omega (arith, p .in-rules)), omega arith, p .in-from)
-
-spread-requires-4 : tie.Need-spread-requires-4
-spread-requires-4 c κs =
-    let a = start (call-1 (call-2 (call-3 c))) .args in
-    let p = start (call-1 (call-2 (call-3 c))) .pre in
-    (reaches (a .s .rules) 4 1 (length (a .rules .now)) (omega (arith, p .in-rules)), omega arith, p .in-to)
-
-spread-requires-5 : tie.Need-spread-requires-5
-spread-requires-5 c κs =
-    let a = start (call-1 (call-2 (call-3 (call-4 c)))) .args in
-    let p = start (call-1 (call-2 (call-3 (call-4 c)))) .pre in
-    (reaches (a .s .rules) 4 2 (length (a .rules .now)) (omega (arith, p .in-rules)), omega arith, p .in-low)
-
-spread-requires-6 : tie.Need-spread-requires-6
-spread-requires-6 c κs =
-    let a = start (call-1 (call-2 (call-3 (call-4 (call-5 c))))) .args in
-    let p = start (call-1 (call-2 (call-3 (call-4 (call-5 c))))) .pre in
-    (reaches (a .s .rules) 4 3 (length (a .rules .now)) (omega (arith, p .in-rules)), omega arith, p .in-high)
-
 returns : tie.Need-returns
 returns c =
     let s₆ = c .before .before in
@@ -71,5 +35,11 @@ returns c =
     rooms-same (s₁ .spread .ensures) (s₂ .spread2 .ensures) (s₃ .spread3 .ensures) (s₄ .spread4 .ensures) (s₅ .spread5 .ensures) (s₆ .spread6 .ensures)
 
 pub fill-spec : {M : Type 1} → statement M
-fill-spec = tie.close (tie.spec spread-requires spread-requires-2 spread-requires-3 spread-requires-4 spread-requires-5 spread-requires-6
+fill-spec = tie.close (tie.spec
+    (λ c κs. let p = start c .pre in (reaches _ 2 0 _ (omega (arith, p .in-units)), omega arith, p .in-first))
+    (λ c κs. let p = start (call-1 c) .pre in (reaches _ 2 1 _ (omega (arith, p .in-units)), omega arith, p .in-last))
+    (λ c κs. let p = start (call-1 (call-2 c)) .pre in (reaches _ 4 0 _ (omega (arith, p .in-rules)), omega arith, p .in-from))
+    (λ c κs. let p = start (call-1 (call-2 (call-3 c))) .pre in (reaches _ 4 1 _ (omega (arith, p .in-rules)), omega arith, p .in-to))
+    (λ c κs. let p = start (call-1 (call-2 (call-3 (call-4 c)))) .pre in (reaches _ 4 2 _ (omega (arith, p .in-rules)), omega arith, p .in-low))
+    (λ c κs. let p = start (call-1 (call-2 (call-3 (call-4 (call-5 c))))) .pre in (reaches _ 4 3 _ (omega (arith, p .in-rules)), omega arith, p .in-high))
     (λ c. search needs) (λ c. search needs) (λ c. search needs) (λ c. search needs) (λ c. search needs) (λ c. search needs) returns)

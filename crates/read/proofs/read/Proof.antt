@@ -1,15 +1,16 @@
-use Prim.Native.Nat.{_≤_}
+-- Questions 1 and 12 stand at the two ends of the pass; only where both are answered yes are the rooms filled.
+use Prim.Native.Nat.{_≤_, _*_}
 use mathlib.Core.Path.{_≡_, sym, ap, subst, _∙_}
 use mathlib.Core.Bool.{true}
 use lib.Dec.{lit≤}
 use lib.ListN.{length, replicate}
 use borrow.Author.Tests.{not-true, not-false}
-use Rattle.sheet.specs.Sizes.{maxBytes}
-use Rattle.read_ask.specs.Reading.{rooms, roomsFit, read, answerOf}
+use Rattle.sheet.specs.Sizes.{maxUnits, maxRules, maxBytes}
+use Rattle.read_ask.specs.Reading.{rooms, listsFit, read, answerOf}
 use Rattle.read_ask.specs.Steps.{passAnswer, Kept, KeptNumbers}
 use Rattle.read.specs.Rooms.{sizesOf}
 use Rattle.read_ask.specs.declared.Reading.{Reading}
-use Rattle.read.proofs.AnswerLaws.{answer-long, answer-no, answer-rooms, answer-read, rooms-kept, fills, rooms-filled}
+use Rattle.read.proofs.ReadingLaws.{answer-long, answer-no, answer-rooms, answer-read, rooms-kept, fills, rooms-filled}
 use borrow.Author.Needs.{needs}
 use Rattle.read.proofs.read.Statement.{statement}
 use Rattle.read.proofs.read.Tie as tie
@@ -36,19 +37,21 @@ short c = c .if1 .left
 -- of a sheet that the pass found: its numbers, and what the arrays hold
 answered : (c : tie.After-known-told2) → let s = c .before .asked2 .given .0 .0 in
     read (s .span) (s .units) (s .rules) ≡ passAnswer (start (told-short c) .args .text .now)
-answered c = sym (ap answerOf (c .before .asked2 .given .1)) ∙ c .before .before .before .before .before .ask .ensures .0
+answered c = sym (ap answerOf (c .before .asked2 .given .1)) ∙ c .before .before .before .before .before .ask-text .ensures .0
 
-kept : (c : tie.After-known-told2) → let k = c .before .before .before .before .before .ask in
-    KeptNumbers (c .before .asked2 .given .0 .0) (start (told-short c) .args .text .now) (replicate 600 0) (k .last .1 .0) (replicate 240 0) (k .last .1 .1 .0)
+kept : (c : tie.After-known-told2) → let k = c .before .before .before .before .before .ask-text in
+    KeptNumbers (c .before .asked2 .given .0 .0) (start (told-short c) .args .text .now) (replicate (2 * maxUnits) 0) (k .last .1 .0)
+    (replicate (4 * maxRules) 0) (k .last .1 .1 .0)
 kept c =
-    let k = c .before .before .before .before .before .ask in
-    subst (λ (r : Reading). Kept r (start (told-short c) .args .text .now) (replicate 600 0) (k .last .1 .0) (replicate 240 0) (k .last .1 .1 .0))
+    let k = c .before .before .before .before .before .ask-text in
+    let text = start (told-short c) .args .text .now in
+    subst (λ (r : Reading). Kept r text (replicate (2 * maxUnits) 0) (k .last .1 .0) (replicate (4 * maxRules) 0) (k .last .1 .1 .0))
     (c .before .asked2 .given .1) (k .ensures .1)
 
 fitting : (c : tie.Else2) → let a = start (told-short (fits-told c)) .args in
     let s = fits-told c .before .asked2 .given .0 .0 in
-    roomsFit (s .units) (s .rules) (sizesOf (rooms (a .first .now) (a .last .now) (a .from .now) (a .to .now) (a .low .now) (a .high .now))) ≡ true
-fitting c = sym (c .before .rooms-fit .ensures) ∙ not-false _ (c .if2 .left)
+    listsFit (s .units) (s .rules) (sizesOf (rooms (a .first .now) (a .last .now) (a .from .now) (a .to .now) (a .low .now) (a .high .now))) ≡ true
+fitting c = sym (c .before .lists-fit .ensures) ∙ not-false _ (c .if2 .left)
 
 returns : tie.Need-returns
 returns c =
@@ -62,7 +65,7 @@ returns-2 c =
     let a = start (told-short (c .before .before)) .args in
     let m = rooms (a .first .now) (a .last .now) (a .from .now) (a .to .now) (a .low .now) (a .high .now) in
     let e = answer-rooms (a .text .now) (sizesOf m) (short (told-short (c .before .before))) _ _ _
-    (answered (c .before .before)) (sym (c .before .rooms-fit .ensures) ∙ not-true _ (c .if2 .taken)) in
+    (answered (c .before .before)) (sym (c .before .lists-fit .ensures) ∙ not-true _ (c .if2 .taken)) in
     (e, rooms-kept (a .text .now) m 12 0 e)
 
 fill-requires : tie.Need-fill-requires
@@ -74,7 +77,7 @@ returns-3 c =
     let a = start (c .before .before .before .before .before .before .before .before) .args in
     let m = rooms (a .first .now) (a .last .now) (a .from .now) (a .to .now) (a .low .now) (a .high .now) in
     let e = answer-no (a .text .now) (sizesOf m) (short (c .before .before .before .before .before .before .before .before)) _ _
-    (sym (ap answerOf (c .before .asked .given .1)) ∙ c .before .before .before .before .before .ask .ensures .0) in
+    (sym (ap answerOf (c .before .asked .given .1)) ∙ c .before .before .before .before .before .ask-text .ensures .0) in
     (e, rooms-kept (a .text .now) m _ _ e)
 
 returns-4 : tie.Need-returns-4

@@ -1,3 +1,4 @@
+-- What the line is decides which step is made; a line that adds no numbers leaves the arrays.
 use Prim.Native.Nat.{_*_}
 use mathlib.Core.Path.{refl}
 use Rattle.read_ask.specs.Steps.{stepOf}
@@ -5,9 +6,6 @@ use Rattle.read_ask.proofs.StepLaws.{kept-none, line-stepped}
 use borrow.Author.Needs.{needs}
 use Rattle.read_ask.proofs.line_step.Statement.{statement}
 use Rattle.read_ask.proofs.line_step.Tie as tie
-
-enum-told : tie.Need-enum-told
-enum-told c = search needs
 
 returns : tie.Need-returns
 unfolding stepOf
@@ -44,6 +42,6 @@ returns-5 c =
     (kept-none (c .before .before .rule-step .result) (a .units .now) (2 * a .s .units)) (c .before .before .rule-step .ensures .1)
 
 pub line-step-spec : {M : Type 1} → statement M
-line-step-spec = tie.close (tie.spec (λ c. search needs) enum-told (λ c. search needs) (λ c κs. search needs) (λ c. search needs)
-    (λ c κs. search needs) (λ c. search needs) (λ c κs. search needs) returns returns-2 returns-3 (λ c. search needs) returns-4 (λ c. search needs)
-    returns-5)
+line-step-spec = tie.close (tie.spec (λ c. search needs) (λ c. search needs) (λ c. search needs) (λ c κs. search needs) (λ c. search needs)
+    (λ c κs. search needs) (λ c. search needs) (λ c κs. search needs) returns returns-2 returns-3 (λ c. search needs) returns-4
+    (λ c. search needs) returns-5)

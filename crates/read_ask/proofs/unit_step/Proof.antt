@@ -1,10 +1,11 @@
+-- The tests come in the order of the questions; past them the unit's two numbers are set, one after the other.
 use Prim.Native.Nat.{_*_}
 use mathlib.Core.Path.{_≡_, refl, sym, _∙_}
 use mathlib.Core.Bool.{true}
 use native.Mathlib.Omega.{arith}
 use lib.ListN.{length-set}
 use borrow.Author.Tests.{not-true, not-false, eq-eqb, ne-eqb, lt-ltb, le-ltb}
-use Rattle.read_ask.specs.Reading.{isStretch}
+use Rattle.sheet.specs.Questions.{isStretch}
 use Rattle.read_ask.specs.Steps.{stepOf}
 use Rattle.read_ask.proofs.StepLaws.{two-set}
 use borrow.Author.Needs.{needs}
@@ -14,17 +15,6 @@ use Rattle.read_ask.proofs.unit_step.Tie as tie
 stretch : (c : tie.Else2) → let a = c .before .before .before .before .before .args in isStretch (a .s .span) (a .first) (a .last) ≡ true
 stretch c = sym (c .before .is-stretch .ensures) ∙ not-false _ (c .if2 .left)
 
-returns : tie.Need-returns
-unfolding stepOf
-returns c = (simp (eq-eqb _ _ (c .if1 .taken)), refl)
-
-returns-2 : tie.Need-returns-2
-unfolding stepOf
-returns-2 c = (simp (ne-eqb _ _ (c .before .before .if1 .left), sym (c .before .is-stretch .ensures) ∙ not-true _ (c .if2 .taken)), refl)
-
-slice-write-units-2 : tie.Need-slice-write-units-2
-slice-write-units-2 c = simp length-set (omega arith)
-
 returns-3 : tie.Need-returns-3
 unfolding stepOf
 returns-3 c =
@@ -33,10 +23,10 @@ returns-3 c =
       two-set (a .units .now) (2 * a .s .units) (a .first) (a .last),
     )
 
-returns-4 : tie.Need-returns-4
-unfolding stepOf
-returns-4 c = (simp (ne-eqb _ _ (c .before .before .before .if1 .left), stretch (c .before), le-ltb _ _ (c .if3 .left)), refl)
-
 pub unit-step-spec : {M : Type 1} → statement M
-unit-step-spec = tie.close (tie.spec returns (λ c κs. search needs) returns-2 (λ c. search needs) (λ c. search needs) (λ c. search needs)
-    (λ c. search needs) (λ c. search needs) slice-write-units-2 (λ c. search needs) (λ c. search needs) returns-3 returns-4)
+unfolding stepOf
+unit-step-spec = tie.close (tie.spec (λ c. (simp (eq-eqb _ _ (c .if1 .taken)), refl)) (λ c κs. search needs)
+    (λ c. (simp (ne-eqb _ _ (c .before .before .if1 .left), sym (c .before .is-stretch .ensures) ∙ not-true _ (c .if2 .taken)), refl))
+    (λ c. search needs) (λ c. search needs) (λ c. search needs) (λ c. search needs) (λ c. search needs) (λ c. simp length-set (omega arith))
+    (λ c. search needs) (λ c. search needs) returns-3
+    (λ c. (simp (ne-eqb _ _ (c .before .before .before .if1 .left), stretch (c .before), le-ltb _ _ (c .if3 .left)), refl)))

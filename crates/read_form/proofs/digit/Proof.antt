@@ -1,3 +1,4 @@
+-- A digit's byte is at least that of 0 and at most nine more.
 use native.Mathlib.Omega.{arith}
 use mathlib.Core.Path.{refl}
 use borrow.Author.Needs.{needs}
@@ -5,11 +6,6 @@ use Rattle.read_form.proofs.NumberLaws.{digit-bounds}
 use Rattle.read_form.proofs.digit.Statement.{statement}
 use Rattle.read_form.proofs.digit.Tie as tie
 
-sub-result : tie.Need-sub-result
-sub-result c = omega (arith, digit-bounds (c .args .b) (c .pre))
-
-returns : tie.Need-returns
-returns c = (refl, omega (arith, digit-bounds (c .args .b) (c .pre)))
-
 pub digit-spec : {M : Type 1} → statement M
-digit-spec = tie.close (tie.spec sub-result (λ c. search needs) returns)
+digit-spec = tie.close (tie.spec (λ c. omega (arith, digit-bounds (c .args .b) (c .pre))) (λ c. search needs)
+    (λ c. (refl, omega (arith, digit-bounds (c .args .b) (c .pre)))))

@@ -1,80 +1,61 @@
+-- The invariant: what the digits from here on make of the value so far is what all the digits make of the number (`more` of NumberLaws). Each way out
+-- is one case of `more`: the digits end, a digit follows a leading 0, or a fifth digit follows.
 use native.Mathlib.Omega.{arith}
 use Prim.Native.Nat.{_-_, _≤_}
 use mathlib.Core.Path.{_≡_, sym, _∙_}
 use lib.ListN.{length, drop}
 use borrow.Author.Tests.{not-true, not-false}
 use Rattle.forms.specs.Form.{leading}
-use Rattle.read_form.specs.Number.{numberOf}
+use Rattle.read_form.specs.Number.{numberRead}
 use Rattle.read_form.proofs.NumberLaws.{more, none-end, none-other, begins, stops-end, stops-other, bad-zero, bad-long, goes-on}
 use Rattle.read_form.proofs.number_at.Statement.{statement}
 use Rattle.read_form.proofs.number_at.Tie as tie
 
 abbrev Inv-loop : tie.InvT-loop
-Inv-loop s at value₀ i₀ value i = (i ≤ length s) × (more value i (leading (drop i s)) ≡ numberOf (leading (drop at s)) at)
+Inv-loop s at value₀ i₀ value i = (i ≤ length s) × (more value i (leading (drop i s)) ≡ numberRead (leading (drop at s)) at)
 
 abbrev μ-loop : tie.MeasureT-loop
 μ-loop s at value₀ i₀ value i = length s - i
 
-returns : tie.Need-returns Inv-loop μ-loop
-returns c = let a = c .before .before .args in none-end (a .s .now) (a .at) (c .if1 .taken)
-
-returns-2 : tie.Need-returns-2 Inv-loop μ-loop
-returns-2 c =
-    let a = c .before .before .before .before .before .args in
-    none-other (a .s .now) (a .at) (omega arith) (sym (c .before .is-digit .ensures) ∙ not-true _ (c .if2 .taken))
-
-digit-requires : tie.Need-digit-requires Inv-loop μ-loop
-digit-requires c κs = sym (c .before .before .is-digit .ensures) ∙ not-false _ (c .before .if2 .left)
-
-loop-holds : tie.Need-loop-holds Inv-loop μ-loop
-loop-holds c =
-    let a = c .before .before .before .before .before .before .before .args in (
+pub number-at-spec : {M : Type 1} → statement M
+number-at-spec = tie.close (tie.spec Inv-loop μ-loop
+    (λ c. let a = c .before .before .args in (none-end (a .s .now) (a .at) (c .if1 .taken), omega arith))
+    (λ c. omega arith) (λ c κs. tt)
+    (λ c. let a = c .before .before .before .before .before .args in
+    (none-other (a .s .now) (a .at) (omega arith) (sym (c .before .is-digit .ensures) ∙ not-true _ (c .if2 .taken)), omega arith))
+    (λ c. omega arith) (λ c κs. sym (c .before .before .is-digit .ensures) ∙ not-false _ (c .before .if2 .left)) (λ c. omega arith)
+    (λ c. let a = c .before .before .before .before .before .before .before .args in (
       omega arith,
       begins (a .s .now) (a .at) (c .digit .result) (omega arith)
           (sym (c .before .before .before .is-digit .ensures) ∙ not-false _ (c .before .before .if2 .left)) (c .digit .ensures .0),
-    )
-
-returns-3 : tie.Need-returns-3 Inv-loop μ-loop
-returns-3 c =
-    let a = c .before .before .before .before .before .before .before .before .before .before .before .before .args in
+    ))
+    (λ c. omega arith) (λ c κs. tt)
+    (λ c. let a = c .before .before .before .before .before .before .before .before .before .before .before .before .args in
     let l = c .before .before .before .before .loop in
-    stops-other (a .s .now) (l .i) (l .value) (omega arith) (sym (c .before .is-digit2 .ensures) ∙ not-true _ (c .if3 .taken)) ∙ l .inv .1
-
-returns-4 : tie.Need-returns-4 Inv-loop μ-loop
-returns-4 c =
-    let a = c .before .before .before .before .before .before .before .before .before .before .before .before .before .args in
-    let l = c .before .before .before .before .before .loop in
-    bad-zero (a .s .now) (l .i) (l .value) (omega arith) (sym (c .before .before .is-digit2 .ensures) ∙ not-false _ (c .before .if3 .left)) (c .if4 .taken)
-    ∙ l .inv .1
-
-returns-5 : tie.Need-returns-5 Inv-loop μ-loop
-returns-5 c =
-    let a = c .before .before .before .before .before .before .before .before .before .before .before .before .before .before .args in
-    let l = c .before .before .before .before .before .before .loop in
-    bad-long (a .s .now) (l .i) (l .value) (omega arith) (sym (c .before .before .before .is-digit2 .ensures) ∙ not-false _ (c .before .before .if3 .left))
-    (c .if5 .taken) ∙ l .inv .1
-
-digit-requires-2 : tie.Need-digit-requires-2 Inv-loop μ-loop
-digit-requires-2 c κs =
-    (sym (c .before .before .before .before .is-digit2 .ensures) ∙ not-false _ (c .before .before .before .if3 .left))
-
-loop-again : tie.Need-loop-again Inv-loop μ-loop
-loop-again c =
+    (stops-other (a .s .now) (l .i) (l .value) (omega arith) (sym (c .before .is-digit2 .ensures) ∙ not-true _ (c .if3 .taken)) ∙ l .inv .1, l .inv .0))
+    (λ c. let a = c .before .before .before .before .before .before .before .before .before .before .before .before .before .args in
+    let l = c .before .before .before .before .before .loop in (
+      bad-zero (a .s .now) (l .i) (l .value) (omega arith) (sym (c .before .before .is-digit2 .ensures) ∙ not-false _ (c .before .if3 .left))
+          (c .if4 .taken) ∙ l .inv .1,
+      omega arith,
+    ))
+    (λ c. let a = c .before .before .before .before .before .before .before .before .before .before .before .before .before .before .args in
+    let l = c .before .before .before .before .before .before .loop in (
+      bad-long (a .s .now) (l .i) (l .value) (omega arith) (sym (c .before .before .before .is-digit2 .ensures)
+          ∙ not-false _ (c .before .before .if3 .left)) (c .if5 .taken) ∙ l .inv .1,
+      omega arith,
+    ))
+    (λ c. omega arith) (λ c. omega arith)
+    (λ c κs. sym (c .before .before .before .before .is-digit2 .ensures) ∙ not-false _ (c .before .before .before .if3 .left))
+    (λ c. omega arith) (λ c. omega arith) (λ c. omega arith)
+    (λ c.
     let a = c .before .before .before .before .before .before .before .before .before .before .before .before .before .before .before .before .args in
     let l = c .before .before .before .before .before .before .before .before .loop in (
       omega arith,
       goes-on (a .s .now) (l .i) (l .value) (c .digit2 .result) (omega arith)
           (sym (c .before .before .before .before .before .is-digit2 .ensures) ∙ not-false _ (c .before .before .before .before .if3 .left)) (omega arith)
           (omega arith) (c .digit2 .ensures .0) ∙ l .inv .1,
-    )
-
-returns-6 : tie.Need-returns-6 Inv-loop μ-loop
-returns-6 c =
-    let a = c .before .before .before .before .before .before .before .before .before .args in
+    ))
+    (λ c. let a = c .before .before .before .before .before .before .before .before .before .args in
     let l = c .before .loop in
-    stops-end (a .s .now) (l .i) (l .value) (omega arith) ∙ l .inv .1
-
-pub number-at-spec : {M : Type 1} → statement M
-number-at-spec = tie.close (tie.spec Inv-loop μ-loop returns (λ c. omega arith) (λ c κs. tt) returns-2 (λ c. omega arith) digit-requires
-    (λ c. omega arith) loop-holds (λ c. omega arith) (λ c κs. tt) returns-3 returns-4 returns-5 (λ c. omega arith) (λ c. omega arith) digit-requires-2
-    (λ c. omega arith) (λ c. omega arith) (λ c. omega arith) loop-again returns-6)
+    (stops-end (a .s .now) (l .i) (l .value) (omega arith) ∙ l .inv .1, l .inv .0)))

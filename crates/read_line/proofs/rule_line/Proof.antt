@@ -1,34 +1,24 @@
-use mathlib.Core.Path.{sym, _∙_}
+-- The constants are the lengths of the form's words; the second pair is read past the first and the third word, where `numbers` cuts the line.
+use mathlib.Core.Path.{sym, ap, _∙_}
 use native.Mathlib.Omega.{arith}
-use Rattle.read_line.proofs.LineLaws.{stretch-within, rule-read, count-faulty, stretch-faulty}
+use Rattle.forms.specs.Words.{text}
+use Rattle.read_line.proofs.LineLaws.{rule-said}
+use Rattle.read_line.specs.Line.{pairEnd}
 use borrow.Author.Needs.{needs}
 use Rattle.read_line.proofs.rule_line.Statement.{statement}
 use Rattle.read_line.proofs.rule_line.Tie as tie
 
-add-pair-at : tie.Need-add-pair-at
-add-pair-at c =
-    let s = c .before .before .before .before .before .args .s .now in
-    omega (arith, stretch-within s _ _ _ (sym (c .before .before .before .pair-at .ensures) ∙ c .before .slots .given .1))
-
-enum-told : tie.Need-enum-told
-enum-told c = search needs
-
-returns : tie.Need-returns
-returns c =
-    let s = c .before .before .before .before .before .before .before .before .before .args .s .now in
-    rule-read s _ _ _ (sym (c .before .before .before .before .before .before .before .pair-at .ensures)
-    ∙ c .before .before .before .before .before .slots .given .1)
-    _ _ _ (sym (c .before .before .before .pair-at2 .ensures) ∙ c .before .count .given .1)
-
-returns-2 : tie.Need-returns-2
-returns-2 c =
-    let s = c .before .before .before .before .before .before .before .before .args .s .now in
-    count-faulty s _ _ _ (sym (c .before .before .before .before .before .before .pair-at .ensures) ∙ c .before .before .before .before .slots .given .1)
-    (sym (c .before .before .pair-at2 .ensures) ∙ c .enum-told .given .1)
-
-returns-3 : tie.Need-returns-3
-returns-3 c = stretch-faulty _ (sym (c .before .before .pair-at .ensures) ∙ c .enum-told2 .given .1)
-
 pub rule-line-spec : {M : Type 1} → statement M
-rule-line-spec = tie.close (tie.spec (λ c κs. search needs) (λ c. search needs) add-pair-at (λ c κs. search needs) (λ c. search needs) enum-told
-    (λ c. search needs) returns returns-2 returns-3)
+unfolding text
+rule-line-spec = tie.close (tie.spec (λ c κs. search needs) (λ c. search needs)
+    (λ c. omega (arith, c .before .before .before .pair-at .ensures .1, ap pairEnd (c .before .slots .given .1)))
+    (λ c κs. search needs) (λ c. search needs) (λ c. search needs) (λ c. search needs)
+    (λ c. let z = c .before .before .before .before .before in
+    let slots = sym (z .before .before .pair-at .ensures .0) ∙ z .slots .given .1 in
+    let count = sym (c .before .before .before .pair-at2 .ensures .0) ∙ c .before .count .given .1 in
+    rw (← rule-said _, slots, count))
+    (λ c. let z = c .before .before .before .before in
+    let slots = sym (z .before .before .pair-at .ensures .0) ∙ z .slots .given .1 in
+    let count = sym (c .before .before .pair-at2 .ensures .0) ∙ c .enum-told .given .1 in
+    rw (← rule-said _, slots, count))
+    (λ c. let slots = sym (c .before .before .pair-at .ensures .0) ∙ c .enum-told2 .given .1 in rw (← rule-said _, slots)))

@@ -1,3 +1,4 @@
+-- The invariant: from the place i on, the text starts with the rest of the word just when it does so from its start.
 use Prim.Native.Nat.{_-_, _≤_}
 use mathlib.Core.Path.{_≡_, refl, _∙_}
 use native.Mathlib.Omega.{arith}
@@ -13,33 +14,19 @@ Inv-loop s word i₀ i = (i ≤ length word) × (startsWith (drop i word) (drop 
 abbrev μ-loop : tie.MeasureT-loop
 μ-loop s word i₀ i = length word - i
 
-loop-holds : tie.Need-loop-holds Inv-loop μ-loop
-loop-holds c = (omega arith, refl)
-
-returns : tie.Need-returns Inv-loop μ-loop
-returns c =
-    let a = c .before .before .before .args in
-    let l = c .before .before .loop in
-    word-short (a .word .now) (a .s .now) (l .i) (omega arith) (omega arith) ∙ l .inv .1
-
-returns-2 : tie.Need-returns-2 Inv-loop μ-loop
-returns-2 c =
-    let a = c .before .before .before .before .before .before .args in
-    let l = c .before .before .before .before .before .loop in
-    word-other (a .word .now) (a .s .now) (l .i) (omega arith) (omega arith) (c .if2 .taken) ∙ l .inv .1
-
-loop-again : tie.Need-loop-again Inv-loop μ-loop
-loop-again c =
-    let a = c .before .before .before .before .before .before .args in
-    let l = c .before .before .before .before .before .loop in
-    (omega arith, word-same (a .word .now) (a .s .now) (l .i) (omega arith) (omega arith) (c .if2 .left) ∙ l .inv .1)
-
-returns-3 : tie.Need-returns-3 Inv-loop μ-loop
-returns-3 c =
-    let a = c .before .before .args in
-    let l = c .before .loop in
-    word-done (a .word .now) (a .s .now) (l .i) (omega arith) ∙ l .inv .1
-
 pub starts-with-spec : {M : Type 1} → statement M
-starts-with-spec = tie.close (tie.spec Inv-loop μ-loop loop-holds returns (λ c. omega arith) (λ c. omega arith) returns-2 (λ c. omega arith)
-    (λ c. omega arith) loop-again returns-3)
+starts-with-spec = tie.close (tie.spec Inv-loop μ-loop (λ c. (omega arith, refl))
+    (λ c. let a = c .before .before .before .args in
+    let l = c .before .before .loop in
+    word-short (a .word .now) (a .s .now) (l .i) (omega arith) (omega arith) ∙ l .inv .1)
+    (λ c. omega arith) (λ c. omega arith)
+    (λ c. let a = c .before .before .before .before .before .before .args in
+    let l = c .before .before .before .before .before .loop in
+    word-other (a .word .now) (a .s .now) (l .i) (omega arith) (omega arith) (c .if2 .taken) ∙ l .inv .1)
+    (λ c. omega arith) (λ c. omega arith)
+    (λ c. let a = c .before .before .before .before .before .before .args in
+    let l = c .before .before .before .before .before .loop in
+    (omega arith, word-same (a .word .now) (a .s .now) (l .i) (omega arith) (omega arith) (c .if2 .left) ∙ l .inv .1))
+    (λ c. let a = c .before .before .args in
+    let l = c .before .loop in
+    word-done (a .word .now) (a .s .now) (l .i) (omega arith) ∙ l .inv .1))

@@ -1,5 +1,6 @@
 -- The measure is twice the bytes that are left, and one more for the list reader, which calls the item reader at its own place.
--- The list reader's invariant: what stands past the list is the same, read from here on as from its start.
+-- The list reader's invariant: what stands past the list is the same, read from here on as from its start. An item that was read leads further on
+-- (`item-went`).
 use Prim.Native.Nat.{ℕ, _+_, _-_, _*_, _≤_, _<_}
 use mathlib.Core.Path.{_≡_, refl, sym, ap, _∙_}
 use native.Mathlib.Omega.{arith}
@@ -27,126 +28,22 @@ abbrev item-end-at : ℕ → In 1 item-end-kinds.ps
 item-end-at t = and 1 item-end-kinds.ps (is 1 item-end-kinds.ps μ-item-end t) item-end.Pre
 
 abbrev item-end-below : ℕ → In 1 item-end-kinds.ps
-item-end-below t =
-    and 1 item-end-kinds.ps (falls 1 item-end-kinds.ps _<_ μ-item-end t) item-end.Pre
+item-end-below t = and 1 item-end-kinds.ps (falls 1 item-end-kinds.ps _<_ μ-item-end t) item-end.Pre
 
 abbrev list-end-at : ℕ → In 1 list-end-kinds.ps
 list-end-at t = and 1 list-end-kinds.ps (is 1 list-end-kinds.ps μ-list-end t) list-end.Pre
 
 abbrev list-end-below : ℕ → In 1 list-end-kinds.ps
-list-end-below t =
-    and 1 list-end-kinds.ps (falls 1 list-end-kinds.ps _<_ μ-list-end t) list-end.Pre
+list-end-below t = and 1 list-end-kinds.ps (falls 1 list-end-kinds.ps _<_ μ-list-end t) list-end.Pre
 
-item-end-shared-slice-read-if1 : (t : ℕ) → item-end-lts.Need-shared-slice-read-if1 (
-  list-end-below t,
-  list-end.Post,
-) (item-end-at t) item-end.Post
-item-end-shared-slice-read-if1 t c = omega arith
+abbrev Inv-loop : list-end-lts.InvT-loop
+Inv-loop s at depth here₀ here = (at ≤ here) × (afterList (drop here s) 0 depth ≡ afterList (drop at s) 0 depth)
 
-item-end-add-list-end :
-    (t : ℕ) →
-    item-end-lts.Need-add-list-end (list-end-below t, list-end.Post) (item-end-at t) item-end.Post
-item-end-add-list-end t c = omega arith
-
-item-end-add-list-end-2 : (t : ℕ) → item-end-lts.Need-add-list-end-2 (
-  list-end-below t,
-  list-end.Post,
-) (item-end-at t) item-end.Post
-item-end-add-list-end-2 t c = omega arith
-
-item-end-list-end-requires : (t : ℕ) → item-end-lts.Need-list-end-requires (
-  list-end-below t,
-  list-end.Post,
-) (item-end-at t) item-end.Post
-item-end-list-end-requires t c κs = omega arith
-
-item-end-add-t12 :
-    (t : ℕ) →
-    item-end-lts.Need-add-t12 (list-end-below t, list-end.Post) (item-end-at t) item-end.Post
-item-end-add-t12 t c = omega arith
-
-item-end-returns :
-    (t : ℕ) →
-    item-end-lts.Need-returns (list-end-below t, list-end.Post) (item-end-at t) item-end.Post
-item-end-returns t c =
-    let a = c .before .before .before .before .before .args in
-    c .list-end .ensures ∙ ap (endOf (length (a .s .now))) (item-list (a .s .now) (a .at) (a .depth) (omega arith) (c .before .before .if1 .taken)
-    (c .before .if2 .taken))
-
-item-end-returns-2 :
-    (t : ℕ) →
-    item-end-lts.Need-returns-2 (list-end-below t, list-end.Post) (item-end-at t) item-end.Post
-item-end-returns-2 t c =
-    let a = c .before .before .before .before .args in
-    item-deep (a .s .now) (a .at) (a .depth) (omega arith) (c .before .if1 .taken) (c .if2 .left)
-
-item-end-returns-3 :
-    (t : ℕ) →
-    item-end-lts.Need-returns-3 (list-end-below t, list-end.Post) (item-end-at t) item-end.Post
-item-end-returns-3 t c =
-    let a = c .before .before .before .args in
-    item-byte (a .s .now) (a .at) (a .depth) (omega arith) (c .if1 .left)
-
-abbrev list-end-Inv-loop : list-end-lts.InvT-loop
-list-end-Inv-loop s at depth here₀ here = (at ≤ here) × (afterList (drop here s) 0 depth ≡ afterList (drop at s) 0 depth)
-
-abbrev list-end-μ-loop : list-end-lts.MeasureT-loop
-list-end-μ-loop s at depth here₀ here = length s - here
-
-list-end-loop-holds :
-    (t : ℕ) →
-    list-end-lts.Need-loop-holds
-    (item-end-below t, item-end.Post)
-    (list-end-at t)
-    list-end.Post
-    list-end-Inv-loop
-    list-end-μ-loop
-list-end-loop-holds t c = (omega arith, refl)
-
-list-end-shared-slice-read-if1 : (t : ℕ) → list-end-lts.Need-shared-slice-read-if1 (
-  item-end-below t,
-  item-end.Post,
-) (list-end-at t) list-end.Post list-end-Inv-loop list-end-μ-loop
-list-end-shared-slice-read-if1 t c = omega arith
-
-list-end-add-t11 :
-    (t : ℕ) →
-    list-end-lts.Need-add-t11
-    (item-end-below t, item-end.Post)
-    (list-end-at t)
-    list-end.Post
-    list-end-Inv-loop
-    list-end-μ-loop
-list-end-add-t11 t c = omega arith
-
-list-end-returns :
-    (t : ℕ) →
-    list-end-lts.Need-returns
-    (item-end-below t, item-end.Post)
-    (list-end-at t)
-    list-end.Post
-    list-end-Inv-loop
-    list-end-μ-loop
-list-end-returns t c =
-    let a = c .before .before .before .before .before .args in
-    let l = c .before .before .before .loop in
-    list-closed (a .s .now) (l .here) (a .depth) (omega arith) (c .if1 .taken) ∙ ap (endOf (length (a .s .now))) (l .inv .1)
-
-list-end-item-end-requires : (t : ℕ) → list-end-lts.Need-item-end-requires (
-  item-end-below t,
-  item-end.Post,
-) (list-end-at t) list-end.Post list-end-Inv-loop list-end-μ-loop
-list-end-item-end-requires t c κs = omega arith
-
-list-end-enum-known-item : (t : ℕ) → list-end-lts.Need-enum-known-item (
-  item-end-below t,
-  item-end.Post,
-) (list-end-at t) list-end.Post list-end-Inv-loop list-end-μ-loop
-list-end-enum-known-item t c = c .match .keys1
+abbrev μ-loop : list-end-lts.MeasureT-loop
+μ-loop s at depth here₀ here = length s - here
 
 -- one item further: that is where the list goes on
-item-went : (t : ℕ)
-    (c : list-end-lts.After-item (item-end-below t, item-end.Post) (list-end-at t) list-end.Post list-end-Inv-loop list-end-μ-loop) →
+item-went : (t : ℕ) (c : list-end-lts.After-item (item-end-below t, item-end.Post) (list-end-at t) list-end.Post Inv-loop μ-loop) →
     let a = c .before .before .before .before .before .before .before .before .args in
     let l = c .before .before .before .before .before .before .loop in
     Went (a .s .now) (l .here) (a .depth) (c .item .given .0 .0) (afterItem (drop (l .here) (a .s .now)) (a .depth))
@@ -156,99 +53,35 @@ item-went t c =
     went (a .s .now) (l .here) (a .depth) (c .item .given .0 .0) (afterItem (drop (l .here) (a .s .now)) (a .depth))
     (item-tail (drop (l .here) (a .s .now)) (a .depth)) (omega arith) (sym (c .before .before .item-end .ensures) ∙ c .item .given .1)
 
-list-end-loop-less :
-    (t : ℕ) →
-    list-end-lts.Need-loop-less
-    (item-end-below t, item-end.Post)
-    (list-end-at t)
-    list-end.Post
-    list-end-Inv-loop
-    list-end-μ-loop
-list-end-loop-less t c = omega (arith, item-went t (c .before))
-
-list-end-loop-again :
-    (t : ℕ) →
-    list-end-lts.Need-loop-again
-    (item-end-below t, item-end.Post)
-    (list-end-at t)
-    list-end.Post
-    list-end-Inv-loop
-    list-end-μ-loop
-list-end-loop-again t c =
-    let a = c .before .before .before .before .before .before .before .before .before .args in
+pub +item-end+list-end-spec : {M : Type 1} → statement M
++item-end+list-end-spec = close μ-item-end μ-list-end
+    (λ t. item-end-lts.spec (list-end-below t, list-end.Post) (item-end-at t) item-end.Post
+    (λ c. omega arith) (λ c. omega arith) (λ c. omega arith) (λ c κs. omega arith) (λ c. omega arith)
+    (λ c. let a = c .before .before .before .before .before .args in
+    c .list-end .ensures
+    ∙ ap (endOf (length (a .s .now))) (item-list (a .s .now) (a .at) (a .depth) (omega arith) (c .before .before .if1 .taken) (c .before .if2 .taken)))
+    (λ c. let a = c .before .before .before .before .args in
+    item-deep (a .s .now) (a .at) (a .depth) (omega arith) (c .before .if1 .taken) (c .if2 .left))
+    (λ c. let a = c .before .before .before .args in
+    item-byte (a .s .now) (a .at) (a .depth) (omega arith) (c .if1 .left)))
+    (λ t. list-end-lts.spec (item-end-below t, item-end.Post) (list-end-at t) list-end.Post Inv-loop μ-loop
+    (λ c. (omega arith, refl)) (λ c. omega arith) (λ c. omega arith)
+    (λ c. let a = c .before .before .before .before .before .args in
+    let l = c .before .before .before .loop in
+    list-closed (a .s .now) (l .here) (a .depth) (omega arith) (c .if1 .taken) ∙ ap (endOf (length (a .s .now))) (l .inv .1))
+    (λ c κs. omega arith) (λ c. c .match .keys1) (λ c. omega (arith, item-went t (c .before)))
+    (λ c. let a = c .before .before .before .before .before .before .before .before .before .args in
     let l = c .before .before .before .before .before .before .before .loop in
     let w = item-went t (c .before) in (
       omega (arith, w .further),
       sym (list-item (a .s .now) (l .here) (a .depth) (omega arith) (c .before .before .before .before .if1 .left) ∙ w .on) ∙ l .inv .1,
-    )
-
-list-end-enum-told :
-    (t : ℕ) →
-    list-end-lts.Need-enum-told
-    (item-end-below t, item-end.Post)
-    (list-end-at t)
-    list-end.Post
-    list-end-Inv-loop
-    list-end-μ-loop
-list-end-enum-told t c = c .match .keys2
-
-list-end-returns-2 :
-    (t : ℕ) →
-    list-end-lts.Need-returns-2
-    (item-end-below t, item-end.Post)
-    (list-end-at t)
-    list-end.Post
-    list-end-Inv-loop
-    list-end-μ-loop
-list-end-returns-2 t c =
-    let a = c .before .before .before .before .before .before .before .before .args in
+    ))
+    (λ c. c .match .keys2)
+    (λ c. let a = c .before .before .before .before .before .before .before .before .args in
     let l = c .before .before .before .before .before .before .loop in
-    let item = afterItem (drop (l .here) (a .s .now)) (a .depth) in
-    item-unmatched (length (a .s .now)) item (a .depth) (sym (c .before .before .item-end .ensures) ∙ c .enum-told .given .1)
-    ∙ ap (endOf (length (a .s .now))) (sym (list-item (a .s .now) (l .here) (a .depth) (omega arith) (c .before .before .before .if1 .left)) ∙ l .inv .1)
-
-list-end-returns-3 :
-    (t : ℕ) →
-    list-end-lts.Need-returns-3
-    (item-end-below t, item-end.Post)
-    (list-end-at t)
-    list-end.Post
-    list-end-Inv-loop
-    list-end-μ-loop
-list-end-returns-3 t c =
-    let a = c .before .before .before .args in
+    item-unmatched (length (a .s .now)) (afterItem (drop (l .here) (a .s .now)) (a .depth)) (a .depth)
+    (sym (c .before .before .item-end .ensures) ∙ c .enum-told .given .1)
+    ∙ ap (endOf (length (a .s .now))) (sym (list-item (a .s .now) (l .here) (a .depth) (omega arith) (c .before .before .before .if1 .left)) ∙ l .inv .1))
+    (λ c. let a = c .before .before .before .args in
     let l = c .before .loop in
-    list-past (a .s .now) (l .here) (a .depth) (c .loop-test .left) ∙ ap (endOf (length (a .s .now))) (l .inv .1)
-
-pub +item-end+list-end-spec : {M : Type 1} → statement M
-+item-end+list-end-spec = close μ-item-end μ-list-end (λ t. item-end-lts.spec (
-  list-end-below t,
-  list-end.Post,
-)
-    (item-end-at t)
-    item-end.Post
-    (item-end-shared-slice-read-if1 t)
-    (item-end-add-list-end t)
-    (item-end-add-list-end-2 t)
-    (item-end-list-end-requires t)
-    (item-end-add-t12 t)
-    (item-end-returns t)
-    (item-end-returns-2 t)
-    (item-end-returns-3 t))
-    λ t. list-end-lts.spec
-    (item-end-below t, item-end.Post)
-    (list-end-at t)
-    list-end.Post
-    list-end-Inv-loop
-    list-end-μ-loop
-    (list-end-loop-holds t)
-    (list-end-shared-slice-read-if1 t)
-    (list-end-add-t11 t)
-    (list-end-returns t)
-    (list-end-item-end-requires t)
-    (list-end-enum-known-item t)
-    (list-end-loop-less t)
-    (list-end-loop-again t)
-    (list-end-enum-told t)
-    (list-end-returns-2 t)
-    (list-end-returns-3 t)
+    list-past (a .s .now) (l .here) (a .depth) (c .loop-test .left) ∙ ap (endOf (length (a .s .now))) (l .inv .1)))

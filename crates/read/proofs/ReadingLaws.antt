@@ -2,29 +2,28 @@
 -- Key idea: the first no of two lists of questions is that of the first, or else that of the second.
 use Prim.Native.Nat.{ℕ, _≤_, _<_, _*_}
 use mathlib.Core.Path.{_≡_, refl, sym, ap, ap₂, _∙_}
-use mathlib.Core.Bool.{Bool, true, false, cond}
-use mathlib.Core.List.{List, [], _∷_, map, append-assoc}
+use mathlib.Core.Bool.{Bool, true, false, _&&_, cond}
+use mathlib.Core.List.{List, [], _∷_, map}
 use native.Mathlib.Omega.{arith}
 use lib.ListN.{length, getD}
 use lib.Seq.{length-sets}
 use lib.Dec.{leb}
 use borrow.Author.Tests.{le-leb, lt-leb, leb-true}
-use Rattle.sheet.specs.Sizes.{maxUnits, maxRules}
+use Rattle.lists.specs.Lists.{onFront}
+use Rattle.questions.specs.Questions.{ask, Verdict, no, allYes, firstNo, andThen}
+use Rattle.questions.specs.FirstNoLaws.{firstNo-append}
+use Rattle.sheet.specs.Sizes.{maxUnits, maxRules, maxBytes}
 use Rattle.sheet.specs.declared.Sheet.{Sheet}
-use Rattle.forms.specs.FormLaws.{and-left, and-right}
-use Rattle.forms.specs.Lines.{lines}
-use Rattle.sheet.specs.Sizes.{maxBytes}
-use Rattle.read_ask.specs.Reading.{contents, hasSheet, sheetIn, ask, lineQuestions, Rooms, roomsFit, questions}
-use Rattle.read_ask.specs.Reading.{Answer, refused, read, Verdict, no, allYes, firstNo, concluded, reading}
-use Rattle.read_ask.specs.Steps.{windowNumbers, ruleNumbers, unitStream, ruleStream, passQuestions, passAnswer, KeptNumbers}
-use Rattle.read.specs.Rooms.{sizesOf, onto, leaves, roomsAfter}
+use Rattle.lists.specs.Members.{and-left, and-right}
+use Rattle.read_ask.specs.Reading.{sheetIn, ListRooms, listsFit, passQuestions, questions, Answer, refused, read, concluded, reading}
+use Rattle.read_ask.specs.Steps.{windowNumbers, ruleNumbers, unitStream, ruleStream, passAnswer, KeptNumbers}
+use Rattle.read.specs.Rooms.{sizesOf, leaves, roomsAfter}
 use Rattle.read.specs.Spread.{strided, filled, Filling}
-use Rattle.read_ask.specs.PassLaws.{andThen, firstNo-append}
 use Rattle.read.proofs.SpreadLaws.{stream-column, rooms-same}
 
-module _ (t : List ℕ) (sizes : Rooms ℕ) where
+module _ (t : List ℕ) (sizes : ListRooms ℕ) where
   abbrev fit : Bool
-  fit = roomsFit (length (sheetIn t .units)) (length (sheetIn t .rules)) sizes
+  fit = listsFit (length (sheetIn t .units)) (length (sheetIn t .rules)) sizes
 
   pub answer-long : maxBytes < length t → refused 1 0 ≡ reading t sizes
   unfolding reading questions firstNo
@@ -33,11 +32,7 @@ module _ (t : List ℕ) (sizes : Rooms ℕ) where
   module _ (h : length t ≤ maxBytes) where
     all-asked : firstNo (questions t sizes) ≡ andThen (firstNo (passQuestions t)) (cond fit allYes (no 12 0))
     unfolding questions firstNo
-    all-asked =
-        let last = ask 12 0 fit ∷ [] in
-        rw (le-leb (length t) maxBytes h)
-        (ap firstNo (sym (append-assoc (lineQuestions 1 [] (lines t)) (ask 5 0 (hasSheet (contents (lines t))) ∷ []) last))
-        ∙ firstNo-append (passQuestions t) last)
+    all-asked = rw (le-leb (length t) maxBytes h) (firstNo-append (passQuestions t) (ask 12 0 fit ∷ []))
 
     call-answer : Verdict → Answer
     call-answer v = concluded (andThen v (cond fit allYes (no 12 0))) (sheetIn t)
@@ -55,59 +50,60 @@ module _ (t : List ℕ) (sizes : Rooms ℕ) where
         go allYes e = let z : _≡_ {A = ℕ} 0 1 = cc in absurd (omega arith)
 
     module _ (p u r : ℕ) (e : read p u r ≡ passAnswer t) where
-      record Passed : Type 0 where
+      record PassYes : Type 0 where
         verdict : firstNo (passQuestions t) ≡ allYes
         span : p ≡ sheetIn t .span
         units : u ≡ length (sheetIn t .units)
         rules : r ≡ length (sheetIn t .rules)
 
-      passed : Passed
+      passed : PassYes
       unfolding passAnswer
       passed = go (firstNo (passQuestions t)) refl e
         where
-          go : (v : Verdict) → firstNo (passQuestions t) ≡ v → read p u r ≡ concluded v (sheetIn t) → Passed
+          go : (v : Verdict) → firstNo (passQuestions t) ≡ v → read p u r ≡ concluded v (sheetIn t) → PassYes
           go (no q′ n′) k e = let z : _≡_ {A = ℕ} 0 1 = cc in absurd (omega arith)
           go allYes k e = record { verdict = k; span = cc; units = cc; rules = cc }
 
-      fit-is : fit ≡ roomsFit u r sizes
-      fit-is = let g = passed in ap₂ (λ (a b : ℕ). roomsFit a b sizes) (sym (g .units)) (sym (g .rules))
+      fit-is : fit ≡ listsFit u r sizes
+      fit-is = let g = passed in ap₂ (λ (a b : ℕ). listsFit a b sizes) (sym (g .units)) (sym (g .rules))
 
-      pub answer-rooms : roomsFit u r sizes ≡ false → refused 12 0 ≡ reading t sizes
+      pub answer-rooms : listsFit u r sizes ≡ false → refused 12 0 ≡ reading t sizes
       unfolding call-answer
       answer-rooms k = sym (is-answer ∙ ap call-answer (passed .verdict) ∙ ap (λ (b : Bool). concluded (cond b allYes (no 12 0)) (sheetIn t)) (fit-is ∙ k))
 
-      pub answer-read : roomsFit u r sizes ≡ true → read p u r ≡ reading t sizes
+      pub answer-read : listsFit u r sizes ≡ true → read p u r ≡ reading t sizes
       unfolding call-answer passAnswer
       answer-read k =
           e ∙ ap (λ (v : Verdict). concluded v (sheetIn t)) (passed .verdict)
           ∙ sym (is-answer ∙ ap call-answer (passed .verdict) ∙ ap (λ (b : Bool). concluded (cond b allYes (no 12 0)) (sheetIn t)) (fit-is ∙ k))
 
 -- a refusal leaves the rooms
-pub rooms-kept : (t : List ℕ) (m : Rooms (List ℕ)) (q n : ℕ) → refused q n ≡ reading t (sizesOf m) → m ≡ roomsAfter t m
+pub rooms-kept : (t : List ℕ) (m : ListRooms (List ℕ)) (q n : ℕ) → refused q n ≡ reading t (sizesOf m) → m ≡ roomsAfter t m
 rooms-kept t m q n e = ap (λ (a : Answer). leaves a (sheetIn t) m) e
 
 -- rooms that question 12 finds long enough, and arrays that hold what was kept
-pub fills : (s : Sheet) (t units units′ rules rules′ : List ℕ) (sizes : Rooms ℕ) → 2 * maxUnits ≤ length units → 4 * maxRules ≤ length rules
-    → KeptNumbers s t units units′ rules rules′ → roomsFit (s .units) (s .rules) sizes ≡ true → Filling s (length units′) (length rules′) sizes
+pub fills : (s : Sheet) (t units units′ rules rules′ : List ℕ) (sizes : ListRooms ℕ) → 2 * maxUnits ≤ length units → 4 * maxRules ≤ length rules
+    → KeptNumbers s t units units′ rules rules′ → listsFit (s .units) (s .rules) sizes ≡ true → Filling s (length units′) (length rules′) sizes
 fills s t units units′ rules rules′ sizes u r k f =
-    let f₁ = and-right (leb (s .units) (sizes .first)) _ f in
-    let f₂ = and-right (leb (s .units) (sizes .last)) _ f₁ in
-    let f₃ = and-right (leb (s .rules) (sizes .from)) _ f₂ in
-    let f₄ = and-right (leb (s .rules) (sizes .to)) _ f₃ in
+    let a = leb (s .units) (sizes .first) && leb (s .units) (sizes .last) in
+    let b = leb (s .rules) (sizes .from) && leb (s .rules) (sizes .to) in
+    let g = and-left a _ f in
+    let h = and-left b _ (and-right a _ f) in
+    let i = and-right b _ (and-right a _ f) in
     record {
       in-units = omega (arith, k .few-units, ap length (k .in-units), length-sets units 0 (unitStream (sheetIn t .units)));
       in-rules = omega (arith, k .few-rules, ap length (k .in-rules), length-sets rules 0 (ruleStream (sheetIn t .rules)));
-      in-first = leb-true (s .units) (sizes .first) (and-left _ _ f);
-      in-last = leb-true (s .units) (sizes .last) (and-left _ _ f₁);
-      in-from = leb-true (s .rules) (sizes .from) (and-left _ _ f₂);
-      in-to = leb-true (s .rules) (sizes .to) (and-left _ _ f₃);
-      in-low = leb-true (s .rules) (sizes .low) (and-left _ _ f₄);
-      in-high = leb-true (s .rules) (sizes .high) (and-right (leb (s .rules) (sizes .low)) _ f₄);
+      in-first = leb-true (s .units) (sizes .first) (and-left _ _ g);
+      in-last = leb-true (s .units) (sizes .last) (and-right (leb (s .units) (sizes .first)) _ g);
+      in-from = leb-true (s .rules) (sizes .from) (and-left _ _ h);
+      in-to = leb-true (s .rules) (sizes .to) (and-right (leb (s .rules) (sizes .from)) _ h);
+      in-low = leb-true (s .rules) (sizes .low) (and-left _ _ i);
+      in-high = leb-true (s .rules) (sizes .high) (and-right (leb (s .rules) (sizes .low)) _ i);
     }
 
 -- what was filled in is what the sheet's lists are
-pub rooms-filled : (s : Sheet) (t units units′ rules rules′ : List ℕ) (m : Rooms (List ℕ)) → 2 * maxUnits ≤ length units → 4 * maxRules ≤ length rules
-    → length t ≤ maxBytes → read (s .span) (s .units) (s .rules) ≡ passAnswer t → roomsFit (s .units) (s .rules) (sizesOf m) ≡ true
+pub rooms-filled : (s : Sheet) (t units units′ rules rules′ : List ℕ) (m : ListRooms (List ℕ)) → 2 * maxUnits ≤ length units → 4 * maxRules ≤ length rules
+    → length t ≤ maxBytes → read (s .span) (s .units) (s .rules) ≡ passAnswer t → listsFit (s .units) (s .rules) (sizesOf m) ≡ true
     → KeptNumbers s t units units′ rules rules′ → filled s units′ rules′ m ≡ roomsAfter t m
 unfolding unitStream ruleStream
 rooms-filled s t units units′ rules rules′ m u r h e f k =
@@ -115,26 +111,21 @@ rooms-filled s t units units′ rules rules′ m u r h e f k =
     (rule-room 0 (omega arith) (m .from)) (rule-room 1 (omega arith) (m .to)) (rule-room 2 (omega arith) (m .low)) (rule-room 3 (omega arith) (m .high))
     ∙ ap (λ (a : Answer). leaves a (sheetIn t) m) (answer-read t (sizesOf m) h (s .span) (s .units) (s .rules) e f)
   where
-    g : Passed t (sizesOf m) h (s .span) (s .units) (s .rules) e
+    g : PassYes t (sizesOf m) h (s .span) (s .units) (s .rules) e
     g = passed t (sizesOf m) h (s .span) (s .units) (s .rules) e
 
-    unit-room : (c : ℕ) → c < 2 → (room : List ℕ) → onto (strided (s .units) 2 c units′) room
-        ≡ onto (map (λ w. getD (windowNumbers w) c 0) (sheetIn t .units)) room
+    unit-room : (c : ℕ) → c < 2 → (room : List ℕ) → onFront (strided (s .units) 2 c units′) room
+        ≡ onFront (map (λ w. getD (windowNumbers w) c 0) (sheetIn t .units)) room
     unit-room c l room =
         let ws = sheetIn t .units in
-        ap (λ (xs : List ℕ). onto xs room)
+        ap (λ (xs : List ℕ). onFront xs room)
         (ap₂ (λ (n : ℕ) (xs : List ℕ). strided n 2 c xs) (g .units) (k .in-units)
         ∙ stream-column windowNumbers 2 c l (λ w. refl) units ws (omega (arith, k .few-units, g .units)))
 
-    rule-room : (c : ℕ) → c < 4 → (room : List ℕ) → onto (strided (s .rules) 4 c rules′) room
-        ≡ onto (map (λ w. getD (ruleNumbers w) c 0) (sheetIn t .rules)) room
+    rule-room : (c : ℕ) → c < 4 → (room : List ℕ) → onFront (strided (s .rules) 4 c rules′) room
+        ≡ onFront (map (λ w. getD (ruleNumbers w) c 0) (sheetIn t .rules)) room
     rule-room c l room =
         let rs = sheetIn t .rules in
-        ap (λ (xs : List ℕ). onto xs room)
+        ap (λ (xs : List ℕ). onFront xs room)
         (ap₂ (λ (n : ℕ) (xs : List ℕ). strided n 4 c xs) (g .rules) (k .in-rules)
         ∙ stream-column ruleNumbers 4 c l (λ w. refl) rules rs (omega (arith, k .few-rules, g .rules)))
-
--- where all rooms but the last are long enough, the last one decides
-pub fits-last : (u r : ℕ) (m : Rooms ℕ) → u ≤ m .first → u ≤ m .last → r ≤ m .from → r ≤ m .to → r ≤ m .low → leb r (m .high) ≡ roomsFit u r m
-fits-last u r m a b c d e =
-    simp (le-leb u (m .first) a, le-leb u (m .last) b, le-leb r (m .from) c, le-leb r (m .to) d, le-leb r (m .low) e)

@@ -1,3 +1,5 @@
+-- The lines, one after the other, and then question 5 of the text.
+-- Key idea: at each line's start what is left to ask decides the whole, and the arrays hold the numbers of the lines before (`Asking`).
 use Prim.Native.Nat.{ℕ, _+_, _-_, _*_}
 use mathlib.Core.Path.{_≡_, sym, ap, _∙_}
 use native.Mathlib.Omega.{arith}
@@ -9,8 +11,8 @@ use Rattle.read_ask.specs.declared.Step.{Step}
 use Rattle.read_ask.specs.declared.Step.the-variants.{No, On}
 use Rattle.read_ask.proofs.ReadLaws.{Asking, asking-start, asking-no, asking-on, asking-none, asking-sheet}
 use Rattle.read_ask.proofs.ReadLaws.{units-kept, rules-kept, units-size, rules-size}
-use Rattle.read_ask.proofs.ask.Statement.{statement}
-use Rattle.read_ask.proofs.ask.Tie as tie
+use Rattle.read_ask.proofs.ask_text.Statement.{statement}
+use Rattle.read_ask.proofs.ask_text.Tie as tie
 
 abbrev Inv-loop : tie.InvT-loop
 Inv-loop text units₀ rules₀ grid table s₀ at₀ n₀ units rules s at n = Asking text at n s units₀ units rules₀ rules
@@ -44,9 +46,6 @@ line-step-requires c κs =
     let p = start (c .before .before .before .before .before .before) .pre in
     (omega (arith, p .0, units-size _ _ _ _ _ _ _ _ (l .inv)), omega (arith, p .1, rules-size _ _ _ _ _ _ _ _ (l .inv)))
 
-enum-known-step : tie.Need-enum-known-step Inv-loop μ-loop
-enum-known-step c = c .match .keys1
-
 -- what the line's step means, where it was made
 refuses : (c : tie.After-slice-known4 Inv-loop μ-loop) (q : ℕ) → c .before .before .before .before .line-step .result ≡ No q
     → refused q (at-head c .loop .n) ≡ passAnswer (start (at-head c) .args .text .now)
@@ -79,12 +78,6 @@ same-length-2 : tie.Need-same-length-2 Inv-loop μ-loop
 same-length-2 c = c .before .before .before .before .before .before .before .line-step .kept .1 .1 .1 .0
     ∙ rules-size _ _ _ _ _ _ _ _ (at-head (c .before .before .before) .loop .inv)
 
-returns : tie.Need-returns Inv-loop μ-loop
-returns c = (refuses (c .before .before .before) _ (c .before .step .given .1), tt)
-
-enum-known-step-2 : tie.Need-enum-known-step-2 Inv-loop μ-loop
-enum-known-step-2 c = c .match .keys2
-
 add-n : tie.Need-add-n Inv-loop μ-loop
 add-n c =
     let l = at-head (c .before .before .before) in
@@ -97,24 +90,6 @@ loop-less c = omega (
   in-turn
       (c .before .before .before) .loop-test .taken,
 )
-
-loop-again : tie.Need-loop-again Inv-loop μ-loop
-loop-again c = goes-on (c .before .before .before) _ (c .before .step2 .given .1)
-
-same-length-3 : tie.Need-same-length-3 Inv-loop μ-loop
-same-length-3 c = units-size _ _ _ _ _ _ _ _ (c .before .before .before .loop .inv)
-
-same-length-4 : tie.Need-same-length-4 Inv-loop μ-loop
-same-length-4 c = rules-size _ _ _ _ _ _ _ _ (c .before .before .before .loop .inv)
-
-returns-2 : tie.Need-returns-2 Inv-loop μ-loop
-returns-2 c = (asking-none _ _ _ _ _ _ _ _ (c .before .before .before .loop .inv) (c .before .before .loop-test .left) (c .if1 .taken), tt)
-
-same-length-5 : tie.Need-same-length-5 Inv-loop μ-loop
-same-length-5 c = units-size _ _ _ _ _ _ _ _ (c .before .before .before .loop .inv)
-
-same-length-6 : tie.Need-same-length-6 Inv-loop μ-loop
-same-length-6 c = rules-size _ _ _ _ _ _ _ _ (c .before .before .before .loop .inv)
 
 returns-3 : tie.Need-returns-3 Inv-loop μ-loop
 returns-3 c =
@@ -129,7 +104,11 @@ returns-3 c =
       },
     )
 
-pub ask-spec : {M : Type 1} → statement M
-ask-spec = tie.close (tie.spec Inv-loop μ-loop (λ c κs. tt) (λ c κs. tt) (λ c κs. tt) loop-holds line-at-requires line-step-requires enum-known-step
-    same-length same-length-2 returns enum-known-step-2 add-n loop-less loop-again same-length-3 same-length-4 returns-2 same-length-5 same-length-6
+pub ask-text-spec : {M : Type 1} → statement M
+ask-text-spec = tie.close (tie.spec Inv-loop μ-loop (λ c κs. tt) (λ c κs. tt) (λ c κs. tt) loop-holds line-at-requires line-step-requires
+    (λ c. c .match .keys1) same-length same-length-2 (λ c. (refuses (c .before .before .before) _ (c .before .step .given .1), tt))
+    (λ c. c .match .keys2) add-n loop-less (λ c. goes-on (c .before .before .before) _ (c .before .step2 .given .1))
+    (λ c. units-size _ _ _ _ _ _ _ _ (c .before .before .before .loop .inv)) (λ c. rules-size _ _ _ _ _ _ _ _ (c .before .before .before .loop .inv))
+    (λ c. (asking-none _ _ _ _ _ _ _ _ (c .before .before .before .loop .inv) (c .before .before .loop-test .left) (c .if1 .taken), tt))
+    (λ c. units-size _ _ _ _ _ _ _ _ (c .before .before .before .loop .inv)) (λ c. rules-size _ _ _ _ _ _ _ _ (c .before .before .before .loop .inv))
     returns-3)
