@@ -1,10 +1,10 @@
 -- The user's three conditions, of planning from lists, in the words of lawful plans alone.
--- `call` is what the entry `plan` ensures of every call: `Left`, in Planning.antt. `before` and `after` are the rooms lent, `s` the sheet in the lists.
+-- `call` is what the entry `plan` ensures of every call: `Settled`, in Planning.antt. `before` and `after` are the rooms lent, `s` the sheet in the lists.
 use mathlib.Core.Path.{_≡_, refl, sym, ap, _∙_, subst}
 use mathlib.Core.Logic.{⊎-elim, _↔_}
 use mathlib.Core.Bool.{Bool, false, cond}
 use mathlib.Core.List.{List, _++_, map}
-use Prim.Native.Nat.{ℕ, zero, suc, _+_, _*_, _≤_, _<_}
+use Prim.Native.Nat.{ℕ, suc, _+_, _*_, _≤_, _<_}
 use native.Mathlib.Omega.{arith}
 use lib.Dec.{T, eqb}
 use lib.ListN.{length, getD, take, drop, List·getD-append}
@@ -14,15 +14,18 @@ use lib.Signed.{_≤ℤ_}
 use Rattle.integers.specs.Parts.{ints, neg}
 use Rattle.network.specs.NetworkLaws.{cycle-infeasible}
 use Rattle.network.specs.Table.{entry, cleared}
-use Rattle.network.specs.TableLaws.{row-inside, values-at, length-values}
-use Rattle.sheet.specs.Sheet.{Sheet, top, boundaries, limit, isRing, lines, lawful, fair, countIn, leastIn}
+use Rattle.network.specs.TableLaws.{row-inside}
+use Rattle.lists.specs.Values.{values-at, length-values}
+use Rattle.questions.specs.Questions.{Verdict, no, allYes}
+use Rattle.sheet.specs.Sheet.{Sheet, top, boundaries, limit, isRing, unitPlaces, lawful, fair, countIn, leastIn}
 use Rattle.sheet.specs.Sheet.{earliest, latest, earliestSlots, latestSlots, printedPlan}
 use Rattle.sheet.specs.PotentialLaws.{lawful-feasible}
 use Rattle.sheet.specs.PlanLaws.{lawful-iff, earliest-bound, earliest-attained, latest-bound, latest-attained, greatestIn-bound}
-use Rattle.plan_seats.specs.PrintedLaws.{Printed, some-printed}
-use Rattle.plan_seats.specs.RangeLaws.{solved-plan, range, greatest-entry, least-entry}
-use Rattle.plan_ask.specs.Questions.{Lists, Rooms, given, lent, places, refusal}
-use Rattle.plan_solve.specs.Planning.{verdict, Left, numberOf}
+use Rattle.plans.specs.PrintedLaws.{Printed, some-printed}
+use Rattle.plans.specs.CountLaws.{solved-plan, range, greatest-entry, least-entry}
+use Rattle.plan_ask.specs.Questions.{Rooms, lent, places, refusal}
+use Rattle.sheet.specs.Lists.{Lists, given}
+use Rattle.plan_solve.specs.Planning.{conclusion, Settled, refusalOf}
 use Rattle.plan.specs.ConditionLaws.{Planned, Ringed, call-refused, call-answered, call-planned}
 use Rattle.plan_solve.specs.declared.Answer.{Answer}
 use Rattle.plan_solve.specs.declared.Answer.the-variants.{Plan, None}
@@ -32,31 +35,31 @@ pub ring-contradicts : (s : Sheet) (ring : List ℕ) → T (isRing s ring) → (
 unfolding isRing
 ring-contradicts s ring h x l = cycle-infeasible (limit s) (top s) (λ b. pos (countIn 1 b x)) (lawful-feasible s x l (top s)) ring h
 
-module _ (l : Lists) (before : Rooms) (reply : Answer) (after : Rooms) (call : Left (verdict l before) (given l) before reply after) where
+module _ (l : Lists) (before : Rooms) (reply : Answer) (after : Rooms) (call : Settled (conclusion l before) (given l) before reply after) where
   abbrev pub s : Sheet
   s = given l
 
   -- ---- 1. Ground. (That a call ends and does nothing undefined is what the checker asks of every function; `plan` has no `requires`.)
 
-  -- The reply's number is the first question whose answer is no, in document 01's order; 0 for an answer.
-  pub number-is-first-no : numberOf reply ≡ refusal l before
+  -- The reply's refusal, by number and line, is the first question whose answer is no, in the order of docs/RULES.md; an answer has none.
+  pub number-is-first-no : refusalOf reply ≡ refusal l before
   number-is-first-no = go (refusal l before) refl
     where
-      go : (n : ℕ) → refusal l before ≡ n → numberOf reply ≡ refusal l before
-      go zero e =
-          ⊎-elim (λ (p : Planned s before reply after). ap numberOf (p .is) ∙ sym e) (λ (r : Ringed s before reply after). ap numberOf (r .is) ∙ sym e)
+      go : (v : Verdict) → refusal l before ≡ v → refusalOf reply ≡ refusal l before
+      go (no q n) e = ap refusalOf (call-refused l before reply after call q n e .0) ∙ sym e
+      go allYes e =
+          ⊎-elim (λ (p : Planned s before reply after). ap refusalOf (p .is) ∙ sym e) (λ (r : Ringed s before reply after). ap refusalOf (r .is) ∙ sym e)
           (call-answered l before reply after call e)
-      go (suc k) e = ap numberOf (call-refused l before reply after call k e .0) ∙ sym e
 
   -- A refusal changes no place lent, save the table by 14.
-  pub refused-changes-nothing : (k : ℕ) → refusal l before ≡ suc k → eqb (suc k) 14 ≡ false → after ≡ before
-  refused-changes-nothing k e f =
-      call-refused l before reply after call k e .1
+  pub refused-changes-nothing : (q n : ℕ) → refusal l before ≡ no q n → eqb q 14 ≡ false → after ≡ before
+  refused-changes-nothing q n e f =
+      call-refused l before reply after call q n e .1
       ∙ ap (λ (t : List ℤ). lent t (before .plan) (before .earliest) (before .latest) (before .ring))
       (ap (λ (b : Bool). cond b (cleared (places s) (before .table)) (before .table)) f)
 
   -- ---- 2. Plan or ring. A sheet that is not refused gets a plan exactly when some assignment meets all windows and all rules;
-  pub plan-exactly-when-lawful : refusal l before ≡ 0 → (reply ≡ Plan) ↔ ((x : List ℕ) × T (lawful s x))
+  pub plan-exactly-when-lawful : refusal l before ≡ allYes → (reply ≡ Plan) ↔ ((x : List ℕ) × T (lawful s x))
   plan-exactly-when-lawful e = (
     (λ f. let p = call-planned l before reply after call f in solved-plan s (entry (boundaries s) (p .table)) (p .solved)),
     (λ x. ⊎-elim (λ (p : Planned s before reply after). p .is) (λ (r : Ringed s before reply after). absurd (r .unlawful (x .0) (x .1)))
@@ -64,7 +67,7 @@ module _ (l : Lists) (before : Rooms) (reply : Answer) (after : Rooms) (call : L
   )
 
   -- else it says none, and a ring of the sheet's own limits stands at the front of its room.
-  pub ring-otherwise : refusal l before ≡ 0 → ((x : List ℕ) → T (lawful s x) → ⊥)
+  pub ring-otherwise : refusal l before ≡ allYes → ((x : List ℕ) → T (lawful s x) → ⊥)
       → (ring : List ℕ) × T (isRing s ring) × (reply ≡ None (length ring)) × (take (length ring) (after .ring) ≡ ring)
   ring-otherwise e f =
       ⊎-elim (λ (p : Planned s before reply after). let x = solved-plan s (entry (boundaries s) (p .table)) (p .solved) in absurd (f (x .0) (x .1)))
@@ -80,9 +83,9 @@ module _ (l : Lists) (before : Rooms) (reply : Answer) (after : Rooms) (call : L
     some : (x : List ℕ) × T (lawful s x)
     some = solved-plan s (entry (boundaries s) (P .table)) (P .solved)
 
-    slot-at : (f : ℕ → ℕ) (rest : List ℕ) (j : ℕ) → j < length (s .units) → getD (map f (lines s) ++ rest) j 0 ≡ f j
+    slot-at : (f : ℕ → ℕ) (rest : List ℕ) (j : ℕ) → j < length (s .units) → getD (map f (unitPlaces s) ++ rest) j 0 ≡ f j
     slot-at f rest j h =
-        List·getD-append (map f (lines s)) rest 0 j (omega (arith, length-values f 0 (length (s .units))))
+        List·getD-append (map f (unitPlaces s)) rest 0 j (omega (arith, length-values f 0 (length (s .units))))
         ∙ values-at f 0 (length (s .units)) j 0 h ∙ ap f (omega arith)
 
     earliest-at : (j : ℕ) → j < length (s .units) → getD (after .earliest) j 0 ≡ earliest s j

@@ -1,5 +1,7 @@
-ghost use Rattle.plan_ask.specs.Questions.{listed, lent, given};
-ghost use Rattle.plan_solve.specs.Planning.{verdict, Left};
+ghost use Rattle.sheet.specs.Lists.{listed, given};
+ghost use Rattle.plan_ask.specs.Questions.{lent};
+ghost use Rattle.plan_solve.specs.Planning.{conclusion, Settled};
+use questions::Checked;
 
 // Plans from lists. The questions come first; then the sheet gets a plan, or none and a ring.
 pub fn plan(
@@ -19,19 +21,14 @@ pub fn plan(
     ensures { λ r.
         let l = listed span (now (first .entry)) (now (last .entry)) (now (from .entry)) (now (to .entry)) (now (low .entry)) (now (high .entry)) in
         let before = lent (now (table .entry)) (now (plan .entry)) (now (earliest .entry)) (now (latest .entry)) (now (ring .entry)) in
-        ⌜ Left (verdict l before) (given l) before r
+        ⌜ Settled (conclusion l before) (given l) before r
         (lent (now (table .exit)) (now (plan .exit)) (now (earliest .exit)) (now (latest .exit)) (now (ring .exit))) ⌝ }
 {
-    let rooms = plan_ask::Lengths {
-        table: table.len(),
-        plan: plan.len(),
-        earliest: earliest.len(),
-        latest: latest.len(),
-        ring: ring.len(),
-    };
-    let no = plan_ask::ask(span, first, last, from, to, low, high, rooms);
-    if no == 0 {
-        plan_solve::solve(
+    let rooms = plan_ask::lengths_of(table, plan, earliest, latest, ring);
+    let asked = plan_ask::ask_lists(span, first, last, from, to, low, high, rooms);
+    match asked {
+        Checked::No(refusal) => plan_solve::Answer::Refused(refusal),
+        Checked::Yes => plan_solve::solve(
             span,
             first,
             last,
@@ -44,8 +41,6 @@ pub fn plan(
             earliest,
             latest,
             ring,
-        )
-    } else {
-        plan_solve::Answer::Refused(no)
+        ),
     }
 }

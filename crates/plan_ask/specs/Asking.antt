@@ -3,13 +3,24 @@ use mathlib.Core.Bool.{Bool, _&&_}
 use mathlib.Core.List.{List}
 use Prim.Native.Nat.{ℕ, _*_}
 use lib.Dec.{T, leb}
+use lib.ListN.{length}
 use Rattle.lists.specs.Lists.{every}
-use Rattle.sheet.specs.Questions.{windowsOf, accepted}
+use Rattle.questions.specs.Questions.{Question}
+use Rattle.sheet.specs.Sheet.{Sheet}
+use Rattle.sheet.specs.Questions.{windowsOf, rising, accepted}
+use Rattle.sheet.specs.Lists.{Lists, given, agree}
 use Rattle.plan_ask.specs.declared.Lengths.{Lengths}
-use Rattle.plan_ask.specs.Questions.{Lists, Rooms, given, fitsRooms, agree, roomsFit, asked, firstNo}
+use Rattle.plan_ask.specs.Questions.{Rooms, fitsRooms, roomsFit, asked}
 
-abbrev pub rising : ℕ → ℕ → ℕ → ℕ → Bool
-rising least most f l = leb least f && (leb f l && leb l most)
+-- the lengths of the rooms
+abbrev pub lengthsOf : Rooms → Lengths
+lengthsOf r = record {
+  table = length (r .table);
+  plan = length (r .plan);
+  earliest = length (r .earliest);
+  latest = length (r .latest);
+  ring = length (r .ring);
+}
 
 unfoldable pub allRising : ℕ → ℕ → List ℕ → List ℕ → Bool
 allRising least most fs ls = every (λ w. rising least most (w .first) (w .last)) (windowsOf fs ls)
@@ -17,11 +28,12 @@ allRising least most fs ls = every (λ w. rising least most (w .first) (w .last)
 unfoldable pub lengthsFit : ℕ → ℕ → Lengths → Bool
 lengthsFit w n r = leb (w * w) (r .table) && (leb n (r .plan) && (leb n (r .earliest) && (leb n (r .latest) && leb w (r .ring))))
 
--- the first no before the pass
-unfoldable pub askedNo : Lists → Lengths → ℕ
-askedNo l r =
-    let s = given l in
-    firstNo (asked (agree l) s (roomsFit s (r .table) (r .plan) (r .earliest) (r .latest) (r .ring)))
+-- the questions before the pass, by the rooms' lengths
+abbrev pub fitLengths : Sheet → Lengths → Bool
+fitLengths s r = roomsFit s (r .table) (r .plan) (r .earliest) (r .latest) (r .ring)
+
+abbrev pub askedFirst : Lists → Lengths → List Question
+askedFirst l r = asked (agree l) (given l) (fitLengths (given l) r)
 
 -- every question before the pass is answered yes
 pub record Solvable (l : Lists) (r : Rooms) : Type 0 where

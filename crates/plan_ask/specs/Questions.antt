@@ -1,34 +1,17 @@
--- The questions of planning from lists, in their order: document 01, "Questions a call asks". Definitions only.
-use mathlib.Core.Bool.{Bool, true, false, _&&_, cond}
+-- The questions of planning from lists, in their order: docs/RULES.md, "The order of the questions". Definitions only.
+use mathlib.Core.Bool.{Bool, true, false, _&&_}
 use mathlib.Core.List.{List, [], _∷_, _++_}
 use Prim.Native.Nat.{ℕ, _*_}
 use lib.Dec.{leb}
 use lib.ListN.{length}
 use lib.IntN.{ℤ}
 use Rattle.network.specs.Table.{Passed, finished, stopped, outOfRange, tableOf, passOf}
+use Rattle.questions.specs.Questions.{Question, ask, Verdict, firstNo}
 use Rattle.sheet.specs.Sheet.{Sheet, Slot, limit, boundaries}
-use Rattle.sheet.specs.Questions.{sheetOf, listsAgree, spanFits, windowsFit, stretchesFit, countsFit, unitsFit, rulesFit}
+use Rattle.sheet.specs.Lists.{Lists, given, agree}
+use Rattle.sheet.specs.Questions.{sheetQuestions}
 
--- ---- the lists and the rooms of a call
-
--- a sheet in parallel lists, as a call is given it
-pub record Lists : Type 0 where
-  pub span : ℕ
-  pub first : List Slot
-  pub last : List Slot
-  pub from : List Slot
-  pub to : List Slot
-  pub low : List ℕ
-  pub high : List ℕ
-
-abbrev pub listed : ℕ → List Slot → List Slot → List Slot → List Slot → List ℕ → List ℕ → Lists
-listed p fs ls rs ts lo hi = record { span = p; first = fs; last = ls; from = rs; to = ts; low = lo; high = hi }
-
-abbrev pub given : Lists → Sheet
-given l = sheetOf (l .span) (l .first) (l .last) (l .from) (l .to) (l .low) (l .high)
-
-abbrev pub agree : Lists → Bool
-agree l = listsAgree (l .first) (l .last) (l .from) (l .to) (l .low) (l .high)
+-- ---- the rooms of a call
 
 -- what a call lends: before it, or after it
 pub record Rooms : Type 0 where
@@ -62,29 +45,19 @@ inRange (finished t) = true
 inRange stopped = true
 inRange outOfRange = false
 
--- ---- the questions, in their order
-
-pub record Question : Type 0 where
-  pub number : ℕ
-  pub yes : Bool
-
-abbrev q : ℕ → Bool → Question
-q n b = record { number = n; yes = b }
-
--- the number of the first question whose answer is no; 0 where all are yes
-abbrev pub firstNo : List Question → ℕ
-firstNo [] = 0
-firstNo (x ∷ xs) = cond (x .yes) (firstNo xs) (x .number)
+-- ---- the questions, in their order; none is asked of a line
 
 -- what is asked before the pass
 abbrev pub asked : Bool → Sheet → Bool → List Question
-asked lists s rooms =
-    q 13 lists ∷ q 6 (spanFits s) ∷ q 9 (unitsFit s) ∷ q 10 (rulesFit s)
-    ∷ q 7 (windowsFit s) ∷ q 7 (stretchesFit s) ∷ q 8 (countsFit s) ∷ q 12 rooms ∷ []
+asked lists s rooms = ask 13 0 lists ∷ (sheetQuestions s ++ (ask 12 0 rooms ∷ []))
+
+-- what is asked of the pass
+abbrev pub askedOfPass : Passed → List Question
+askedOfPass p = ask 14 0 (inRange p) ∷ []
 
 abbrev pub questions : Lists → Rooms → List Question
-questions l r = asked (agree l) (given l) (fitsRooms (given l) r) ++ q 14 (inRange (passed (given l))) ∷ []
+questions l r = asked (agree l) (given l) (fitsRooms (given l) r) ++ askedOfPass (passed (given l))
 
--- the number of the refusal, or 0
-unfoldable pub refusal : Lists → Rooms → ℕ
+-- the refusal, by number and line, or none
+unfoldable pub refusal : Lists → Rooms → Verdict
 refusal l r = firstNo (questions l r)

@@ -1,11 +1,14 @@
 ghost use mathlib.Core.Path.{_≡_};
-ghost use Prim.Native.Nat.{_+_, _≤_};
+ghost use Prim.Native.Nat.{_≤_};
 ghost use lib.ListN.{length};
-ghost use Rattle.lists.specs.Lists.{within};
-ghost use Rattle.sheet.specs.Sizes.{maxSlots};
+ghost use Rattle.questions.specs.Questions.{firstNo, verdictOf};
+ghost use Rattle.network.specs.Table.{maxBoundaries};
 ghost use Rattle.sheet.specs.Questions.{listsAgree};
-ghost use Rattle.plan_ask.specs.Questions.{listed};
-ghost use Rattle.plan_ask.specs.Asking.{rising, allRising, lengthsFit, askedNo};
+ghost use Rattle.sheet.specs.Lists.{listed};
+ghost use Rattle.plan_ask.specs.Questions.{lent};
+ghost use Rattle.plan_ask.specs.Asking.{lengthsOf, allRising, lengthsFit, askedFirst};
+use questions::Checked;
+use questions::Refusal;
 
 // The lengths of the rooms that a call lends.
 pub struct Lengths {
@@ -14,6 +17,25 @@ pub struct Lengths {
     pub earliest: usize,
     pub latest: usize,
     pub ring: usize,
+}
+
+// Those of these rooms.
+pub fn lengths_of(
+    table: &[i16],
+    plan: &[u16],
+    earliest: &[u16],
+    latest: &[u16],
+    ring: &[u16],
+) -> Lengths
+    ensures { λ r. ⌜ r ≡ lengthsOf (lent (now (table .entry)) (now (plan .entry)) (now (earliest .entry)) (now (latest .entry)) (now (ring .entry))) ⌝ }
+{
+    Lengths {
+        table: table.len(),
+        plan: plan.len(),
+        earliest: earliest.len(),
+        latest: latest.len(),
+        ring: ring.len(),
+    }
 }
 
 // Question 13.
@@ -39,28 +61,6 @@ fn lists_agree(
     high.len() == from.len()
 }
 
-// Question 6.
-fn span_fits(span: usize) -> bool
-    ensures { λ r. ⌜ r ≡ within 1 maxSlots span ⌝ }
-{
-    if span < 1 {
-        return false;
-    }
-    span <= sheet::Sheet::MAX_SLOTS
-}
-
-fn rises(least: usize, most: usize, first: usize, last: usize) -> bool
-    ensures { λ r. ⌜ r ≡ rising least most first last ⌝ }
-{
-    if first < least {
-        return false;
-    }
-    if last < first {
-        return false;
-    }
-    last <= most
-}
-
 // Questions 7 and 8 are one: least ≤ first ≤ last ≤ most, at each place of two lists.
 fn all_rise(least: usize, most: usize, first: &[u16], last: &[u16]) -> bool
     requires { ⌜ length (now last) ≡ length (now first) ⌝ }
@@ -68,7 +68,7 @@ fn all_rise(least: usize, most: usize, first: &[u16], last: &[u16]) -> bool
 {
     let mut j: usize = 0;
     while j < first.len() {
-        if rises(least, most, first[j] as usize, last[j] as usize) {
+        if sheet::rises(least, most, first[j] as usize, last[j] as usize) {
             j += 1;
         } else {
             return false;
@@ -78,11 +78,10 @@ fn all_rise(least: usize, most: usize, first: &[u16], last: &[u16]) -> bool
 }
 
 // Question 12.
-fn rooms_fit(span: usize, units: usize, rooms: Lengths) -> bool
-    requires { ⌜ span ≤ maxSlots ⌝ }
-    ensures { λ r. ⌜ r ≡ lengthsFit (span + 1) units rooms ⌝ }
+fn rooms_fit(w: usize, units: usize, rooms: Lengths) -> bool
+    requires { ⌜ w ≤ maxBoundaries ⌝ }
+    ensures { λ r. ⌜ r ≡ lengthsFit w units rooms ⌝ }
 {
-    let w = span + 1;
     let table = rooms.table;
     let plan = rooms.plan;
     let earliest = rooms.earliest;
@@ -103,8 +102,8 @@ fn rooms_fit(span: usize, units: usize, rooms: Lengths) -> bool
     w <= ring
 }
 
-// The number of the first question before the pass whose answer is no, or 0.
-pub fn ask(
+// The questions before the pass, in their order: the first no, or none. No line is to blame.
+pub fn ask_lists(
     span: usize,
     first: &[u16],
     last: &[u16],
@@ -113,35 +112,44 @@ pub fn ask(
     low: &[u16],
     high: &[u16],
     rooms: Lengths,
-) -> usize
+) -> Checked
     ensures { λ r.
-        ⌜ r ≡ askedNo
-        (listed span (now (first .entry)) (now (last .entry)) (now (from .entry)) (now (to .entry)) (now (low .entry)) (now (high .entry))) rooms ⌝ }
+        ⌜ verdictOf r ≡ firstNo (askedFirst
+        (listed span (now (first .entry)) (now (last .entry)) (now (from .entry)) (now (to .entry)) (now (low .entry)) (now (high .entry))) rooms) ⌝ }
 {
     if lists_agree(first, last, from, to, low, high) {} else {
-        return 13;
+        return Checked::No(Refusal {
+            number: 13,
+            line: 0,
+        });
     }
-    if span_fits(span) {} else {
-        return 6;
+    if sheet::is_span(span) {} else {
+        return Checked::No(Refusal { number: 6, line: 0 });
     }
     if sheet::Sheet::MAX_UNITS < first.len() {
-        return 9;
+        return Checked::No(Refusal { number: 9, line: 0 });
     }
     if sheet::Sheet::MAX_RULES < from.len() {
-        return 10;
+        return Checked::No(Refusal {
+            number: 10,
+            line: 0,
+        });
     }
     if all_rise(1, span, first, last) {} else {
-        return 7;
+        return Checked::No(Refusal { number: 7, line: 0 });
     }
     if all_rise(1, span, from, to) {} else {
-        return 7;
+        return Checked::No(Refusal { number: 7, line: 0 });
     }
     if all_rise(0, sheet::Sheet::MAX_COUNT, low, high) {} else {
-        return 8;
+        return Checked::No(Refusal { number: 8, line: 0 });
     }
-    if rooms_fit(span, first.len(), rooms) {
-        0
+    if rooms_fit(sheet::boundaries(span), first.len(), rooms) {
+        Checked::Yes
     } else {
-        12
+        Checked::No(Refusal {
+            number: 12,
+            line: 0,
+        })
     }
 }

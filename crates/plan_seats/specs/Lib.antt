@@ -1,12 +1,3 @@
-pub mod Seating
-pub mod OrderLaws
-pub mod SeatingLaws
-pub mod UniquenessLaws
-pub mod FairLaws
-pub mod FeasibleLaws
-pub mod RangeLaws
-pub mod PrintedLaws
-pub mod DistinctLaws
 pub mod Sorting
-pub mod Row
-pub mod RowLaws
+pub mod Seats
+pub mod SeatsLaws

@@ -1,7 +1,7 @@
 -- The pass over the limits in a longer room is the pass over the table of the limits, with the room's other places behind it.
 use mathlib.Core.Path.{_≡_, refl, sym, ap, _∙_, subst}
 use mathlib.Core.List.{List, _++_}
-use Prim.Native.Nat.{ℕ, _+_, _*_, _≤_}
+use Prim.Native.Nat.{ℕ, _*_, _≤_}
 use native.Mathlib.Omega.{arith}
 use lib.ListN.{length, drop, replicate}
 use lib.Seq.{drop-at}
@@ -10,15 +10,22 @@ use Rattle.network.specs.Table.{maxBoundaries, Passed, finished, stopped, outOf
 use Rattle.network.specs.TableLaws.{length-tableOf}
 use Rattle.network.specs.PassFront.{withRest, pass-front}
 use Rattle.network.specs.declared.Outcome.{Outcome}
+use Rattle.sheet.specs.Sizes.{maxSlots, boundariesOf}
 use Rattle.sheet.specs.Sheet.{Sheet, limit, boundaries}
+use Rattle.sheet.specs.Lists.{Lists, given}
 use Rattle.limits.specs.LimitTable.{limitTable, Fillable}
-use Rattle.limits.specs.LimitTableLaws.{accepted-span, length-limitTable}
+use Rattle.limits.specs.LimitTableLaws.{accepted-span, boundaries-are, length-limitTable}
 use Rattle.plan_ask.specs.Questions.{places, passed}
 use Rattle.plan_solve.specs.Deciding.{tableLeft, Decided}
 
 -- ---- the table, filled with the limits
-pub fillable-few : (span : ℕ) (first last from to low high : List ℕ) (room : ℕ) → Fillable span first last from to low high room → span + 1 ≤ maxBoundaries
-fillable-few span first last from to low high room f = omega (arith, accepted-span span first last from to low high (f .ok) (f .agree))
+module _ (l : Lists) (room : ℕ) (f : Fillable (l .span) (l .first) (l .last) (l .from) (l .to) (l .low) (l .high) room) where
+  pub span-few : l .span ≤ maxSlots
+  span-few = accepted-span (l .span) (l .first) (l .last) (l .from) (l .to) (l .low) (l .high) (f .ok) (f .agree)
+
+  -- as the code counts its boundaries
+  pub boundaries-counted : (w : ℕ) → w ≡ boundariesOf (l .span) → (boundaries (given l) ≡ w) × (w ≤ maxBoundaries)
+  boundaries-counted w e = (boundaries-are (l .span) (l .first) (l .last) (l .from) (l .to) (l .low) (l .high) ∙ sym e, omega (arith, span-few))
 
 pub filled-room : (s : Sheet) (room filled : List ℤ) (w : ℕ) → boundaries s ≡ w → places s ≤ length room → filled ≡ limitTable s room → w * w ≤ length filled
 filled-room s room filled w e fits is = omega (arith, ap (λ (n : ℕ). n * n) e, ap length is, length-limitTable s room fits)

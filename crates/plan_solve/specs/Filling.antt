@@ -19,7 +19,7 @@ pub record Ready (s : Sheet) (w : ℕ) (first last : List ℕ) (table : List ℤ
   pub solved : Solved s (entry w table)
 
 -- what seating and narrowing leave
-pub record Filled (s : Sheet) (plan earliest latest planAfter earliestAfter latestAfter : List ℕ) : Type 0 where
+pub record PlanFilled (s : Sheet) (plan earliest latest planAfter earliestAfter latestAfter : List ℕ) : Type 0 where
   pub seats : planAfter ≡ printedPlan s ++ drop (length (s .units)) plan
   pub early : earliestAfter ≡ earliestSlots s ++ drop (length (s .units)) earliest
   pub late : latestAfter ≡ latestSlots s ++ drop (length (s .units)) latest

@@ -17,18 +17,18 @@ use Rattle.sheet.specs.Sheet.{Sheet, top, boundaries, limit, lawful, printedPla
 use Rattle.sheet.specs.PlanLaws.{lawful-iff}
 use Rattle.sheet.specs.QuestionLaws.{windowsOf-length, accepted-sized}
 use Rattle.sheet.specs.Solved.{Solved}
-use Rattle.plan_seats.specs.Row.{Seatable, RowOf}
-use Rattle.plan_seats.specs.RowLaws.{row-seatable}
-use Rattle.plan_seats.specs.PrintedLaws.{some-printed}
+use Rattle.plan_seats.specs.Seats.{Seatable, RowOf}
+use Rattle.plan_seats.specs.SeatsLaws.{row-seatable}
+use Rattle.plans.specs.PrintedLaws.{some-printed}
 use Rattle.plan_windows.specs.Narrowing.{Narrowable}
 use Rattle.plan_solve.specs.Filling.{Ready}
 
 -- ---- the numbers of units and slots that an accepted sheet has
 module _ (s : Sheet) (w : ℕ) (first last : List ℕ) (table : List ℤ) (R : Ready s w first last table) where
-  pub units-few : length first ≤ maxUnits
+  units-few : length first ≤ maxUnits
   units-few = omega (arith, ap length (R .units), windowsOf-length first last (R .lists), accepted-sized s (R .sheet) .units)
 
-  pub slots-few : top s ≤ maxSlots
+  slots-few : top s ≤ maxSlots
   unfolding top
   slots-few = accepted-sized s (R .sheet) .slots .1
 
@@ -72,7 +72,7 @@ module _ (s : Sheet) (w : ℕ) (first last : List ℕ) (table : List ℤ) (R : R
 
 -- ---- a finished table at the front of a longer room
 module _ (s : Sheet) (D E : Weights) (same : (a b : ℕ) → a ≤ top s → b ≤ top s → E a b ≡ D a b) where
-  pub solved-same : Solved s D → Solved s E
+  solved-same : Solved s D → Solved s E
   solved-same S =
       let F = S .finished in
       record {

@@ -1,35 +1,29 @@
--- What planning from lists answers and leaves, case by case: document 01, "Questions a call asks". Definitions only.
+-- What planning from lists answers and leaves, case by case: docs/RULES.md, "What a call leaves". Definitions only.
 use mathlib.Core.Path.{_≡_}
-use mathlib.Core.Bool.{Bool, true, false, cond}
+use mathlib.Core.Bool.{cond}
 use mathlib.Core.List.{List, _++_}
 use Prim.Native.Nat.{ℕ}
 use lib.Dec.{T, eqb}
 use lib.ListN.{length, drop}
 use lib.IntN.{ℤ}
 use Rattle.network.specs.Table.{Passed, finished, stopped, outOfRange, cleared}
+use Rattle.questions.specs.Questions.{Verdict, no, allYes, refusalBy}
 use Rattle.sheet.specs.Sheet.{Sheet, printedPlan, earliestSlots, latestSlots, isRing}
-use Rattle.plan_ask.specs.Questions.{Lists, Rooms, given, places, passed, refusal}
+use Rattle.sheet.specs.Lists.{Lists, given}
+use Rattle.plan_ask.specs.Questions.{Rooms, places, passed, refusal}
 use Rattle.plan_solve.specs.declared.Answer.{Answer}
 use Rattle.plan_solve.specs.declared.Answer.the-variants.{Refused, Plan, None}
 
--- 01's number and values for each answer: the refusal's number, 0 where there is none; its line, always 0; the ring's length, 0 for a plan
-abbrev pub numberOf : Answer → ℕ
-numberOf (Refused n) = n
-numberOf Plan = 0
-numberOf (None k) = 0
-
-abbrev pub lineOf : Answer → ℕ
-lineOf a = 0
+-- the refusal of a reply, by number and line, or none; and the ring's length, 0 where there is none
+abbrev pub refusalOf : Answer → Verdict
+refusalOf (Refused f) = no (f .number) (f .line)
+refusalOf Plan = allYes
+refusalOf (None k) = allYes
 
 abbrev pub ringLength : Answer → ℕ
-ringLength (Refused n) = 0
+ringLength (Refused f) = 0
 ringLength Plan = 0
 ringLength (None k) = k
-
-abbrev pub hasPlan : Answer → Bool
-hasPlan (Refused n) = false
-hasPlan Plan = true
-hasPlan (None k) = false
 
 -- refused: nothing is changed, but 14 leaves the table's places 0
 abbrev pub refused : Sheet → ℕ → Rooms → Rooms
@@ -65,22 +59,27 @@ ringed s c r =
       ring = c ++ drop (length c) (r .ring);
     }
 
--- what a call comes to: a refusal with its number, a plan with the finished pass, or none
-pub data Verdict : Type 0 where
-  refuse : ℕ → Verdict
-  plan : List ℤ → Verdict
-  none : Verdict
+-- what a call comes to: a refusal by number and line, a plan with the finished pass, or none
+pub data Conclusion : Type 0 where
+  refuse : (number line : ℕ) → Conclusion
+  plan : List ℤ → Conclusion
+  none : Conclusion
 
-abbrev pub byPass : Passed → Verdict
+abbrev pub byPass : Passed → Conclusion
 byPass (finished t) = plan t
 byPass stopped = none
-byPass outOfRange = refuse 14
+byPass outOfRange = refuse 14 0
 
-unfoldable pub verdict : Lists → Rooms → Verdict
-verdict l r = let n = refusal l r in cond (eqb n 0) (byPass (passed (given l))) (refuse n)
+-- the first no of the questions decides, or the pass
+abbrev pub concluding : Verdict → Passed → Conclusion
+concluding (no q n) p = refuse q n
+concluding allYes p = byPass p
 
--- The reply and the rooms after the call follow from the verdict. The ring is the one freedom: it may be any ring of the sheet's own limits.
-abbrev pub Left : Verdict → Sheet → Rooms → Answer → Rooms → Type 0
-Left (refuse n) s before reply after = (reply ≡ Refused n) × (after ≡ refused s n before)
-Left (plan t) s before reply after = (reply ≡ Plan) × (after ≡ planned s t before)
-Left none s before reply after = (c : List ℕ) × T (isRing s c) × (reply ≡ None (length c)) × (after ≡ ringed s c before)
+unfoldable pub conclusion : Lists → Rooms → Conclusion
+conclusion l r = concluding (refusal l r) (passed (given l))
+
+-- The reply and the rooms after the call follow from the conclusion. The ring is the one freedom: it may be any ring of the sheet's own limits.
+abbrev pub Settled : Conclusion → Sheet → Rooms → Answer → Rooms → Type 0
+Settled (refuse q n) s before reply after = (reply ≡ Refused (refusalBy q n)) × (after ≡ refused s q before)
+Settled (plan t) s before reply after = (reply ≡ Plan) × (after ≡ planned s t before)
+Settled none s before reply after = (c : List ℕ) × T (isRing s c) × (reply ≡ None (length c)) × (after ≡ ringed s c before)

@@ -1,62 +1,55 @@
 -- From the pass's outcome to what the call leaves: a sum out of range, no plan and a ring, or a plan.
+-- Key idea: the outcome says which pass it was, and so which conclusion the rooms are left by.
 use mathlib.Core.Path.{_≡_, refl, sym, ap, ap₂, _∙_, subst}
-use mathlib.Core.Bool.{Bool, true, false, _&&_}
+use mathlib.Core.Bool.{_&&_}
 use mathlib.Core.List.{List, _++_}
-use Prim.Native.Nat.{ℕ, _+_, _*_, _≤_}
+use Prim.Native.Nat.{ℕ, _*_, _≤_}
 use native.Mathlib.Omega.{arith}
 use lib.Dec.{T, leb, leb→le}
 use lib.ListN.{length, drop, replicate, length-append, length-drop, length-replicate}
 use lib.Seq.{drop-at}
 use lib.IntN.{ℤ, pos}
 use Rattle.lists.specs.Members.{left, right}
-use Rattle.network.specs.Table.{Passed, finished, stopped, outOfRange, tableOf, entry, outcomeOf, cleared}
-use Rattle.network.specs.TableLaws.{length-tableOf}
-use Rattle.network.specs.PassLaws.{finished-kept}
+use Rattle.network.specs.Table.{Passed, finished, stopped, outOfRange, entry, outcomeOf, cleared}
 use Rattle.network.specs.declared.Outcome.{Outcome}
 use Rattle.network.specs.declared.Outcome.the-variants.{Finished, Stopped, OutOfRange}
-use Rattle.sheet.specs.Sheet.{Sheet, limit, printedPlan, earliestSlots, latestSlots, isRing, boundaries}
+use Rattle.questions.specs.Questions.{refusalBy}
+use Rattle.sheet.specs.Sizes.{boundariesOf}
+use Rattle.sheet.specs.Sheet.{Sheet, printedPlan, earliestSlots, latestSlots, isRing, boundaries}
 use Rattle.limits.specs.LimitTable.{Fillable}
-use Rattle.limits.specs.LimitTableLaws.{accepted-span, boundaries-are}
+use Rattle.limits.specs.LentTableLaws.{cleared-length}
 use Rattle.sheet.specs.Questions.{accepted, windowsOf, sheetOf}
 use Rattle.sheet.specs.QuestionLaws.{Agree, listsAgree-read, windowsOf-length, accepted-valid}
 use Rattle.sheet.specs.Solved.{Solved}
-use Rattle.plan_ask.specs.Questions.{Lists, Rooms, given, lent, fitsRooms, roomsFit, places, passed}
-use Rattle.plan_solve.specs.Planning.{ringed, byPass, Left}
-use Rattle.plan_solve.specs.PlanningLaws.{passed-solved}
+use Rattle.sheet.specs.Lists.{Lists, given}
+use Rattle.plan_ask.specs.Questions.{Rooms, lent, fitsRooms, roomsFit, places, passed}
+use Rattle.plan_solve.specs.Planning.{ringed, byPass, Settled}
+use Rattle.plan_solve.specs.PlanningLaws.{passed-size, passed-solved}
 use Rattle.plan_solve.specs.Deciding.{tableLeft, Decided, RingFound}
+use Rattle.plan_solve.specs.DecidingLaws.{boundaries-counted}
 use Rattle.plan_ask.specs.Asking.{Solvable}
-use Rattle.plan_solve.specs.Filling.{Ready, Filled}
+use Rattle.plan_solve.specs.Filling.{Ready, PlanFilled}
 use Rattle.plan_solve.specs.FillingLaws.{solved-front}
 use Rattle.plan_solve.specs.declared.Answer.the-variants.{Refused, Plan, None}
 
 -- ---- which pass had the outcome
-abbrev finishes : Outcome → Bool
-finishes Finished = true
-finishes Stopped = false
-finishes OutOfRange = false
-
-abbrev stops : Outcome → Bool
-stops Finished = false
-stops Stopped = true
-stops OutOfRange = false
-
-pub is-finished : (p : Passed) → Finished ≡ outcomeOf p → (t : List ℤ) × (p ≡ finished t)
+is-finished : (p : Passed) → Finished ≡ outcomeOf p → (t : List ℤ) × (p ≡ finished t)
 is-finished (finished t) e = (t, refl)
-is-finished stopped e = absurd (subst (λ (o : Outcome). T (finishes o)) e tt)
-is-finished outOfRange e = absurd (subst (λ (o : Outcome). T (finishes o)) e tt)
+is-finished stopped e = let z : _≡_ {A = ℕ} 0 1 = cc in absurd (omega arith)
+is-finished outOfRange e = let z : _≡_ {A = ℕ} 0 1 = cc in absurd (omega arith)
 
-pub is-stopped : (p : Passed) → Stopped ≡ outcomeOf p → p ≡ stopped
-is-stopped (finished t) e = absurd (subst (λ (o : Outcome). T (stops o)) e tt)
+is-stopped : (p : Passed) → Stopped ≡ outcomeOf p → p ≡ stopped
+is-stopped (finished t) e = let z : _≡_ {A = ℕ} 0 1 = cc in absurd (omega arith)
 is-stopped stopped e = refl
-is-stopped outOfRange e = absurd (subst (λ (o : Outcome). T (stops o)) e tt)
+is-stopped outOfRange e = let z : _≡_ {A = ℕ} 0 1 = cc in absurd (omega arith)
 
-pub is-out-of-range : (p : Passed) → OutOfRange ≡ outcomeOf p → p ≡ outOfRange
-is-out-of-range (finished t) e = absurd (subst (λ (o : Outcome). T (finishes o)) (sym e) tt)
-is-out-of-range stopped e = absurd (subst (λ (o : Outcome). T (stops o)) (sym e) tt)
+is-out-of-range : (p : Passed) → OutOfRange ≡ outcomeOf p → p ≡ outOfRange
+is-out-of-range (finished t) e = let z : _≡_ {A = ℕ} 0 1 = cc in absurd (omega arith)
+is-out-of-range stopped e = let z : _≡_ {A = ℕ} 0 1 = cc in absurd (omega arith)
 is-out-of-range outOfRange e = refl
 
 -- the rooms with another table
-abbrev pub withTable : Rooms → List ℤ → Rooms
+abbrev withTable : Rooms → List ℤ → Rooms
 withTable r t = record { table = t; plan = r .plan; earliest = r .earliest; latest = r .latest; ring = r .ring }
 
 rooms-same : (t t′ : List ℤ) (p p′ e e′ l l′ r : List ℕ) → t ≡ t′ → p ≡ p′ → e ≡ e′ → l ≡ l′
@@ -64,17 +57,17 @@ rooms-same : (t t′ : List ℤ) (p p′ e e′ l l′ r : List ℕ) → t ≡ t
 rooms-same t t′ p p′ e e′ l l′ r a b c d = rw (a, b, c, d)
 
 module _ (s : Sheet) (before : Rooms) (table : List ℤ) where
-  pub left-out-of-range : Decided s (before .table) OutOfRange table → Left (byPass (passed s)) s before (Refused 14) (withTable before table)
+  left-out-of-range : Decided s (before .table) OutOfRange table → Settled (byPass (passed s)) s before (Refused (refusalBy 14 0)) (withTable before table)
   left-out-of-range d =
       let e = is-out-of-range (passed s) (d .outcome) in
-      subst (λ (p : Passed). Left (byPass p) s before (Refused 14) (withTable before table)) (sym e)
+      subst (λ (p : Passed). Settled (byPass p) s before (Refused (refusalBy 14 0)) (withTable before table)) (sym e)
       (refl, ap (withTable before) (d .table ∙ ap (λ (p : Passed). tableLeft s p (before .table)) e))
 
   -- a ring at the front of its room, and the table cleared
-  pub left-ring : Decided s (before .table) Stopped table → (c : List ℕ) → T (isRing s c) → (after : Rooms) → after ≡ ringed s c before
-      → Left (byPass (passed s)) s before (None (length c)) after
+  left-ring : Decided s (before .table) Stopped table → (c : List ℕ) → T (isRing s c) → (after : Rooms) → after ≡ ringed s c before
+      → Settled (byPass (passed s)) s before (None (length c)) after
   left-ring d c h after e =
-      subst (λ (p : Passed). Left (byPass p) s before (None (length c)) after) (sym (is-stopped (passed s) (d .outcome))) (c, h, refl, e)
+      subst (λ (p : Passed). Settled (byPass p) s before (None (length c)) after) (sym (is-stopped (passed s) (d .outcome))) (c, h, refl, e)
 
   module _ (ok : T (accepted s)) (d : Decided s (before .table) Finished table) (room : places s ≤ length (before .table)) where
     t : List ℤ
@@ -85,16 +78,12 @@ module _ (s : Sheet) (before : Rooms) (table : List ℤ) where
     is-t = is-finished (passed s) (d .outcome) .1
 
     size : length t ≡ places s
-    unfolding passed
-    size =
-        let w = boundaries s in
-        let n = length-tableOf w (limit s) in
-        finished-kept w w 0 (tableOf w (limit s)) t (omega arith) is-t .long ∙ n
+    size = passed-size s t is-t
 
     table-is : table ≡ t ++ drop (places s) (before .table)
     table-is = d .table ∙ ap (λ (p : Passed). tableLeft s p (before .table)) is-t
 
-    pub ready : (first last : List ℕ) (w : ℕ) → boundaries s ≡ w → s .units ≡ windowsOf first last → length last ≡ length first → Ready s w first last table
+    ready : (first last : List ℕ) (w : ℕ) → boundaries s ≡ w → s .units ≡ windowsOf first last → length last ≡ length first → Ready s w first last table
     ready first last w e units lists =
         let big : w * w ≤ length table = omega (
           arith,
@@ -115,13 +104,13 @@ module _ (s : Sheet) (before : Rooms) (table : List ℤ) where
           solved = subst (λ (n : ℕ). Solved s (entry n table)) e (subst (λ (x : List ℤ). Solved s (entry (boundaries s) x)) (sym table-is) S);
         }
 
-    pub left-plan : (plan earliest latest : List ℕ)
+    left-plan : (plan earliest latest : List ℕ)
         → plan ≡ printedPlan s ++ drop (length (s .units)) (before .plan)
         → earliest ≡ earliestSlots s ++ drop (length (s .units)) (before .earliest)
         → latest ≡ latestSlots s ++ drop (length (s .units)) (before .latest)
-        → Left (byPass (passed s)) s before Plan (lent table plan earliest latest (before .ring))
+        → Settled (byPass (passed s)) s before Plan (lent table plan earliest latest (before .ring))
     left-plan plan earliest latest p e l =
-        subst (λ (x : Passed). Left (byPass x) s before Plan (lent table plan earliest latest (before .ring))) (sym is-t)
+        subst (λ (x : Passed). Settled (byPass x) s before Plan (lent table plan earliest latest (before .ring))) (sym is-t)
         (refl, rooms-same table _ plan _ earliest _ latest _ (before .ring) table-is p e l)
 
 -- ---- the same, of a call's lists and rooms
@@ -156,10 +145,6 @@ rooms-hold s r h =
 cleared-twice : (n : ℕ) (t : List ℤ) → cleared n (cleared n t) ≡ cleared n t
 cleared-twice n t = ap (λ (r : List ℤ). replicate n (pos 0) ++ r) (drop-at (replicate n (pos 0)) (drop n t) n (length-replicate n (pos 0)))
 
-length-cleared : (n : ℕ) (t : List ℤ) → n ≤ length t → length (cleared n t) ≡ length t
-length-cleared n t h =
-    length-append (replicate n (pos 0)) (drop n t) ∙ (omega (arith, length-replicate n (pos 0), length-drop n t))
-
 module _ (l : Lists) (before : Rooms) (S : Solvable l before) where
   holds : RoomsHold (given l) before
   holds = rooms-hold (given l) before (S .rooms)
@@ -177,12 +162,10 @@ module _ (l : Lists) (before : Rooms) (S : Solvable l before) where
   pub limits-asked : Fillable (l .span) (l .first) (l .last) (l .from) (l .to) (l .low) (l .high) (length (before .table))
   limits-asked = record { agree = S .lists; ok = S .sheet; fits = holds .table }
 
-  pub span-few : l .span ≤ 48
-  span-few = accepted-span (l .span) (l .first) (l .last) (l .from) (l .to) (l .low) (l .high) (S .sheet) (S .lists)
-
   module _ (r : Outcome) (table : List ℤ) (d : Decided (given l) (before .table) r table) where
     pub range-left : r ≡ OutOfRange
-        → Left (byPass (passed (given l))) (given l) before (Refused 14) (lent table (before .plan) (before .earliest) (before .latest) (before .ring))
+        → Settled (byPass (passed (given l))) (given l) before (Refused (refusalBy 14 0))
+        (lent table (before .plan) (before .earliest) (before .latest) (before .ring))
     range-left e = left-out-of-range (given l) before table (subst (λ (o : Outcome). Decided (given l) (before .table) o table) e d)
 
     module _ (e : r ≡ Stopped) where
@@ -198,16 +181,16 @@ module _ (l : Lists) (before : Rooms) (S : Solvable l before) where
       pub ring-asked : Fillable (l .span) (l .first) (l .last) (l .from) (l .to) (l .low) (l .high) (length table)
           × (boundaries (given l) ≤ length (before .ring)) × (passed (given l) ≡ stopped)
       ring-asked =
-          let n = length-cleared (places (given l)) (before .table) (holds .table) in
+          let n = cleared-length (places (given l)) (before .table) (holds .table) in
           (record { agree = S .lists; ok = S .sheet; fits = omega (arith, holds .table, n, ap length table-cleared) }, holds .ring, halted)
 
       pub ring-left : (k : ℕ) (zeros : List ℤ) (ring : List ℕ) → RingFound (given l) table (before .ring) k zeros ring
-          → Left (byPass (passed (given l))) (given l) before (None k) (lent zeros (before .plan) (before .earliest) (before .latest) ring)
+          → Settled (byPass (passed (given l))) (given l) before (None k) (lent zeros (before .plan) (before .earliest) (before .latest) ring)
       ring-left k zeros ring R =
           let n = places (given l) in
           let z : zeros ≡ cleared n (before .table) = R .zeros ∙ ap (cleared n) table-cleared ∙ cleared-twice n (before .table) in
           let after = lent zeros (before .plan) (before .earliest) (before .latest) ring in
-          subst (λ (n : ℕ). Left (byPass (passed (given l))) (given l) before (None n) after) (sym (R .size))
+          subst (λ (n : ℕ). Settled (byPass (passed (given l))) (given l) before (None n) after) (sym (R .size))
           (left-ring (given l) before table D (R .ring) (R .closed) after
           (ap₂ (λ (t : List ℤ) (c : List ℕ). lent t (before .plan) (before .earliest) (before .latest) c) z (R .front)))
 
@@ -215,16 +198,16 @@ module _ (l : Lists) (before : Rooms) (S : Solvable l before) where
       F : Decided (given l) (before .table) Finished table
       F = subst (λ (o : Outcome). Decided (given l) (before .table) o table) e d
 
-      pub plan-asked : Ready (given l) (l .span + 1) (l .first) (l .last) table
-      plan-asked =
-          ready (given l) before table (S .sheet) F (holds .table) (l .first) (l .last) (l .span + 1)
-          (boundaries-are (l .span) (l .first) (l .last) (l .from) (l .to) (l .low) (l .high)) units-are (lists .windows)
+      pub plan-asked : (w : ℕ) → w ≡ boundariesOf (l .span) → Ready (given l) w (l .first) (l .last) table
+      plan-asked w k =
+          ready (given l) before table (S .sheet) F (holds .table) (l .first) (l .last) w
+          (boundaries-counted l (length (before .table)) limits-asked w k .0) units-are (lists .windows)
 
       pub plan-rooms : (length (l .first) ≤ length (before .plan)) × (length (l .first) ≤ length (before .earliest))
           × (length (l .first) ≤ length (before .latest))
       plan-rooms = (omega (arith, units-length, holds .plan), omega (arith, units-length, holds .earliest), omega (arith, units-length, holds .latest))
 
-      pub plan-left : (plan earliest latest : List ℕ) → Filled (given l) (before .plan) (before .earliest) (before .latest) plan earliest latest
-          → Left (byPass (passed (given l))) (given l) before Plan (lent table plan earliest latest (before .ring))
+      pub plan-left : (plan earliest latest : List ℕ) → PlanFilled (given l) (before .plan) (before .earliest) (before .latest) plan earliest latest
+          → Settled (byPass (passed (given l))) (given l) before Plan (lent table plan earliest latest (before .ring))
       plan-left plan earliest latest f =
           left-plan (given l) before table (S .sheet) F (holds .table) plan earliest latest (f .seats) (f .early) (f .late)

@@ -1,20 +1,22 @@
 ghost use mathlib.Core.Path.{_≡_};
 ghost use mathlib.Core.List.{_++_};
-ghost use Prim.Native.Nat.{_+_, _≤_};
+ghost use Prim.Native.Nat.{_≤_};
 ghost use lib.ListN.{length, drop};
 ghost use Rattle.network.specs.Table.{stopped};
 ghost use Rattle.sheet.specs.Sheet.{Sheet, printedPlan, boundaries};
 ghost use Rattle.sheet.specs.Questions.{sheetOf};
 ghost use Rattle.limits.specs.LimitTable.{Fillable};
-ghost use Rattle.plan_ask.specs.Questions.{listed, lent, passed};
+ghost use Rattle.sheet.specs.Lists.{listed};
+ghost use Rattle.plan_ask.specs.Questions.{lent, passed};
 ghost use Rattle.plan_ask.specs.Asking.{Solvable};
-ghost use Rattle.plan_solve.specs.Planning.{byPass, Left};
+ghost use Rattle.plan_solve.specs.Planning.{byPass, Settled};
 ghost use Rattle.plan_solve.specs.Deciding.{Decided, RingFound};
-ghost use Rattle.plan_solve.specs.Filling.{Ready, Filled};
+ghost use Rattle.plan_solve.specs.Filling.{Ready, PlanFilled};
+use questions::Refusal;
 
-// What a call answers: the number of the refusal, a plan in the rooms, or none with the length of the ring.
+// What a call answers: a refusal, a plan in the rooms, or none with the length of the ring.
 pub enum Answer {
-    Refused(usize),
+    Refused(Refusal),
     Plan,
     None(usize),
 }
@@ -36,7 +38,7 @@ fn decide(
         ⌜ Decided s (now (table .entry)) r (now (table .exit)) ⌝ }
 {
     limits::fill::fill_limits(span, first, last, from, to, low, high, table);
-    network::pass(table, span + 1)
+    network::pass(table, sheet::boundaries(span))
 }
 
 // The printed plan, from row 0 of the finished table.
@@ -67,7 +69,7 @@ fn find_ring(
         let s = sheetOf span (now (first .entry)) (now (last .entry)) (now (from .entry)) (now (to .entry)) (now (low .entry)) (now (high .entry)) in
         ⌜ RingFound s (now (table .entry)) (now (ring .entry)) r (now (table .exit)) (now (ring .exit)) ⌝ }
 {
-    let w = span + 1;
+    let w = sheet::boundaries(span);
     limits::fill::fill_limits(span, first, last, from, to, low, high, table);
     let n = network_cycles::negative_cycle(table, w, ring);
     network::clear(w * w, table);
@@ -87,7 +89,7 @@ fn fill_plan(
     requires { ⌜ ((s : Sheet) × Ready s w (now first) (now last) (now table)) ⌝ }
     requires rooms { ⌜ (length (now first) ≤ length (now plan)) × (length (now first) ≤ length (now earliest)) × (length (now first) ≤ length (now latest)) ⌝ }
     ensures { λ _. ⌜ ((s : Sheet) → Ready s w (now (first .entry)) (now (last .entry)) (now (table .entry))
-        → Filled s (now (plan .entry)) (now (earliest .entry)) (now (latest .entry)) (now (plan .exit)) (now (earliest .exit)) (now (latest .exit))) ⌝ }
+        → PlanFilled s (now (plan .entry)) (now (earliest .entry)) (now (latest .entry)) (now (plan .exit)) (now (earliest .exit)) (now (latest .exit))) ⌝ }
 {
     seat_units(w, first, last, table, plan);
     plan_windows::narrow(first, last, plan, table, w, earliest, latest);
@@ -112,19 +114,23 @@ pub fn solve(
         (lent (now table) (now plan) (now earliest) (now latest) (now ring)) ⌝ }
     ensures { λ r.
         let s = sheetOf span (now (first .entry)) (now (last .entry)) (now (from .entry)) (now (to .entry)) (now (low .entry)) (now (high .entry)) in
-        ⌜ Left (byPass (passed s)) s
+        ⌜ Settled (byPass (passed s)) s
         (lent (now (table .entry)) (now (plan .entry)) (now (earliest .entry)) (now (latest .entry)) (now (ring .entry))) r
         (lent (now (table .exit)) (now (plan .exit)) (now (earliest .exit)) (now (latest .exit)) (now (ring .exit))) ⌝ }
 {
     let outcome = decide(span, first, last, from, to, low, high, table);
     match outcome {
-        network::Outcome::OutOfRange => Answer::Refused(14),
+        network::Outcome::OutOfRange => Answer::Refused(Refusal {
+            number: 14,
+            line: 0,
+        }),
         network::Outcome::Stopped => {
             let n = find_ring(span, first, last, from, to, low, high, table, ring);
             Answer::None(n)
         }
         network::Outcome::Finished => {
-            fill_plan(span + 1, first, last, table, plan, earliest, latest);
+            let w = sheet::boundaries(span);
+            fill_plan(w, first, last, table, plan, earliest, latest);
             Answer::Plan
         }
     }

@@ -8,7 +8,7 @@ use native.Mathlib.Decide.{decLe}
 use lib.ListN.{length, getD}
 use lib.IntN.{ℤ}
 use Rattle.network.specs.Table.{entry}
-use Rattle.network_cuts.specs.Carry.{into, AdmitsAt}
+use Rattle.network_cuts.specs.Decider.{into, AdmitsAt}
 use Rattle.network_cuts.specs.CutLaws.{admits-later, admits-earlier}
 use Rattle.plan_windows.specs.Windows.{LastMark, KnownCut, KnownRow, CommonCut}
 

@@ -8,7 +8,7 @@ use native.Mathlib.Decide.{ℕ-discrete, decLe}
 use lib.ListN.{length, getD, set, length-set}
 use lib.Seq.{getD-set-same, getD-set-other}
 use lib.IntN.{ℤ}
-use Rattle.network_cuts.specs.Carry.{Barred, LeastCutAt}
+use Rattle.network_cuts.specs.Decider.{Barred, LeastCutAt}
 use Rattle.plan_windows.specs.Windows.{KnownRow, CutRow, Floor}
 use Rattle.network_cuts.specs.CutLaws.{barred-later, least-barred}
 
@@ -48,48 +48,48 @@ module _ (w : ℕ) (d m : List ℤ) where
       floored = s;
     }
 
-    module _ (row floor : List ℕ) (low l : ℕ) (c : Cutting row floor low l) (h : l < w) where
-      -- the floor at l, with what was known before
-      abbrev pub next : ℕ
-      next = max low (getD floor l 0)
+module _ {w : ℕ} {d m : List ℤ} {f : ℕ} {row₀ row floor : List ℕ} {low l : ℕ} (c : Cutting w d m f row₀ row floor low l) (h : l < w) where
+  -- the floor at l, with what was known before
+  abbrev next : ℕ
+  next = max low (getD floor l 0)
 
-      pub next-level : (f ≤ next) × (next ≤ l)
-      next-level = let p = c .floored l (c .place .0) h in omega (arith, c .level)
+  pub next-level : (f ≤ next) × (next ≤ l)
+  next-level = let p = c .floored l (c .place .0) h in omega (arith, c .level)
 
-      pub next-barred : Barred w d m f l next
-      next-barred u hu hn a = elim (decLe low u) [
-        | yes p ↦ c .floored l (c .place .0) h .1 u hu (omega arith) a
-        | no n ↦ c .barred u hu (omega arith) a
-      ]
+  pub next-barred : Barred w d m f l next
+  next-barred u hu hn a = elim (decLe low u) [
+    | yes p ↦ c .floored l (c .place .0) h .1 u hu (omega arith) a
+    | no n ↦ c .barred u hu (omega arith) a
+  ]
 
-      -- an unmarked window
-      pub cutting-skip : getD row l 0 ≡ 0 → Cutting row (set floor l next) next (l + 1)
-      cutting-skip z = record {
-        long = c .long;
-        wide = subst (λ (n : ℕ). w ≤ n) (sym (length-set floor l next)) (c .wide);
-        place = (omega (arith, c .place), omega arith);
-        level = (next-level .0, omega (arith, next-level));
-        barred = barred-later w d m f l f (l + 1) next (omega arith) (omega arith) next-barred;
-        done = λ k hk. elim (ℕ-discrete k l) [
-          | yes e ↦ rw e (λ _. z, λ p. absurd (omega (arith, c .rest l (omega arith))))
-          | no ne ↦ c .done k (omega arith)
-        ];
-        rest = λ k hk. c .rest k (omega arith);
-        floored = floor-set f l next floor (omega (arith, c .wide)) (next-level .1) next-barred (c .floored);
-      }
+  -- an unmarked window
+  pub cutting-skip : getD row l 0 ≡ 0 → Cutting w d m f row₀ row (set floor l next) next (l + 1)
+  cutting-skip z = record {
+    long = c .long;
+    wide = subst (λ (n : ℕ). w ≤ n) (sym (length-set floor l next)) (c .wide);
+    place = (omega (arith, c .place), omega arith);
+    level = (next-level .0, omega (arith, next-level));
+    barred = barred-later w d m f l f (l + 1) next (omega arith) (omega arith) next-barred;
+    done = λ k hk. elim (ℕ-discrete k l) [
+      | yes e ↦ rw e (λ _. z, λ p. absurd (omega (arith, c .rest l (omega arith))))
+      | no ne ↦ c .done k (omega arith)
+    ];
+    rest = λ k hk. c .rest k (omega arith);
+    floored = floor-set w d m f l next floor (omega (arith, c .wide)) (next-level .1) next-barred (c .floored);
+  }
 
-      -- a marked one, with its least cut r
-      pub cutting-mark : (r : ℕ) → 0 < getD row l 0 → LeastCutAt w d m f l r → Cutting (set row l r) (set floor l r) r (l + 1)
-      cutting-mark r p least = record {
-        long = length-set row l r ∙ c .long;
-        wide = subst (λ (n : ℕ). w ≤ n) (sym (length-set floor l r)) (c .wide);
-        place = (omega (arith, c .place), omega arith);
-        level = (least .inside .0, omega (arith, least .inside));
-        barred = barred-later w d m f l f (l + 1) r (omega arith) (omega arith) (least-barred w d m f l r least);
-        done = λ k hk. elim (ℕ-discrete k l) [
-          | yes e ↦ rw (e, getD-set-same row l r 0 (omega (arith, c .long))) (λ z. absurd (omega (arith, c .rest l (omega arith))), λ _. least)
-          | no ne ↦ rw (getD-set-other row l k r 0 ne) (c .done k (omega arith))
-        ];
-        rest = λ k hk. getD-set-other row l k r 0 (λ e. omega arith) ∙ c .rest k (omega arith);
-        floored = floor-set f l r floor (omega (arith, c .wide)) (least .inside .1) (least-barred w d m f l r least) (c .floored);
-      }
+  -- a marked one, with its least cut r
+  pub cutting-mark : (r : ℕ) → 0 < getD row l 0 → LeastCutAt w d m f l r → Cutting w d m f row₀ (set row l r) (set floor l r) r (l + 1)
+  cutting-mark r p least = record {
+    long = length-set row l r ∙ c .long;
+    wide = subst (λ (n : ℕ). w ≤ n) (sym (length-set floor l r)) (c .wide);
+    place = (omega (arith, c .place), omega arith);
+    level = (least .inside .0, omega (arith, least .inside));
+    barred = barred-later w d m f l f (l + 1) r (omega arith) (omega arith) (least-barred w d m f l r least);
+    done = λ k hk. elim (ℕ-discrete k l) [
+      | yes e ↦ rw (e, getD-set-same row l r 0 (omega (arith, c .long))) (λ z. absurd (omega (arith, c .rest l (omega arith))), λ _. least)
+      | no ne ↦ rw (getD-set-other row l k r 0 ne) (c .done k (omega arith))
+    ];
+    rest = λ k hk. getD-set-other row l k r 0 (λ e. omega arith) ∙ c .rest k (omega arith);
+    floored = floor-set w d m f l r floor (omega (arith, c .wide)) (least .inside .1) (least-barred w d m f l r least) (c .floored);
+  }

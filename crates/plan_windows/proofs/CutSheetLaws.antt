@@ -26,7 +26,7 @@ use Rattle.sheet.specs.PotentialLaws.{Valid}
 use Rattle.plan_windows.specs.CutSheet.{addedArc, cutTo}
 
 -- ---- one entry of a list replaced
-pub howMany-set : {A : Type 0} (t : A → Bool) (d u : A) (xs : List A) (j : ℕ) → j < length xs
+howMany-set : {A : Type 0} (t : A → Bool) (d u : A) (xs : List A) (j : ℕ) → j < length xs
     → howMany t (set xs j u) + oneIf (t (getD xs j d)) ≡ howMany t xs + oneIf (t u)
 howMany-set t d u [] j h = absurd (omega arith)
 howMany-set t d u (x ∷ xs) zero h = omega arith

@@ -1,7 +1,7 @@
 -- The least cut is the earliest slot, and the least cut of the mirrored window is the latest.
 -- Key idea: a lawful plan that seats unit j by slot v gives a potential that keeps the arcs of the cut, and such a potential gives such a plan. So the least
 -- cut that is admitted is the least slot that j has in a lawful plan. The latest slot is the same, seen from the end.
-use mathlib.Core.Path.{_≡_, sym, subst}
+use mathlib.Core.Path.{_≡_, refl, sym, subst}
 use mathlib.Core.List.{List}
 use Prim.Native.Nat.{ℕ, suc, _-_, _≤_, _<_}
 use native.Mathlib.Omega.{arith}
@@ -14,18 +14,15 @@ use Rattle.integers.specs.Parts.{ints, sum, neg}
 use Rattle.network.specs.Network.{Weights, Potential, Feasible}
 use Rattle.sheet.specs.Sheet.{Window, Sheet, noWindow, top, countIn, lawful, limit, earliest, latest}
 use Rattle.sheet.specs.PlanLaws.{lawful-iff, earliest-bound, earliest-attained, latest-bound, latest-attained}
-use Rattle.sheet.specs.PotentialLaws.{Valid, lawful-feasible}
+use Rattle.sheet.specs.PotentialLaws.{lawful-feasible}
 use Rattle.sheet.specs.Solved.{Solved}
+use Rattle.plans.specs.FeasibleLaws.{feasible-lawful}
 use Rattle.network_cuts.specs.Cut.{Admits, LeastCut}
-use Rattle.plan_windows.specs.CutSheet.{addedArc, cutTo}
+use Rattle.plan_windows.specs.CutSheet.{mirrored, addedArc, cutTo}
 use Rattle.plan_windows.proofs.CutSheetLaws.{Gains, cut-lawful, cut-valid, plan-gains, gains-feasible}
-use Rattle.plan_windows.proofs.MirrorLaws.{IsMirrored, turned, turned-feasible, mirrored-back}
+use Rattle.plan_windows.proofs.MirrorLaws.{turned, turned-feasible, mirrored-back}
 
--- a feasible potential of a sheet's limits has a lawful plan
-abbrev pub Seatable : Type 0
-Seatable = (s : Sheet) → Valid s → (z : Potential) → Feasible (top s) (limit s) z → (x : List ℕ) × T (lawful s x)
-
-module _ (seat : Seatable) (s : Sheet) (D E : Weights) (solved : Solved s D)
+module _ (s : Sheet) (D E : Weights) (solved : Solved s D)
     (arcs : (a b : ℕ) → b < a → a ≤ top s → E a b ≡ addedArc s a b) (j : ℕ) (hj : j < length (s .units)) where
   abbrev own : Window
   own = getD (s .units) j noWindow
@@ -55,7 +52,7 @@ module _ (seat : Seatable) (s : Sheet) (D E : Weights) (solved : Solved s D)
         )) in
         let g′ : (a b : ℕ) → a ≤ top s → b ≤ a → Gains own u a b → z b ≤ℤ (z a +ℤ addedArc s a b) =
         (λ a b ha hb q. subst (λ (e : ℤ). z b ≤ℤ (z a +ℤ e)) (arcs a b (omega (arith, q .0, q .1)) ha) (g a b ha (omega (arith, q .0, q .1)) q)) in
-        let x = seat (cutTo s j u) (cut-valid s j hj u hf hl (solved .valid) h) z (gains-feasible s j hj u z f′ g′) in
+        let x = feasible-lawful (cutTo s j u) (cut-valid s j hj u hf hl (solved .valid) h) z (gains-feasible s j hj u z f′ g′) in
         let t = cut-lawful s j hj u hf hl (x .0) .0 (x .1) in
         (x .0, t .0, t .1 .0, t .1 .1)
 
@@ -87,61 +84,65 @@ module _ (seat : Seatable) (s : Sheet) (D E : Weights) (solved : Solved s D)
             (plan-admits (e .0) (e .1) (earliest s j) (omega (arith, e .2)) (omega (arith, e .2))))
       ]
 
-  -- ---- the latest slot, in a network that is D and E seen from the end
-  module _ (D′ E′ : Weights) (mD : IsMirrored (top s) D D′) (mE : IsMirrored (top s) E E′) where
-    abbrev late : ℕ → Window
-    late v = record { first = v; last = own .last }
+  -- ---- the latest slot, in the network seen from its end
+  abbrev D′ : Weights
+  D′ = mirrored (top s) D
 
-    pub plan-admits-late : (x : List ℕ) → T (lawful s x) → (v : ℕ) → own .first ≤ v → v ≤ getD x j 0
-        → Admits (top s) D′ E′ (suc (top s) - own .last) (suc (top s) - v) (suc (top s) - own .first)
-    plan-admits-late x t v p q =
-        let i = lawful-iff s x .0 t .seated .inside j hj in
-        let w = solved .valid .windows j hj in
-        let z : Potential = (λ b. pos (countIn 1 b x)) in
-        let r = plan-potential (late v) p (omega arith) (omega arith) x t q (omega arith) in
-        record {
-          potential = turned (top s) z;
-          feasible = turned-feasible (top s) D D′ mD z (r .0);
-          keeps = λ a b hb hv hl.
-              let a′ = top s - b in
-              let b′ = top s - a in
-              omega (
-                ints,
-                mE a b (omega arith) (omega arith),
-                r .1 a′ b′ (omega arith) (omega arith) (omega arith, omega arith, λ y _. omega arith),
-                sum (z a′) (E a′ b′),
-                sum (turned (top s) z a) (E′ a b),
-                neg (z a′),
-                neg (z b′),
-              );
-        }
+  abbrev E′ : Weights
+  E′ = mirrored (top s) E
 
-    pub latest-is : (x : List ℕ) → T (lawful s x) → (v : ℕ) → LeastCut (top s) D′ E′ (suc (top s) - own .last) (suc (top s) - own .first) v
-        → latest s j ≡ suc (top s) - v
-    latest-is x t v c =
-        let k = c .inside in
-        let w = solved .valid .windows j hj in
-        let v′ = suc (top s) - v in
-        let z′ = c .admitted .potential in
-        let y = potential-plan (late v′) (omega arith) (omega arith) (omega arith) (turned (top s) z′)
-        (turned-feasible (top s) D′ D (mirrored-back (top s) D D′ mD) z′ (c .admitted .feasible))
-        (λ a b ha hb g.
-        let a′ = top s - b in
-        let b′ = top s - a in
-        let hb′ : own .first ≤ b = elim (decLe (own .first) b) [ yes h ↦ h | no h ↦ absurd (g .2 (omega arith) (g .1)) ] in
-        omega (
-          ints,
-          mirrored-back (top s) E E′ mE a b ha (omega arith),
-          c .admitted .keeps a′ b′ (omega (arith, g .1)) (omega (arith, g .0)) (omega arith),
-          sum (z′ a′) (E′ a′ b′),
-          sum (turned (top s) z′ a) (E a b),
-          neg (z′ a′),
-          neg (z′ b′),
-        )) in
-        let e = latest-attained s x t j in
-        let i = lawful-iff s (e .0) .0 (e .1) .seated .inside j hj in
-        elim (decLe (latest s j) v′) [
-          | yes h ↦ omega (arith, latest-bound s (y .0) (y .1) j, y .2)
-          | no h ↦ absurd (c .least (suc (top s) - latest s j) (omega (arith, e .2)) (omega arith)
-              (plan-admits-late (e .0) (e .1) (latest s j) (omega (arith, e .2)) (omega (arith, e .2))))
-        ]
+  abbrev late : ℕ → Window
+  late v = record { first = v; last = own .last }
+
+  pub plan-admits-late : (x : List ℕ) → T (lawful s x) → (v : ℕ) → own .first ≤ v → v ≤ getD x j 0
+      → Admits (top s) D′ E′ (suc (top s) - own .last) (suc (top s) - v) (suc (top s) - own .first)
+  plan-admits-late x t v p q =
+      let i = lawful-iff s x .0 t .seated .inside j hj in
+      let w = solved .valid .windows j hj in
+      let z : Potential = (λ b. pos (countIn 1 b x)) in
+      let r = plan-potential (late v) p (omega arith) (omega arith) x t q (omega arith) in
+      record {
+        potential = turned (top s) z;
+        feasible = turned-feasible (top s) D D′ (λ a b ha hb. refl) z (r .0);
+        keeps = λ a b hb hv hl.
+            let a′ = top s - b in
+            let b′ = top s - a in
+            omega (
+              ints,
+              r .1 a′ b′ (omega arith) (omega arith) (omega arith, omega arith, λ y _. omega arith),
+              sum (z a′) (E a′ b′),
+              sum (turned (top s) z a) (E′ a b),
+              neg (z a′),
+              neg (z b′),
+            );
+      }
+
+  pub latest-is : (x : List ℕ) → T (lawful s x) → (v : ℕ) → LeastCut (top s) D′ E′ (suc (top s) - own .last) (suc (top s) - own .first) v
+      → latest s j ≡ suc (top s) - v
+  latest-is x t v c =
+      let k = c .inside in
+      let w = solved .valid .windows j hj in
+      let v′ = suc (top s) - v in
+      let z′ = c .admitted .potential in
+      let y = potential-plan (late v′) (omega arith) (omega arith) (omega arith) (turned (top s) z′)
+      (turned-feasible (top s) D′ D (mirrored-back (top s) D D′ (λ a b ha hb. refl)) z′ (c .admitted .feasible))
+      (λ a b ha hb g.
+      let a′ = top s - b in
+      let b′ = top s - a in
+      let hb′ : own .first ≤ b = elim (decLe (own .first) b) [ yes h ↦ h | no h ↦ absurd (g .2 (omega arith) (g .1)) ] in
+      omega (
+        ints,
+        mirrored-back (top s) E E′ (λ a b ha hb. refl) a b ha (omega arith),
+        c .admitted .keeps a′ b′ (omega (arith, g .1)) (omega (arith, g .0)) (omega arith),
+        sum (z′ a′) (E′ a′ b′),
+        sum (turned (top s) z′ a) (E a b),
+        neg (z′ a′),
+        neg (z′ b′),
+      )) in
+      let e = latest-attained s x t j in
+      let i = lawful-iff s (e .0) .0 (e .1) .seated .inside j hj in
+      elim (decLe (latest s j) v′) [
+        | yes h ↦ omega (arith, latest-bound s (y .0) (y .1) j, y .2)
+        | no h ↦ absurd (c .least (suc (top s) - latest s j) (omega (arith, e .2)) (omega arith)
+            (plan-admits-late (e .0) (e .1) (latest s j) (omega (arith, e .2)) (omega (arith, e .2))))
+      ]

@@ -1,10 +1,9 @@
 mod CutSheetLaws
 mod MirrorLaws
 mod ExtremeLaws
-mod FillLaws
+mod RowFillLaws
 mod MarkLaws
 mod CommonCutLaws
 mod CutRowLaws
 mod CutWindowsLaws
-mod TurnLaws
 mod NarrowLaws

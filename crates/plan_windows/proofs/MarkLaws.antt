@@ -1,87 +1,122 @@
 -- Marks of windows, one unit at a time.
 -- Key idea: a place of the table is one pair of slots, so a store changes the mark of one window only. The slot that stands there in the end is that of
 -- some unit with this window, hence an admitted cut, and its least cut is the least cut of every unit with this window.
-use mathlib.Core.Path.{_≡_, sym, ap, subst}
+use mathlib.Core.Path.{_≡_, refl, sym, ap, subst}
 use mathlib.Core.Logic.{inl, inr, ⊎-elim, ⊎-map}
+use mathlib.Core.Bool.{Bool, true, false}
 use mathlib.Core.List.{List}
 use Prim.Native.Nat.{ℕ, _+_, _*_, _≤_, _<_}
 use native.Mathlib.Omega.{arith}
 use native.Mathlib.Nat.{mul-le-mul-right}
-use native.Mathlib.Decide.{ℕ-discrete, decLe}
+use native.Mathlib.Decide.{ℕ-discrete}
 use lib.ListN.{length, getD, set}
 use lib.Seq.{getD-set-same, getD-set-other}
-use Rattle.lists.specs.Values.{Filled, filled-length, filled-new, filled-old}
-use Rattle.network.specs.TableLaws.{row-inside}
 use lib.IntN.{ℤ}
-use Rattle.network_cuts.specs.Carry.{LeastCutAt}
-use Rattle.plan_windows.specs.Windows.{slot, Units, Marked, KnownCut, KnownCuts, CutRows, Admitted, LeastCuts}
+use Rattle.lists.specs.Values.{Filled}
+use Rattle.network.specs.Table.{maxBoundaries}
+use Rattle.network.specs.TableLaws.{row-inside}
+use Rattle.sheet.specs.Sizes.{maxCells}
+use Rattle.limits.specs.LentTableLaws.{place-row, place-column}
+use Rattle.network_cuts.specs.Decider.{LeastCutAt}
+use Rattle.plan_windows.specs.Windows.{slot, seen, seenAt, Units, Marked, Reads, KnownCut, KnownCuts, CutRows, Admitted, LeastCuts}
 
--- a place of the table is one pair of slots
-not-before : (w f l f′ l′ : ℕ) → l < w → f * w + l ≡ f′ * w + l′ → f′ ≤ f
-not-before w f l f′ l′ h e = elim (decLe f′ f) [
-  | yes p ↦ p
-  | no n ↦ let k : (f + 1) * w ≤ f′ * w = mul-le-mul-right w (omega arith) in absurd (omega arith)
-]
+-- a table of boundaries has room in the largest
+pub square-most : (w : ℕ) → w ≤ maxBoundaries → w * w ≤ maxCells
+square-most w h = let p : w * w ≤ maxBoundaries * w = mul-le-mul-right w h in omega arith
 
-pub same-place : (w f l f′ l′ : ℕ) → l < w → l′ < w → f * w + l ≡ f′ * w + l′ → (f ≡ f′) × (l ≡ l′)
-same-place w f l f′ l′ h h′ e =
-    let p : f ≡ f′ = omega (arith, not-before w f l f′ l′ h e, not-before w f′ l′ f l h′ (sym e)) in
-    (p, omega (arith, ap (λ (i : ℕ). i * w) p))
+-- ---- slots seen from the end
+seen-twice : (turned : Bool) (w x : ℕ) → x ≤ w → seen turned w (seen turned w x) ≡ x
+seen-twice false w x h = refl
+seen-twice true w x h = omega arith
 
-module _ (w : ℕ) (first last plan : List ℕ) (units : Units w first last plan) where
-  pub place-inside : (j : ℕ) → j < length first → getD first j 0 * w + getD last j 0 < w * w
-  place-inside j h = let u = units .inside j h in omega (arith, row-inside (getD first j 0) w (omega arith))
+seen-below : (turned : Bool) (w x : ℕ) → 1 ≤ seen turned w x → seen turned w x < w → x ≤ w
+seen-below false w x h k = omega arith
+seen-below true w x h k = omega arith
 
-  pub marked-none : (marks : List ℕ) → ((i : ℕ) → getD marks i 0 ≡ 0) → Marked 0 w first last plan marks
+-- a slot within the boundaries, seen from either end, is one
+pub seen-most : (turned : Bool) (w x : ℕ) → x ≤ w → seen turned w x ≤ w
+seen-most false w x h = h
+seen-most true w x h = omega arith
+
+module _ {turned : Bool} {w : ℕ} {opens closes plan : List ℕ} (units : Units turned w opens closes plan) where
+  abbrev first : ℕ → ℕ
+  first = seenAt turned w opens
+
+  abbrev last : ℕ → ℕ
+  last = seenAt turned w closes
+
+  abbrev seat : ℕ → ℕ
+  seat = seenAt turned w plan
+
+  pub slots-below : (j : ℕ) → j < length opens → (getD opens j 0 ≤ w) × (getD closes j 0 ≤ w) × (getD plan j 0 ≤ w)
+  slots-below j h =
+      let u = units .inside j h in (
+        seen-below turned w (getD opens j 0) (omega arith) (omega arith),
+        seen-below turned w (getD closes j 0) (omega arith) (omega arith),
+        seen-below turned w (getD plan j 0) (omega arith) (omega arith),
+      )
+
+  pub place-inside : (j : ℕ) → j < length opens → first j * w + last j < w * w
+  place-inside j h = let u = units .inside j h in omega (arith, row-inside (first j) w (omega arith))
+
+  pub marked-none : (marks : List ℕ) → ((i : ℕ) → getD marks i 0 ≡ 0) → Marked 0 w first last seat marks
   marked-none marks z = record { found = λ j h. absurd (omega arith); from = λ f l hf hl. inl (z (f * w + l)) }
 
-  pub marked-more : (j : ℕ) (marks : List ℕ) → j < length first → w * w ≤ length marks → Marked j w first last plan marks
-      → Marked (j + 1) w first last plan (set marks (getD first j 0 * w + getD last j 0) (getD plan j 0))
-  marked-more j marks h n m =
+  pub marked-more : (j : ℕ) (marks : List ℕ) → j < length opens → w * w ≤ length marks → Marked j w first last seat marks
+      → Marked (j + 1) w first last seat (set marks (first j * w + last j) (seat j))
+  marked-more j marks h room m =
       let u = units .inside j h in
-      let p = getD first j 0 * w + getD last j 0 in
-      let here = getD-set-same marks p (getD plan j 0) 0 (omega (arith, place-inside j h)) in
+      let p = first j * w + last j in
+      let here = getD-set-same marks p (seat j) 0 (omega (arith, place-inside j h)) in
       record {
-        found = λ i hi. elim (ℕ-discrete (getD first i 0 * w + getD last i 0) p) [
+        found = λ i hi. elim (ℕ-discrete (first i * w + last i) p) [
           | yes e ↦ rw (e, here) (omega arith)
-          | no ne ↦ rw (getD-set-other marks p (getD first i 0 * w + getD last i 0) (getD plan j 0) 0 ne) (m .found i (elim (ℕ-discrete i j) [
-            | yes q ↦ absurd (ne (ap (λ (x : ℕ). getD first x 0 * w + getD last x 0) q))
+          | no ne ↦ rw (getD-set-other marks p (first i * w + last i) (seat j) 0 ne) (m .found i (elim (ℕ-discrete i j) [
+            | yes q ↦ absurd (ne (ap (λ (x : ℕ). first x * w + last x) q))
             | no nq ↦ omega arith
           ]))
         ];
         from = λ f l hf hl. elim (ℕ-discrete (f * w + l) p) [
-          | yes e ↦ let q = same-place w f l (getD first j 0) (getD last j 0) hl (omega arith) e in
-              inr (j, omega arith, sym (q .0), sym (q .1), rw (e, here))
-          | no ne ↦ rw (getD-set-other marks p (f * w + l) (getD plan j 0) 0 ne)
+          | yes e ↦ inr (
+            j,
+            omega arith,
+            sym (place-row w (first j) (last j) f l (omega arith) hl e),
+            sym (place-column w (first j) (last j) f l (omega arith) hl e),
+            rw (e, here),
+          )
+          | no ne ↦ rw (getD-set-other marks p (f * w + l) (seat j) 0 ne)
               (⊎-map (λ x. x) (λ x. (x .0, omega (arith, x .1), x .2, x .3, x .4)) (m .from f l hf hl))
         ];
       }
 
   -- ---- what the marks say of the cuts
-  module _ (d m : List ℤ) (admitted : Admitted w d m first last plan) (marks : List ℕ) (marked : Marked (length first) w first last plan marks) where
+  module _ (d m : List ℤ) (admitted : Admitted turned w d m opens closes plan) {marks : List ℕ}
+      (marked : Marked (length opens) w first last seat marks) where
     pub marks-known : KnownCuts w d m marks
     marks-known f l hf hl p = ⊎-elim (λ z. absurd (omega arith)) (λ x.
         let j = x .0 in
         let u = units .inside j (x .1) in
-        let k : KnownCut w d m (getD first j 0) (getD last j 0) (getD plan j 0) = record
-        { opens = u .0; inside = (u .1, u .2); admitted = admitted j (x .1) } in
+        let k : KnownCut w d m (first j) (last j) (seat j) = record { opens = u .0; inside = (u .1, u .2); admitted = admitted j (x .1) } in
         subst (λ (y : ℕ). KnownCut w d m f l y) (sym (x .4))
-        (subst (λ (y : ℕ). KnownCut w d m f y (getD plan j 0)) (x .3) (subst (λ (y : ℕ). KnownCut w d m y (getD last j 0) (getD plan j 0)) (x .2) k)))
+        (subst (λ (y : ℕ). KnownCut w d m f y (seat j)) (x .3) (subst (λ (y : ℕ). KnownCut w d m y (last j) (seat j)) (x .2) k)))
         (marked .from f l hf hl)
 
-    pub cuts-least : (marks′ out out′ : List ℕ) → length first ≤ length out → CutRows w d m w marks marks′
-        → Filled (λ j. slot w marks′ (getD first j 0) (getD last j 0)) (length first) out out′ → LeastCuts w d m first last out out′
-    cuts-least marks′ out out′ n cut f =
-        let g : ℕ → ℕ = λ j. slot w marks′ (getD first j 0) (getD last j 0) in
-        record {
-          long = filled-length g (length first) out out′ f n;
-          each = λ j h.
-              let u = units .inside j h in
-              subst (λ (y : ℕ). LeastCutAt w d m (getD first j 0) (getD last j 0) y) (sym (filled-new g (length first) out out′ f j 0 h))
-              (cut (getD first j 0) (getD last j 0) (omega arith) (omega arith) .1 (marked .found j h));
-          past = λ j h. filled-old g (length first) out out′ f j 0 h;
-        }
+    module _ (marks′ : List ℕ) (cut : CutRows w d m w marks marks′) where
+      least : (j : ℕ) → j < length opens → LeastCutAt w d m (first j) (last j) (slot w marks′ (first j) (last j))
+      least j h = let u = units .inside j h in cut (first j) (last j) (omega arith) (omega arith) .1 (marked .found j h)
 
--- at most 49 boundaries have at most 2401 entries
-pub square-most : (w : ℕ) → w ≤ 49 → w * w ≤ 2401
-square-most w h = let p : w * w ≤ 49 * w = mul-le-mul-right w h in omega arith
+      pub cuts-read : (j : ℕ) → j < length opens → Reads turned w opens closes marks′ j
+      cuts-read j h =
+          let u = units .inside j h in
+          let b = slots-below j h in
+          let i = least j h .inside in
+          record { raw = (b .0, b .1); window = (omega arith, omega arith); mark = omega arith }
+
+      pub cuts-least : (out out′ : List ℕ) → Filled (λ j. seen turned w (slot w marks′ (first j) (last j))) (length opens) out out′
+          → LeastCuts turned w d m opens closes out out′
+      cuts-least out out′ f = record {
+        value = λ j. seen turned w (slot w marks′ (first j) (last j));
+        each = λ j h. subst (λ (y : ℕ). LeastCutAt w d m (first j) (last j) y)
+            (sym (seen-twice turned w (slot w marks′ (first j) (last j)) (cuts-read j h .mark))) (least j h);
+        filled = f;
+      }

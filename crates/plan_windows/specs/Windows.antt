@@ -2,30 +2,46 @@
 -- Definitions only.
 use mathlib.Core.Path.{_≡_}
 use mathlib.Core.Logic.{_⊎_}
+use mathlib.Core.Bool.{Bool, true, false}
 use mathlib.Core.List.{List}
 use Prim.Native.Nat.{ℕ, _+_, _-_, _*_, _≤_, _<_}
 use lib.ListN.{length, getD}
 use lib.IntN.{ℤ}
+use Rattle.lists.specs.Values.{Filled}
 use Rattle.network.specs.Table.{entry}
 use Rattle.network_cuts.specs.Cut.{Admits, LeastCut}
 use Rattle.plan_windows.specs.CutSheet.{mirrored}
-use Rattle.network_cuts.specs.Carry.{into, AdmitsAt, Barred, LeastCutAt}
+use Rattle.network_cuts.specs.Decider.{into, AdmitsAt, Barred, LeastCutAt}
 
 -- what stands for the window f..l
 abbrev pub slot : ℕ → List ℕ → ℕ → ℕ → ℕ
 slot w marks f l = getD marks (f * w + l) 0
 
--- n units with windows within w boundaries, each with a slot of its window
-pub record Units (w : ℕ) (first last plan : List ℕ) : Type 0 where
-  pub lasts : length last ≡ length first
-  pub seats : length first ≤ length plan
-  pub inside : (j : ℕ) → j < length first → (1 ≤ getD first j 0) × (getD first j 0 ≤ getD plan j 0) × (getD plan j 0 ≤ getD last j 0) × (getD last j 0 < w)
+-- a slot as it is, or seen from the end, where slot x is w - x
+abbrev pub seen : Bool → ℕ → ℕ → ℕ
+seen false w x = x
+seen true w x = w - x
+
+abbrev pub seenAt : Bool → ℕ → List ℕ → ℕ → ℕ
+seenAt turned w xs j = seen turned w (getD xs j 0)
+
+-- units with windows within w boundaries, each with a slot of its window; all are seen from the end where `turned` says so
+pub record Units (turned : Bool) (w : ℕ) (opens closes plan : List ℕ) : Type 0 where
+  pub paired : length closes ≡ length opens
+  pub seats : length opens ≤ length plan
+  pub inside : (j : ℕ) → j < length opens → (1 ≤ seenAt turned w opens j) × (seenAt turned w opens j ≤ seenAt turned w plan j)
+      × (seenAt turned w plan j ≤ seenAt turned w closes j) × (seenAt turned w closes j < w)
 
 -- each window of the first n units is marked with the slot of a unit that has it, and no other window is marked
-pub record Marked (n w : ℕ) (first last plan marks : List ℕ) : Type 0 where
-  pub found : (j : ℕ) → j < n → 0 < slot w marks (getD first j 0) (getD last j 0)
-  pub from : (f l : ℕ) → f < w → l < w → (slot w marks f l ≡ 0)
-      ⊎ ((j : ℕ) × (j < n) × (getD first j 0 ≡ f) × (getD last j 0 ≡ l) × (slot w marks f l ≡ getD plan j 0))
+pub record Marked (n w : ℕ) (first last plan : ℕ → ℕ) (marks : List ℕ) : Type 0 where
+  pub found : (j : ℕ) → j < n → 0 < slot w marks (first j) (last j)
+  pub from : (f l : ℕ) → f < w → l < w → (slot w marks f l ≡ 0) ⊎ ((j : ℕ) × (j < n) × (first j ≡ f) × (last j ≡ l) × (slot w marks f l ≡ plan j))
+
+-- unit j's window lies within w boundaries, and so does the slot that stands for it
+pub record Reads (turned : Bool) (w : ℕ) (opens closes marks : List ℕ) (j : ℕ) : Type 0 where
+  pub raw : (getD opens j 0 ≤ w) × (getD closes j 0 ≤ w)
+  pub window : (seenAt turned w opens j < w) × (seenAt turned w closes j < w)
+  pub mark : slot w marks (seenAt turned w opens j) (seenAt turned w closes j) ≤ w
 
 -- r is the last place of the row that is marked, or 0
 pub record LastMark (row : List ℕ) (r : ℕ) : Type 0 where
@@ -68,39 +84,29 @@ CutRows w d m k marks marks′ =
     (f l : ℕ) → f < k → l < w → (slot w marks f l ≡ 0 → slot w marks′ f l ≡ 0) × (0 < slot w marks f l → LeastCutAt w d m f l (slot w marks′ f l))
 
 -- each unit's slot is an admitted cut of its window
-abbrev pub Admitted : ℕ → List ℤ → List ℤ → List ℕ → List ℕ → List ℕ → Type 0
-Admitted w d m first last plan = (j : ℕ) → j < length first → AdmitsAt w d m (getD first j 0) (getD plan j 0) (getD last j 0)
+abbrev pub Admitted : Bool → ℕ → List ℤ → List ℤ → List ℕ → List ℕ → List ℕ → Type 0
+Admitted turned w d m opens closes plan =
+    (j : ℕ) → j < length opens → AdmitsAt w d m (seenAt turned w opens j) (seenAt turned w plan j) (seenAt turned w closes j)
 
 -- the first n places of a list are as P says, and the others as they were
 pub record Prefixed (n : ℕ) (P : ℕ → ℕ → Type 0) (xs xs′ : List ℕ) : Type 0 where
-  pub long : length xs′ ≡ length xs
-  pub each : (j : ℕ) → j < n → P j (getD xs′ j 0)
-  pub past : (j : ℕ) → n ≤ j → getD xs′ j 0 ≡ getD xs j 0
+  pub value : ℕ → ℕ
+  pub each : (j : ℕ) → j < n → P j (value j)
+  pub filled : Filled value n xs xs′
 
 -- each unit's least cut
-abbrev pub LeastCuts : ℕ → List ℤ → List ℤ → List ℕ → List ℕ → List ℕ → List ℕ → Type 0
-LeastCuts w d m first last out out′ = Prefixed (length first) (λ j v. LeastCutAt w d m (getD first j 0) (getD last j 0) v) out out′
+abbrev pub LeastCuts : Bool → ℕ → List ℤ → List ℤ → List ℕ → List ℕ → List ℕ → List ℕ → Type 0
+LeastCuts turned w d m opens closes out out′ =
+    Prefixed (length opens) (λ j v. LeastCutAt w d m (seenAt turned w opens j) (seenAt turned w closes j) (seen turned w v)) out out′
 
--- ---- cuts from below, as cuts from above in the network seen from its end: slot x is w - x there
+-- ---- cuts from below, as cuts from above in the network seen from its end
 
--- d and m are seen from the end, and the windows and slots are not
-abbrev pub AdmittedTurned : ℕ → List ℤ → List ℤ → List ℕ → List ℕ → List ℕ → Type 0
-AdmittedTurned w d m first last plan =
-    (j : ℕ) → j < length first → AdmitsAt w d m (w - getD last j 0) (w - getD plan j 0) (w - getD first j 0)
-
-abbrev pub LeastCutsTurned : ℕ → List ℤ → List ℤ → List ℕ → List ℕ → List ℕ → List ℕ → Type 0
-LeastCutsTurned w d m first last out out′ =
-    Prefixed (length first) (λ j v. LeastCutAt w d m (w - getD last j 0) (w - getD first j 0) (w - v)) out out′
-
--- v is the greatest cut from below of the window f..l that is admitted
-abbrev pub AdmitsLate : ℕ → List ℤ → List ℤ → ℕ → ℕ → ℕ → Type 0
-AdmitsLate w d m f v l = Admits (w - 1) (mirrored (w - 1) (entry w d)) (mirrored (w - 1) (into w m)) (w - l) (w - v) (w - f)
-
-abbrev pub GreatestCut : ℕ → List ℤ → List ℤ → ℕ → ℕ → ℕ → Type 0
-GreatestCut w d m f l v = LeastCut (w - 1) (mirrored (w - 1) (entry w d)) (mirrored (w - 1) (into w m)) (w - l) (w - f) (w - v)
-
+-- each unit's window f..l may be cut to v..l, where v is its slot
 abbrev pub AdmittedLate : ℕ → List ℤ → List ℤ → List ℕ → List ℕ → List ℕ → Type 0
-AdmittedLate w d m first last plan = (j : ℕ) → j < length first → AdmitsLate w d m (getD first j 0) (getD plan j 0) (getD last j 0)
+AdmittedLate w d m first last plan = (j : ℕ) → j < length first
+    → Admits (w - 1) (mirrored (w - 1) (entry w d)) (mirrored (w - 1) (into w m)) (w - getD last j 0) (w - getD plan j 0) (w - getD first j 0)
 
+-- the greatest such cut of each unit's window
 abbrev pub GreatestCuts : ℕ → List ℤ → List ℤ → List ℕ → List ℕ → List ℕ → List ℕ → Type 0
-GreatestCuts w d m first last out out′ = Prefixed (length first) (λ j v. GreatestCut w d m (getD first j 0) (getD last j 0) v) out out′
+GreatestCuts w d m first last out out′ = Prefixed (length first)
+    (λ j v. LeastCut (w - 1) (mirrored (w - 1) (entry w d)) (mirrored (w - 1) (into w m)) (w - getD last j 0) (w - getD first j 0) (w - v)) out out′

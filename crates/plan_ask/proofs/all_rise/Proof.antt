@@ -14,16 +14,6 @@ Inv-loop least most first last j₀ j = (j ≤ length first) × (allRising least
 abbrev μ-loop : tie.MeasureT-loop
 μ-loop least most first last j₀ j = length first - j
 
-loop-holds : tie.Need-loop-holds Inv-loop μ-loop
-unfolding allRising risingFrom
-loop-holds c = (omega arith, refl)
-
-cast-rises : tie.Need-cast-rises Inv-loop μ-loop
-cast-rises c = omega (arith, c .shared-slice-known3 .given (c .before .before .loop .j))
-
-cast-rises-2 : tie.Need-cast-rises-2 Inv-loop μ-loop
-cast-rises-2 c = omega (arith, c .shared-slice-known4 .given (c .before .before .before .loop .j))
-
 loop-again : tie.Need-loop-again Inv-loop μ-loop
 loop-again c =
     let a = c .before .before .before .before .before .before .before .before .args in
@@ -46,5 +36,8 @@ returns-2 c =
     sym (l .inv .1 ∙ rising-end (a .least) (a .most) (a .first .now) (a .last .now) (c .before .before .before .before .pre) (l .j) (omega arith))
 
 pub all-rise-spec : {M : Type 1} → statement M
-all-rise-spec = tie.close (tie.spec Inv-loop μ-loop loop-holds (λ c. omega arith) (λ c. omega arith) cast-rises (λ c. omega arith) (λ c. omega arith)
-    cast-rises-2 (λ c κs. tt) (λ c. omega arith) (λ c. omega arith) loop-again returns returns-2)
+unfolding allRising risingFrom
+all-rise-spec = tie.close (tie.spec Inv-loop μ-loop (λ c. (omega arith, refl)) (λ c. omega arith) (λ c. omega arith)
+    (λ c. omega (arith, c .shared-slice-known3 .given (c .before .before .loop .j))) (λ c. omega arith) (λ c. omega arith)
+    (λ c. omega (arith, c .shared-slice-known4 .given (c .before .before .before .loop .j))) (λ c κs. tt) (λ c. omega arith) (λ c. omega arith)
+    loop-again returns returns-2)

@@ -6,14 +6,6 @@ use Rattle.sheet.specs.Questions.{listsAgree}
 use Rattle.plan_ask.proofs.lists_agree.Statement.{statement}
 use Rattle.plan_ask.proofs.lists_agree.Tie as tie
 
-returns : tie.Need-returns
-unfolding listsAgree
-returns c = fails-here _ _ (ne-eqb _ _ (c .if1 .taken))
-
-returns-2 : tie.Need-returns-2
-unfolding listsAgree
-returns-2 c = holds-here _ _ _ (eq-eqb _ _ (c .before .if1 .left)) (fails-here _ _ (ne-eqb _ _ (c .if2 .taken)))
-
 returns-3 : tie.Need-returns-3
 unfolding listsAgree
 returns-3 c =
@@ -27,4 +19,6 @@ returns-4 c =
     (holds-here _ _ _ (eq-eqb _ _ (c .before .if2 .left)) (holds-here _ _ _ (eq-eqb _ _ (c .if3 .left)) refl))
 
 pub lists-agree-spec : {M : Type 1} → statement M
-lists-agree-spec = tie.close (tie.spec returns returns-2 returns-3 returns-4)
+unfolding listsAgree
+lists-agree-spec = tie.close (tie.spec (λ c. fails-here _ _ (ne-eqb _ _ (c .if1 .taken)))
+    (λ c. holds-here _ _ _ (eq-eqb _ _ (c .before .if1 .left)) (fails-here _ _ (ne-eqb _ _ (c .if2 .taken)))) returns-3 returns-4)

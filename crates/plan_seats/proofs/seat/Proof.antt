@@ -5,8 +5,9 @@ use Prim.Native.Nat.{ℕ, _-_, _≤_}
 use native.Mathlib.Omega.{arith}
 use lib.ListN.{length, take, drop, replicate}
 use lib.Seq.{length-take-le}
-use Rattle.plan_seats.specs.RowLaws.{row-printed}
-use Rattle.plan_seats.proofs.SlotLaws.{take-zeros, front-seated}
+use Rattle.sheet.specs.Sizes.{maxUnits}
+use Rattle.plan_seats.specs.SeatsLaws.{row-printed}
+use Rattle.plan_seats.proofs.SlotLaws.{take-zeros, room-seated}
 use borrow.Author.Needs.{needs}
 use Rattle.plan_seats.proofs.seat.Statement.{statement}
 use Rattle.plan_seats.proofs.seat.Tie as tie
@@ -19,22 +20,23 @@ seat-in-order-requires c κs =
     let whole : n - 0 ≤ length (st .args .plan .now) = omega (arith, p .room) in
     let size = length-take-le (n - 0) (st .args .plan .now) whole in (
       record { lists = p .lists; units = p .units; room = omega (arith, size); slots = p .slots; closes = p .closes; rising = p .rising },
-      (length-take-le {A = ℕ} (n - 0) (replicate 300 0) (omega (arith, p .units)) ∙ omega arith, size ∙ omega arith),
+      (length-take-le {A = ℕ} (n - 0) (replicate maxUnits 0) (omega (arith, p .units)) ∙ omega arith, size ∙ omega arith),
     )
 
 returns : tie.Need-returns
 returns c =
-    let st = c .before .before .before .before .before .before .before .before .before in
+    let at-call = c .before .before .before in
+    let st = at-call .before .before .before .before .before .before in
     let first = st .args .first .now in
     let last = st .args .last .now in
     let counts = st .args .counts .now in
     let plan = st .args .plan .now in
     let n = length first in
     let whole : n - 0 ≡ n = omega arith in
-    let order : List ℕ = take (n - 0) (replicate 300 0) in
-    let zeros = ap (λ (k : ℕ). take {A = ℕ} k (replicate 300 0)) whole ∙ take-zeros n 300 (st .pre .units) in
-    let called = c .before .before .before .seat-in-order in
-    let all = front-seated first last counts (n - 0) order (called .last .1 .1 .1 .1 .0) plan whole zeros (called .ensures .1) in
+    let order : List ℕ = take (n - 0) (replicate maxUnits 0) in
+    let zeros = ap (λ (k : ℕ). take {A = ℕ} k (replicate maxUnits 0)) whole ∙ take-zeros n maxUnits (st .pre .units) in
+    let called = at-call .seat-in-order in
+    let all = room-seated first last counts (n - 0) order (called .last .1 .1 .1 .1 .0) plan whole zeros (called .ensures .1) in
     (all, λ s D R. all ∙ ap (λ (xs : List ℕ). xs ++ drop n plan) (row-printed s D first last counts R (st .pre .lists)))
 
 pub seat-spec : {M : Type 1} → statement M

@@ -4,9 +4,9 @@ use mathlib.Core.List.{List}
 use Prim.Native.Nat.{ℕ}
 use native.Mathlib.Omega.{arith}
 use lib.ListN.{length, replicate}
-use Rattle.plan_seats.specs.Seating.{at}
-use Rattle.plan_seats.specs.OrderLaws.{byRank-inOrder}
-use Rattle.plan_seats.specs.Row.{countAt, topOf, inOrder}
+use Rattle.plans.specs.Seating.{at}
+use Rattle.plans.specs.OrderLaws.{byRank-inOrder}
+use Rattle.plan_seats.specs.Seats.{countAt, lastSlot, seatOrder}
 use Rattle.plan_seats.proofs.SlotLaws.{slots-from}
 use borrow.Author.Needs.{needs}
 use Rattle.plan_seats.proofs.seat_in_order.Statement.{statement}
@@ -19,10 +19,12 @@ order-units-requires c κs =
 
 seat-slots-requires : tie.Need-seat-slots-requires
 seat-slots-requires c κs =
-    let st = c .before .before .before .before .before .before .before .before .before .before .before .before .before .before in
+    let freed = c .before .before .before .before in
+    let sorted = freed .before .before .before .before in
+    let st = sorted .before .before .before .before .before .before in
     let p = st .pre in
-    let cleared = c .before .before .before .before .clear in
-    let ordered = c .before .before .before .before .before .before .before .before .order-units in
+    let cleared = freed .free-all in
+    let ordered = sorted .order-units in
     let last = st .args .last .now in
     let plan : length (cleared .last .0) ≡ length (st .args .plan .now) = cleared .kept .0 in
     let units = byRank-inOrder (at last) (length last) (st .args .order .now) (omega (arith, p .0 .lists, p .1 .0)) .units in
@@ -38,13 +40,15 @@ seat-slots-requires c κs =
 
 returns : tie.Need-returns
 returns c =
-    let st = c .before .before .before .before .before .before .before .before .before .before .before .before .before .before .before .before .before in
-    let ordered = c .before .before .before .before .before .before .before .before .before .before .before .order-units in
-    let cleared = c .before .before .before .before .before .before .before .clear in
+    let freed = c .before .before .before .before .before .before .before in
+    let sorted = freed .before .before .before .before in
+    let st = sorted .before .before .before .before .before .before in
+    let ordered = sorted .order-units in
+    let cleared = freed .free-all in
     let first = st .args .first .now in
     let counts = st .args .counts .now in (
       ordered .ensures,
-      slots-from (at first) (countAt counts) (ordered .last .1 .0) (topOf counts) (inOrder (st .args .last .now) (st .args .order .now)) (cleared .last .0)
+      slots-from (at first) (countAt counts) (ordered .last .1 .0) (lastSlot counts) (seatOrder (st .args .last .now) (st .args .order .now)) (cleared .last .0)
           (replicate (length first) 0) (c .before .before .seat-slots .last .1 .1 .1 .0) (ordered .ensures)
           (cleared .ensures ∙ ap (λ (k : ℕ). replicate k 0) (st .pre .1 .1)) (c .before .before .seat-slots .ensures),
     )

@@ -1,12 +1,13 @@
 -- What is left to do from place p of the order on gives the whole answer.
 use mathlib.Core.Path.{_≡_, refl, sym, ap, _∙_}
 use mathlib.Core.Logic.{⊎-elim}
+use mathlib.Core.Bool.{true, false}
 use mathlib.Core.List.{List}
 use Prim.Native.Nat.{ℕ, _+_, _-_, _≤_, _<_}
 use native.Mathlib.Omega.{arith}
 use lib.ListN.{length, drop, length-set}
-use Rattle.plan_seats.specs.Seating.{at, seatSlot}
-use Rattle.plan_seats.proofs.SlotLaws.{seat-none, seat-end, seat-open, seat-shut}
+use Rattle.plans.specs.Seating.{at, seatSlot}
+use Rattle.plan_seats.proofs.SlotLaws.{seat-none, seat-end, seat-step}
 use Rattle.plan_seats.proofs.seat_slot.Statement.{statement}
 use Rattle.plan_seats.proofs.seat_slot.Tie as tie
 
@@ -17,9 +18,6 @@ Inv-loop first order slot count plan₀ left₀ p₀ p-end plan left p =
 
 abbrev μ-loop : tie.MeasureT-loop
 μ-loop first order slot count plan₀ left₀ p₀ p-end plan left p = length order - p
-
-loop-holds : tie.Need-loop-holds Inv-loop μ-loop
-loop-holds c = (omega arith, refl, refl, refl)
 
 returns : tie.Need-returns Inv-loop μ-loop
 returns c =
@@ -35,27 +33,6 @@ unit-inside c =
     let l = c .before .before .loop in
     omega (arith, l .inv .2, st .pre .1 (l .p) (omega arith))
 
-cast-unit : tie.Need-cast-unit Inv-loop μ-loop
-cast-unit c = omega (arith, c .shared-slice-known3 .given (c .before .before .before .loop .p))
-
-mul-is-open : tie.Need-mul-is-open Inv-loop μ-loop
-mul-is-open c = omega (arith, unit-inside (c .before))
-
-slice-read-is-open : tie.Need-slice-read-is-open Inv-loop μ-loop
-slice-read-is-open c = omega (arith, unit-inside (c .before .before))
-
-mul-is-open-2 : tie.Need-mul-is-open-2 Inv-loop μ-loop
-mul-is-open-2 c = omega (arith, unit-inside (c .before .before))
-
-shared-slice-read-is-open : tie.Need-shared-slice-read-is-open Inv-loop μ-loop
-shared-slice-read-is-open c = omega (arith, unit-inside (c .before .before .before))
-
-mul-plan : tie.Need-mul-plan Inv-loop μ-loop
-mul-plan c = omega (arith, unit-inside (c .before .before .before .before .before))
-
-slice-write-plan : tie.Need-slice-write-plan Inv-loop μ-loop
-slice-write-plan c = omega (arith, unit-inside (c .before .before .before .before .before))
-
 sub-left : tie.Need-sub-left Inv-loop μ-loop
 sub-left c =
     let h = c .before .before .before .before .before .if1 .left in
@@ -63,8 +40,9 @@ sub-left c =
 
 loop-again : tie.Need-loop-again Inv-loop μ-loop
 loop-again c =
-    let st = c .before .before .before .before .before .before .before .before .before .before .before in
-    let l = c .before .before .before .before .before .before .before .loop in
+    let turn = c .before .before .before .before .before .before .before in
+    let st = turn .before .before .before .before in
+    let l = turn .loop in
     let e = c .before .is-open .ensures in
     let first = at (st .args .first .now) in
     let slot = st .args .slot in
@@ -78,14 +56,14 @@ loop-again c =
       refl,
       ap length (w .1) ∙ length-set (l .plan) u slot ∙ l .inv .2,
       ap (λ (k : ℕ). seatSlot first slot rest k (c .if2 .plan)) (w .2) ∙ ap (λ (xs : List ℕ). seatSlot first slot rest (l .left - 1) xs) (w .1)
-          ∙ sym (seat-open first slot order (l .p) (l .left) (l .plan) (omega arith) (omega arith) (sym e ∙ w .0 .taken)) ∙ l .inv .3,
+          ∙ sym (seat-step first slot order (l .p) (l .left) (l .plan) (omega arith) (omega arith) true (sym e ∙ w .0 .taken)) ∙ l .inv .3,
     ))
     (λ w. (
       omega arith,
       refl,
       ap length (w .1) ∙ l .inv .2,
       ap (λ (k : ℕ). seatSlot first slot rest k (c .if2 .plan)) (w .2) ∙ ap (λ (xs : List ℕ). seatSlot first slot rest (l .left) xs) (w .1)
-          ∙ sym (seat-shut first slot order (l .p) (l .left) (l .plan) (omega arith) (omega arith) (sym e ∙ w .0 .left)) ∙ l .inv .3,
+          ∙ sym (seat-step first slot order (l .p) (l .left) (l .plan) (omega arith) (omega arith) false (sym e ∙ w .0 .left)) ∙ l .inv .3,
     ))
     (c .if2 .came)
 
@@ -96,6 +74,10 @@ returns-2 c =
     sym (seat-end (at (a .first .now)) (a .slot) (a .order .now) (l .p) (l .left) (l .plan) (omega arith)) ∙ l .inv .3
 
 pub seat-slot-spec : {M : Type 1} → statement M
-seat-slot-spec = tie.close (tie.spec Inv-loop μ-loop loop-holds (λ c. omega arith) returns (λ c. omega arith) (λ c. omega arith) cast-unit mul-is-open
-    slice-read-is-open mul-is-open-2 shared-slice-read-is-open (λ c κs. tt) mul-plan slice-write-plan sub-left (λ c. omega arith) (λ c. omega arith)
-    loop-again (λ c. omega arith) returns-2)
+seat-slot-spec = tie.close (tie.spec Inv-loop μ-loop (λ c. (omega arith, refl, refl, refl)) (λ c. omega arith) returns (λ c. omega arith)
+    (λ c. omega arith) (λ c. omega (arith, c .shared-slice-known3 .given (c .before .before .before .loop .p)))
+    (λ c. omega (arith, unit-inside (c .before))) (λ c. omega (arith, unit-inside (c .before .before)))
+    (λ c. omega (arith, unit-inside (c .before .before))) (λ c. omega (arith, unit-inside (c .before .before .before))) (λ c κs. tt)
+    (λ c. omega (arith, unit-inside (c .before .before .before .before .before)))
+    (λ c. omega (arith, unit-inside (c .before .before .before .before .before))) sub-left (λ c. omega arith) (λ c. omega arith) loop-again
+    (λ c. omega arith) returns-2)

@@ -1,13 +1,12 @@
 -- What is left to do from the slot on gives the whole answer; a slot that takes nobody changes nothing.
-use mathlib.Core.Path.{_≡_, refl, sym, ap, _∙_, subst}
+use mathlib.Core.Path.{_≡_, refl, sym, ap, _∙_}
 use mathlib.Core.Logic.{⊎-elim}
-use mathlib.Core.List.{List}
-use Prim.Native.Nat.{ℕ, _+_, _-_, _≤_}
+use Prim.Native.Nat.{_-_, _≤_}
 use native.Mathlib.Omega.{arith}
-use lib.ListN.{length, drop}
-use Rattle.plan_seats.specs.Seating.{at, seatSlot, leading, hasSeat, Skipped, seatSlots}
-use Rattle.plan_seats.specs.Row.{countAt, seatsInto}
-use Rattle.plan_seats.proofs.SlotLaws.{seat-none, slot-done, slots-end, leading-within, skipped-after}
+use lib.ListN.{length}
+use Rattle.plans.specs.Seating.{at, seatSlot, seatSlots}
+use Rattle.plan_seats.specs.Seats.{countAt, seatsInto, Skipped}
+use Rattle.plan_seats.proofs.SlotLaws.{seat-none, slot-done, slots-end}
 use Rattle.plan_seats.proofs.seat_slots.Statement.{statement}
 use Rattle.plan_seats.proofs.seat_slots.Tie as tie
 
@@ -15,25 +14,20 @@ abbrev Inv-loop : tie.InvT-loop
 Inv-loop first order counts plan₀ from₀ slot₀ slot-end plan from slot =
     (1 ≤ slot) × (slot ≤ length counts) × (slot-end ≡ length counts) × (length plan ≡ length plan₀)
     × (seatSlots (at first) (countAt counts) order (slot - 1) (length counts - slot) plan ≡ seatsInto first counts order plan₀)
-    × (from ≤ length order) × Skipped from order plan
+    × Skipped from order plan
 
 abbrev μ-loop : tie.MeasureT-loop
 μ-loop first order counts plan₀ from₀ slot₀ slot-end plan from slot = length counts - slot
 
 loop-holds : tie.Need-loop-holds Inv-loop μ-loop
-loop-holds c = (omega arith, c .before .before .before .pre .1 .0, refl, refl, refl, omega arith, λ p h. absurd (omega arith))
-
-rise-requires : tie.Need-rise-requires Inv-loop μ-loop
-rise-requires c κs = (omega arith, omega arith, c .before .before .before .before .before .pre .1 .2)
-
-cast-seat-past : tie.Need-cast-seat-past Inv-loop μ-loop
-cast-seat-past c = omega (arith, c .before .before .before .before .before .before .before .pre .1 .1)
+loop-holds c = (omega arith, c .before .before .before .pre .1 .0, refl, refl, refl, (omega arith, λ p h. absurd (omega arith)))
 
 seat-past-requires : tie.Need-seat-past-requires Inv-loop μ-loop
 seat-past-requires c κs =
-    let st = c .before .before .before .before .before .before .before .before in
-    let l = c .before .before .before .before .loop in
-    ((omega (arith, st .pre .0 .0, l .inv .3), λ j h. omega (arith, st .pre .0 .1 j h, l .inv .3)), (l .inv .5, l .inv .6))
+    let turn = c .before .before .before .before in
+    let st = turn .before .before .before .before in
+    let l = turn .loop in
+    ((omega (arith, st .pre .0 .0, l .inv .3), λ j h. omega (arith, st .pre .0 .1 j h, l .inv .3)), l .inv .5)
 
 loop-again : tie.Need-loop-again Inv-loop μ-loop
 loop-again c =
@@ -49,15 +43,14 @@ loop-again c =
     let past = w .2 in
     let count = c .before .rise .result in
     let after : c .if1 .plan ≡ seatSlot first (l .slot) order count (l .plan) = rw (w .5) (past .ensures .1) in
-    let from : c .if1 .from ≡ l .from + leading (hasSeat (at (l .plan))) (drop (l .from) order) = rw (w .6) (past .ensures .0) in (
+    let skipped : Skipped (c .if1 .from) order (c .if1 .plan) = rw (w .6, w .5) (past .ensures .0) in (
       omega arith,
       omega arith,
       refl,
       ap length (w .5) ∙ past .kept .1 .1 .1 .1 .1 .0 ∙ l .inv .3,
       slot-done first (countAt counts) order (l .slot) size count (l .plan) (c .if1 .plan) whole (l .inv .0) (omega arith) (c .before .rise .ensures) after
           (l .inv .4),
-      omega (arith, from, leading-within (hasSeat (at (l .plan))) order (l .from) (l .inv .5)),
-      skipped-after first (l .slot) (l .from) (c .if1 .from) count order (l .plan) (c .if1 .plan) from after (l .inv .6),
+      skipped,
     ))
     (λ w.
     let e = c .before .rise .ensures in
@@ -68,8 +61,7 @@ loop-again c =
       refl,
       ap length (w .1) ∙ l .inv .3,
       slot-done first (countAt counts) order (l .slot) size 0 (l .plan) (c .if1 .plan) whole (l .inv .0) (omega arith) none after (l .inv .4),
-      omega (arith, w .2, l .inv .5),
-      subst (λ (xs : List ℕ). Skipped (c .if1 .from) order xs) (sym (w .1)) (subst (λ (k : ℕ). Skipped k order (l .plan)) (sym (w .2)) (l .inv .6)),
+      rw (w .2, w .1) (l .inv .5),
     ))
     (c .if1 .came)
 
@@ -81,5 +73,7 @@ returns c =
     ∙ l .inv .4
 
 pub seat-slots-spec : {M : Type 1} → statement M
-seat-slots-spec = tie.close (tie.spec Inv-loop μ-loop loop-holds rise-requires cast-seat-past seat-past-requires (λ c. omega arith) (λ c. omega arith)
-    loop-again (λ c. omega arith) returns)
+seat-slots-spec = tie.close (tie.spec Inv-loop μ-loop loop-holds
+    (λ c κs. (omega arith, omega arith, c .before .before .before .before .before .pre .1 .2))
+    (λ c. omega (arith, c .before .before .before .before .before .before .before .pre .1 .1)) seat-past-requires (λ c. omega arith)
+    (λ c. omega arith) loop-again (λ c. omega arith) returns)

@@ -1,6 +1,6 @@
 -- Key idea: the last marked window admits the cut, because a lower one is known or because it was tried, and the others have fewer arcs.
 use Rattle.plan_windows.proofs.CommonCutLaws.{last-inside, common-last, common-known, common-none}
-use Rattle.network_cuts.specs.Carry.{AdmitsAt, Decides}
+use Rattle.network_cuts.specs.Decider.{AdmitsAt, Decides}
 use mathlib.Core.Bool.{Bool}
 use mathlib.Core.Path.{subst}
 use Prim.Native.Nat.{_<_}
@@ -19,20 +19,11 @@ place c =
     let n = st .pre .3 in
     omega (arith, last-inside (st .args .row .now) (c .last-marked .result) (omega (arith, n, st .pre .2)) (c .last-marked .ensures), n)
 
-mul-larger : tie.Need-mul-larger
-mul-larger c = omega (arith, place c, c .before .before .before .pre .0 .most)
-
-shared-slice-read-larger : tie.Need-shared-slice-read-larger
-shared-slice-read-larger c = omega (arith, place (c .before), c .before .before .before .before .pre .4)
-
 mul-known : tie.Need-mul-known
 mul-known c = omega (arith, place (c .before .before), c .before .before .before .before .before .pre .0 .most)
 
 shared-slice-read-known : tie.Need-shared-slice-read-known
 shared-slice-read-known c = omega (arith, place (c .before .before .before), c .before .before .before .before .before .before .pre .3)
-
-cast-known : tie.Need-cast-known
-cast-known c = omega (arith, c .shared-slice-known4 .given (c .before .before .before .last-marked .result))
 
 returns : tie.Need-returns
 returns c =
@@ -65,10 +56,12 @@ returns-2 c =
 
 returns-3 : tie.Need-returns-3
 returns-3 c =
-    let st = c .before .before .before .before .before .before .before .before .before in
+    let at = c .before .before .before .before .before .before in
+    let st = at .before .before .before in
     let a = st .args in
     common-none (a .w) (a .d .now) (a .m .now) (a .f) (a .row .now) (st .pre .2)
 
 pub common-cut-spec : {M : Type 1} → statement M
-common-cut-spec = tie.close (tie.spec (λ c κs. search needs) mul-larger shared-slice-read-larger (λ c κs. search needs) mul-known
-    shared-slice-read-known cast-known returns admits-requires returns-2 returns-3)
+common-cut-spec = tie.close (tie.spec (λ c κs. search needs) (λ c. omega (arith, place c, c .before .before .before .pre .0 .most))
+    (λ c. omega (arith, place (c .before), c .before .before .before .before .pre .4)) (λ c κs. search needs) mul-known shared-slice-read-known
+    (λ c. omega (arith, c .shared-slice-known4 .given (c .before .before .before .last-marked .result))) returns admits-requires returns-2 returns-3)

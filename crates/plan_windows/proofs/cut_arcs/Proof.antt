@@ -1,39 +1,47 @@
--- The windows inside all stretches are counted in an array of the call's own; the arcs are one less.
-use Rattle.plan_windows.proofs.NarrowLaws.{inside-modest, arcs-table}
-use Rattle.plan_windows.proofs.MarkLaws.{square-most}
-use Rattle.sheet.specs.QuestionLaws.{windowsOf-length}
-use Rattle.sheet.specs.Questions.{windowsOf}
-use lib.IntN.{pos}
-use lib.ListN.{length, drop, replicate}
-use mathlib.Core.Path.{_≡_}
-use Prim.Native.Nat.{_*_}
+-- The windows inside all stretches stand in the table, and the arcs are made of them where they stand.
+use mathlib.Core.Path.{sym, _∙_, subst}
+use mathlib.Core.List.{List}
 use native.Mathlib.Omega.{arith}
 use borrow.Author.Needs.{needs}
+use Rattle.network.specs.Table.{entry}
+use Rattle.sheet.specs.Sizes.{maxUnits}
+use Rattle.sheet.specs.Sheet.{Window}
+use Rattle.sheet.specs.Questions.{windowsOf}
+use Rattle.sheet.specs.QuestionLaws.{windowsOf-length}
+use Rattle.limits.specs.LimitTable.{insideWeights}
+use Rattle.limits.specs.LentTableLaws.{TableFilled, is-filled}
+use Rattle.network_cuts.specs.Sink.{Within}
+use Rattle.plan_windows.proofs.RowFillLaws.{less-same}
+use Rattle.plan_windows.proofs.NarrowLaws.{inside-within}
 use Rattle.plan_windows.proofs.cut_arcs.Statement.{statement}
 use Rattle.plan_windows.proofs.cut_arcs.Tie as tie
 
-windows-inside-requires : tie.Need-windows-inside-requires
-windows-inside-requires c κs = let st = c .before .before .before in (square-most (st .args .w) (st .pre .1), st .pre .0)
+abbrev units : tie.Start → List Window
+units c = windowsOf (c .args .first .now) (c .args .last .now)
+
+filled : (c : tie.After-windows-inside)
+    → let st = c .before .before .before .before in
+    TableFilled (st .args .w) (insideWeights (units st)) (st .args .out .now) (c .windows-inside .last .1 .1 .1 .0)
+filled c =
+    let st = c .before .before .before .before in
+    is-filled (st .args .w) (insideWeights (units st)) (st .args .out .now) (c .windows-inside .last .1 .1 .1 .0) (st .pre .1) (c .windows-inside .ensures)
 
 arcs-requires : tie.Need-arcs-requires
 arcs-requires c κs =
-    let i = c .before .before .before .windows-inside in
-    let st = c .before .before .before .before .before .before .before in
-    let a = st .args in
-    let n : length (i .last .1 .1 .1 .0) ≡ 2401 = i .kept .1 .1 .1 .0 in
-    let k = windowsOf-length (a .first .now) (a .last .now) (st .pre .0 .paired) in (
-      omega (arith, square-most (a .w) (st .pre .1)),
-      st .pre .2,
-      inside-modest (a .w) (windowsOf (a .first .now) (a .last .now)) (i .last .1 .1 .1 .0) (drop (a .w * a .w) (replicate 2401 (pos 0)))
-          (omega (arith, st .pre .0 .few)) (i .ensures),
+    let st = c .before .before .before .before .before .before in
+    let f = filled (c .before .before) in
+    let n = windowsOf-length (st .args .first .now) (st .args .last .now) (st .pre .0 .paired) in (
+      omega (arith, f .long, st .pre .1),
+      λ a b ha hb. subst (Within maxUnits) (sym (f .at a b ha hb)) (inside-within (units st) a b (omega (arith, st .pre .0 .few))),
     )
 
 returns : tie.Need-returns
-returns c =
-    let i = c .before .before .before .before .before .windows-inside in
-    let a = c .before .before .before .before .before .before .before .before .before .args in
-    arcs-table (a .w) (windowsOf (a .first .now) (a .last .now)) (i .last .1 .1 .1 .0) (drop (a .w * a .w) (replicate 2401 (pos 0)))
-    (c .before .arcs .last .1 .1 .0) (drop (a .w * a .w) (a .out .now)) (i .ensures) (c .before .arcs .ensures)
+returns c a b ha hb =
+    let inside = c .before .before .before .before in
+    let st = inside .before .before .before .before in
+    let f = filled inside in
+    c .before .arcs .ensures a b ha hb
+    ∙ less-same (entry (st .args .w) (inside .windows-inside .last .1 .1 .1 .0)) (insideWeights (units st)) a b (f .at b a hb ha) (f .at a b ha hb)
 
 pub cut-arcs-spec : {M : Type 1} → statement M
-cut-arcs-spec = tie.close (tie.spec (λ c. search needs) windows-inside-requires (λ c. search needs) arcs-requires (λ c. search needs) returns)
+cut-arcs-spec = tie.close (tie.spec (λ c κs. search needs) arcs-requires (λ c. search needs) returns)

@@ -19,7 +19,7 @@ loop-holds : tie.Need-loop-holds Inv-loop μ-loop
 loop-holds c =
     let st = c .before in
     let a = st .args in
-    windows-none (a .w) (a .d .now) (a .m .now) (a .marks .now) (st .pre .1) (st .pre .2) (st .pre .0 .some)
+    windows-none (a .w) (a .d .now) (a .m .now) (a .marks .now) (st .pre .2) (st .pre .0 .some)
 
 -- the row in hand is inside the room for the marks
 row-fits : (c : tie.In-loop Inv-loop μ-loop)
@@ -27,24 +27,6 @@ row-fits : (c : tie.In-loop Inv-loop μ-loop)
 row-fits c =
     let st = c .before .before .before in
     omega (arith, row-inside (c .before .loop .f) (st .args .w) (c .loop-test .taken), c .before .loop .inv .long, st .pre .1)
-
-mul-from : tie.Need-mul-from Inv-loop μ-loop
-mul-from c = omega (arith, row-fits c, c .before .before .before .good)
-
-add-to : tie.Need-add-to Inv-loop μ-loop
-add-to c = omega (arith, row-fits c, c .before .before .before .good)
-
-mul-cut-row : tie.Need-mul-cut-row Inv-loop μ-loop
-mul-cut-row c = omega (arith, row-fits c, c .before .before .before .good)
-
-sub-cut-row : tie.Need-sub-cut-row Inv-loop μ-loop
-sub-cut-row c = omega (arith, row-fits c, c .before .before .before .good)
-
-part-cut-row-start : tie.Need-part-cut-row-start Inv-loop μ-loop
-part-cut-row-start c = omega (arith, row-fits c, c .before .before .before .good)
-
-part-cut-row-end : tie.Need-part-cut-row-end Inv-loop μ-loop
-part-cut-row-end c = omega (arith, row-fits c, c .before .before .before .good)
 
 cut-row-requires : tie.Need-cut-row-requires Inv-loop μ-loop
 cut-row-requires c κs =
@@ -59,18 +41,15 @@ cut-row-requires c κs =
         st .pre .0,
         l .inv .place .0,
         h,
-        row-length (a .w) (a .d .now) (a .m .now) (a .marks .now) (st .pre .1) (st .pre .2) (l .marks) (l .floor) (l .f) k (l .inv) h e,
+        row-length (l .inv) (st .pre .1) (st .pre .2) h e,
         omega (arith, l .inv .wide, st .pre .0 .most),
       ),
-      (known-row (a .w) (a .d .now) (a .m .now) (a .marks .now) (st .pre .1) (st .pre .2) (l .marks) (l .floor) (l .f) k (l .inv) h e, l .inv .floored),
+      (known-row (l .inv) (st .pre .1) (st .pre .2) h e, l .inv .floored),
     )
 
 add-f : tie.Need-add-f Inv-loop μ-loop
 add-f c = let at = c .before .before .before .before .before .before .before in omega
     (arith, c .before .before .before .before .before .before .loop-test .taken, at .before .before .pre .0 .most)
-
-loop-less : tie.Need-loop-less Inv-loop μ-loop
-loop-less c = omega (arith, c .before .before .before .before .before .before .loop-test .taken)
 
 loop-again : tie.Need-loop-again Inv-loop μ-loop
 loop-again c =
@@ -82,13 +61,10 @@ loop-again c =
     let r = c .before .before .before .cut-row in
     let k = l .f * a .w + a .w - l .f * a .w in
     let e : k ≡ a .w = omega arith in
-    let n = row-length (a .w) (a .d .now) (a .m .now) (a .marks .now) (st .pre .1) (st .pre .2) (l .marks) (l .floor) (l .f) k (l .inv) h e in
-    windows-more (a .w) (a .d .now) (a .m .now) (a .marks .now) (st .pre .1) (st .pre .2) (l .marks) (l .floor) (l .f) k (l .inv) h e
-    (r .last .1 .1 .1 .1 .0) (r .last .1 .1 .1 .1 .1 .0) (r .kept .1 .1 .1 .1 .0 ∙ n ∙ sym e) (r .kept .1 .1 .1 .1 .1 .0 ∙ l .inv .wide) (r .ensures .0)
+    let n = row-length (l .inv) (st .pre .1) (st .pre .2) h e in
+    windows-more (l .inv) (st .pre .1) (st .pre .2) h e (r .last .1 .1 .1 .1 .0) (r .last .1 .1 .1 .1 .1 .0) (r .kept .1 .1 .1 .1 .0 ∙ n ∙ sym e)
+    (r .kept .1 .1 .1 .1 .1 .0 ∙ l .inv .wide) (r .ensures .0)
     (r .ensures .1)
-
-same-length : tie.Need-same-length Inv-loop μ-loop
-same-length c = c .before .loop .inv .long
 
 returns : tie.Need-returns Inv-loop μ-loop
 returns c =
@@ -98,5 +74,8 @@ returns c =
     λ f k hf hk. l .inv .done f k (omega arith) hk
 
 pub cut-windows-spec : {M : Type 1} → statement M
-cut-windows-spec = tie.close (tie.spec Inv-loop μ-loop loop-holds mul-from add-to mul-cut-row sub-cut-row part-cut-row-start part-cut-row-end
-    (λ c. search needs) cut-row-requires add-f loop-less loop-again same-length returns)
+cut-windows-spec = tie.close (tie.spec Inv-loop μ-loop loop-holds (λ c. omega (arith, row-fits c, c .before .before .before .good))
+    (λ c. omega (arith, row-fits c, c .before .before .before .good)) (λ c. omega (arith, row-fits c, c .before .before .before .good))
+    (λ c. omega (arith, row-fits c, c .before .before .before .good)) (λ c. omega (arith, row-fits c, c .before .before .before .good))
+    (λ c. omega (arith, row-fits c, c .before .before .before .good)) (λ c. search needs) cut-row-requires add-f
+    (λ c. omega (arith, c .before .before .before .before .before .before .loop-test .taken)) loop-again (λ c. c .before .loop .inv .long) returns)

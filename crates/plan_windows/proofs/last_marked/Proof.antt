@@ -13,26 +13,11 @@ Inv-loop row n₀ n = (n ≤ length row) × ((j : ℕ) → n ≤ j → getD row 
 abbrev μ-loop : tie.MeasureT-loop
 μ-loop row n₀ n = n
 
-loop-holds : tie.Need-loop-holds Inv-loop μ-loop
-loop-holds c = (omega arith, λ j h. List·getD-eq-default (c .args .row .now) 0 h)
-
-sub-last : tie.Need-sub-last Inv-loop μ-loop
-sub-last c = omega (arith, c .loop-test .taken)
-
-mul-if1 : tie.Need-mul-if1 Inv-loop μ-loop
-mul-if1 c = omega (arith, c .before .loop .inv .0, c .before .before .good)
-
-shared-slice-read-if1 : tie.Need-shared-slice-read-if1 Inv-loop μ-loop
-shared-slice-read-if1 c = omega (arith, c .before .loop-test .taken, c .before .before .loop .inv .0)
-
 returns : tie.Need-returns Inv-loop μ-loop
 returns c =
     let l = c .before .before .before .loop in
     let t = c .before .before .loop-test .taken in
     record { inside = λ _. omega (arith, t, l .inv .0); marked = λ _. c .if1 .taken; last = λ j h. l .inv .1 j (omega arith) }
-
-loop-less : tie.Need-loop-less Inv-loop μ-loop
-loop-less c = omega (arith, c .before .before .loop-test .taken)
 
 loop-again : tie.Need-loop-again Inv-loop μ-loop
 loop-again c =
@@ -52,4 +37,7 @@ returns-2 c =
     record { inside = λ h. absurd (omega arith); marked = λ h. absurd (omega arith); last = λ j h. l .inv .1 j (omega (arith, c .loop-test .left)) }
 
 pub last-marked-spec : {M : Type 1} → statement M
-last-marked-spec = tie.close (tie.spec Inv-loop μ-loop loop-holds sub-last mul-if1 shared-slice-read-if1 returns loop-less loop-again returns-2)
+last-marked-spec = tie.close (tie.spec Inv-loop μ-loop (λ c. (omega arith, λ j h. List·getD-eq-default (c .args .row .now) 0 h))
+    (λ c. omega (arith, c .loop-test .taken)) (λ c. omega (arith, c .before .loop .inv .0, c .before .before .good))
+    (λ c. omega (arith, c .before .loop-test .taken, c .before .before .loop .inv .0)) returns
+    (λ c. omega (arith, c .before .before .loop-test .taken)) loop-again returns-2)

@@ -1,105 +1,76 @@
 -- The units before j have their cuts, and the rest of the room is as it was.
-use Rattle.lists.specs.Values.{Filled, filled-length, filled-store}
-use Rattle.plan_windows.specs.Windows.{slot}
-use Rattle.network.specs.TableLaws.{row-inside}
-use lib.ListN.{length, getD}
-use mathlib.Core.Path.{_≡_, refl, subst}
-use Prim.Native.Nat.{ℕ, _≤_, _-_}
+use mathlib.Core.Path.{_≡_, refl, ap, _∙_}
+use mathlib.Core.Bool.{Bool}
+use mathlib.Core.List.{List}
+use Prim.Native.Nat.{ℕ, _-_, _≤_, _<_}
 use native.Mathlib.Omega.{arith}
+use lib.ListN.{length, getD}
+use Rattle.lists.specs.Fill.{FillInv, fill-start, fill-next, fill-end}
+use Rattle.network.specs.TableLaws.{row-inside}
+use Rattle.plan_windows.specs.Windows.{slot, seen, seenAt, Reads}
+use Rattle.plan_windows.proofs.MarkLaws.{seen-most}
 use Rattle.plan_windows.proofs.read_marks.Statement.{statement}
 use Rattle.plan_windows.proofs.read_marks.Tie as tie
 
+-- unit j's cut
+abbrev cut : Bool → ℕ → List ℕ → List ℕ → List ℕ → ℕ → ℕ
+cut turned w opens closes marks j = seen turned w (slot w marks (seenAt turned w opens j) (seenAt turned w closes j))
+
 abbrev Inv-loop : tie.InvT-loop
-Inv-loop first last w marks out₀ j₀ j-end out j = (j ≤ length first) × (j-end ≡ length first) × Filled (λ i. slot w marks (getD first i 0) (getD last i 0))
-    j out₀ out
+Inv-loop turned w opens closes marks out₀ j₀ j-end out j = (j-end ≡ length opens) × FillInv (cut turned w opens closes marks) (length opens) out₀ j out
 
 abbrev μ-loop : tie.MeasureT-loop
-μ-loop first last w marks out₀ j₀ j-end out j = length first - j
+μ-loop turned w opens closes marks out₀ j₀ j-end out j = length opens - j
 
-loop-holds : tie.Need-loop-holds Inv-loop μ-loop
-loop-holds c = (omega arith, refl, refl)
+abbrev start : tie.In-loop Inv-loop μ-loop → tie.Start Inv-loop μ-loop
+start c = c .before .before .before .before .before .before
 
-cast-f : tie.Need-cast-f Inv-loop μ-loop
-cast-f c = omega (arith, c .shared-slice-known .given (c .before .before .loop .j))
+reads : (c : tie.In-loop Inv-loop μ-loop)
+    → let a = start c .args in Reads (a .turned) (a .w) (a .opens .now) (a .closes .now) (a .marks .now) (c .before .loop .j)
+reads c = start c .pre .1 (c .before .loop .j) (omega arith)
 
-mul-l : tie.Need-mul-l Inv-loop μ-loop
-mul-l c = omega (arith, c .before .before .before .pre .0)
+mark-place-requires : tie.Need-mark-place-requires Inv-loop μ-loop
+mark-place-requires c κs =
+    let turn = c .before .before in
+    let r = reads turn in
+    (r .raw .0, r .raw .1, r .window .0, r .window .1, start turn .pre .0 .2)
 
-shared-slice-read-l : tie.Need-shared-slice-read-l Inv-loop μ-loop
-shared-slice-read-l c = omega (arith, c .before .before .before .before .pre .0)
-
-cast-l : tie.Need-cast-l Inv-loop μ-loop
-cast-l c = omega (arith, c .shared-slice-known2 .given (c .before .before .before .loop .j))
-
-mul-at : tie.Need-mul-at Inv-loop μ-loop
-mul-at c =
-    let st = c .before .before .before .before in
-    let a = st .args in
-    let j = c .before .before .before .loop .j in
-    let q = st .pre .1 j (omega arith) in
-    omega (arith, row-inside (getD (a .first .now) j 0) (a .w) (q .0), q, st .pre .0)
-
-add-at : tie.Need-add-at Inv-loop μ-loop
-add-at c =
-    let st = c .before .before .before .before in
-    let a = st .args in
-    let j = c .before .before .before .loop .j in
-    let q = st .pre .1 j (omega arith) in
-    omega (arith, row-inside (getD (a .first .now) j 0) (a .w) (q .0), q, st .pre .0)
-
-mul-out : tie.Need-mul-out Inv-loop μ-loop
-mul-out c =
-    let st = c .before .before .before .before in
-    let a = st .args in
-    let j = c .before .before .before .loop .j in
-    let q = st .pre .1 j (omega arith) in
-    omega (arith, row-inside (getD (a .first .now) j 0) (a .w) (q .0), q, st .pre .0, st .good)
-
-shared-slice-read-out : tie.Need-shared-slice-read-out Inv-loop μ-loop
-shared-slice-read-out c =
-    let st = c .before .before .before .before .before in
-    let a = st .args in
-    let j = c .before .before .before .before .loop .j in
-    let q = st .pre .1 j (omega arith) in
-    omega (arith, row-inside (getD (a .first .now) j 0) (a .w) (q .0), q, st .pre .0)
-
-mul-out-2 : tie.Need-mul-out-2 Inv-loop μ-loop
-mul-out-2 c = omega (arith, c .before .before .before .before .before .pre .0)
-
-slice-write-out : tie.Need-slice-write-out Inv-loop μ-loop
-slice-write-out c =
-    let st = c .before .before .before .before .before in
-    let a = st .args in
-    let l = c .before .before .before .before .loop in
+-- the place that is read is inside the room for the marks, and the mark is a slot within the boundaries
+place : (c : tie.After-mark-place Inv-loop μ-loop) → c .mark-place .result < length (start (c .before .before .before) .args .marks .now)
+place c =
+    let turn = c .before .before .before in
+    let st = start turn in
+    let r = reads turn in
     omega (
       arith,
-      filled-length (λ i. slot (a .w) (a .marks .now) (getD (a .first .now) i 0) (getD (a .last .now) i 0)) (l .j) (a .out .now) (l .out)
-          (l .inv .2) (omega (arith, st .pre .0)),
-      st .pre .0,
+      c .mark-place .ensures,
+      row-inside (seenAt (st .args .turned) (st .args .w) (st .args .opens .now) (turn .before .loop .j)) (st .args .w) (r .window .0),
+      r .window .1,
+      st .pre .0 .3,
     )
+
+mark-low : (c : tie.After-mark-place Inv-loop μ-loop)
+    → getD (start (c .before .before .before) .args .marks .now) (c .mark-place .result) 0 ≤ start (c .before .before .before) .args .w
+mark-low c = rw (c .mark-place .ensures) (reads (c .before .before .before) .mark)
+
+cast-out : tie.Need-cast-out Inv-loop μ-loop
+cast-out c =
+    let at = c .before .before in
+    let st = start (at .before .before .before) in
+    let mark = getD (st .args .marks .now) (at .mark-place .result) 0 in
+    omega (arith, c .slot-seen .ensures, seen-most (st .args .turned) (st .args .w) mark (mark-low at), st .pre .0 .2)
 
 loop-again : tie.Need-loop-again Inv-loop μ-loop
 loop-again c =
-    let st = c .before .before .before .before .before in
-    let a = st .args in
-    let l = c .before .before .before .before .loop in
-    let g : ℕ → ℕ = λ i. slot (a .w) (a .marks .now) (getD (a .first .now) i 0) (getD (a .last .now) i 0) in
-    (omega arith, refl, filled-store g (l .j) (a .out .now) (l .out) (l .inv .2) (g (l .j)) (omega (arith, st .pre .0)) refl)
-
-same-length : tie.Need-same-length Inv-loop μ-loop
-same-length c =
-    let a = c .before .before .args in
-    let l = c .before .loop in
-    filled-length (λ i. slot (a .w) (a .marks .now) (getD (a .first .now) i 0) (getD (a .last .now) i 0)) (l .j) (a .out .now) (l .out) (l .inv .2)
-    (omega (arith, c .before .before .pre .0))
-
-returns : tie.Need-returns Inv-loop μ-loop
-returns c =
-    let a = c .before .before .args in
-    let l = c .before .loop in
-    let e : l .j ≡ length (a .first .now) = omega arith in
-    subst (λ (n : ℕ). Filled (λ i. slot (a .w) (a .marks .now) (getD (a .first .now) i 0) (getD (a .last .now) i 0)) n (a .out .now) (l .out)) e (l .inv .2)
+    let turn = c .before .before .before .before .before in
+    let a = start turn .args in
+    let read = ap (λ (i : ℕ). seen (a .turned) (a .w) (getD (a .marks .now) i 0)) (c .before .before .mark-place .ensures) in
+    (refl, fill-next (turn .before .loop .inv .1) (c .slot-seen .ensures ∙ read) (omega arith) (omega (arith, start turn .pre .0)))
 
 pub read-marks-spec : {M : Type 1} → statement M
-read-marks-spec = tie.close (tie.spec Inv-loop μ-loop loop-holds (λ c. omega arith) (λ c. omega arith) cast-f mul-l shared-slice-read-l cast-l mul-at
-    add-at mul-out shared-slice-read-out mul-out-2 slice-write-out (λ c. omega arith) (λ c. omega arith) loop-again same-length returns)
+read-marks-spec = tie.close (tie.spec Inv-loop μ-loop (λ c. (refl, fill-start)) (λ c. omega arith) (λ c. omega arith)
+    (λ c. omega (arith, start (c .before) .pre .0)) (λ c. omega (arith, start (c .before .before) .pre .0)) mark-place-requires
+    (λ c. omega (arith, place c)) (λ c. place (c .before)) (λ c κs. mark-low (c .before)) cast-out
+    (λ c. omega (arith, start (c .before .before .before .before .before) .pre .0))
+    (λ c. omega (arith, start (c .before .before .before .before .before) .pre .0)) (λ c. omega arith) (λ c. omega arith) loop-again
+    (λ c. c .before .loop .inv .1 .long) (λ c. fill-end (c .before .loop .inv .1) (omega arith)))

@@ -1,4 +1,4 @@
--- Lists that are a sheet's units and row 0 of its finished table can be seated, and what is seated from them is the printed plan.
+-- HasValues that are a sheet's units and row 0 of its finished table can be seated, and what is seated from them is the printed plan.
 use mathlib.Core.Path.{_≡_, sym, ap, _∙_}
 use mathlib.Core.List.{List}
 use Prim.Native.Nat.{ℕ, suc, _-_, _≤_, _<_}
@@ -12,9 +12,9 @@ use Rattle.sheet.specs.Sizes.{maxSlots, maxUnits}
 use Rattle.sheet.specs.Sheet.{Sheet, Window, top, noWindow, atLeast, limit, printedPlan}
 use Rattle.sheet.specs.LimitLaws.{limit-back}
 use Rattle.sheet.specs.QuestionLaws.{windowsOf-length, windowsOf-at}
-use Rattle.plan_seats.specs.Seating.{at, byRank, seatSlots, seatsOf}
-use Rattle.plan_seats.specs.PrintedLaws.{row-nonneg, seats-are-printed}
-use Rattle.plan_seats.specs.Row.{countAt, seatsFrom, Seatable, RowOf}
+use Rattle.plans.specs.Seating.{at, byRank, seatSlots, seatsOf}
+use Rattle.plans.specs.PrintedLaws.{row-nonneg, seats-are-printed}
+use Rattle.plan_seats.specs.Seats.{countAt, seatsFrom, Seatable, RowOf}
 
 module _ (s : Sheet) (D : Weights) (first last : List ℕ) (counts : List ℤ) (R : RowOf s D first last counts) (lists : length last ≡ length first) where
   size : length (s .units) ≡ length first

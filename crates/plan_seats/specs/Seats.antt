@@ -1,4 +1,4 @@
--- The lists that seating takes, as the sheet and the finished table that they come from. Definitions only.
+-- The lists that seating takes, as the sheet and the finished table that they come from, and what it leaves. Definitions only.
 use mathlib.Core.Path.{_≡_}
 use mathlib.Core.List.{List}
 use Prim.Native.Nat.{ℕ, suc, _-_, _≤_, _<_}
@@ -11,7 +11,7 @@ use Rattle.sheet.specs.Sizes.{maxSlots, maxUnits}
 use Rattle.sheet.specs.Sheet.{Sheet, top}
 use Rattle.sheet.specs.Questions.{windowsOf}
 use Rattle.sheet.specs.Solved.{Solved}
-use Rattle.plan_seats.specs.Seating.{at, byRank, seatSlots}
+use Rattle.plans.specs.Seating.{at, byRank, seatSlots}
 
 -- the number of seats by the end of slot b
 abbrev pub countAt : List ℤ → ℕ → ℕ
@@ -31,16 +31,20 @@ pub record Seatable (first last : List ℕ) (counts : List ℤ) (plan : List ℕ
   pub rising : Rising counts
 
 -- the units in the order in which they are seated, in a list that has a place for each
-abbrev pub inOrder : List ℕ → List ℕ → List ℕ
-inOrder last order = byRank (at last) (length last) (length last) order
+abbrev pub seatOrder : List ℕ → List ℕ → List ℕ
+seatOrder last order = byRank (at last) (length last) (length last) order
 
 -- the last slot
-abbrev pub topOf : List ℤ → ℕ
-topOf counts = length counts - 1
+abbrev pub lastSlot : List ℤ → ℕ
+lastSlot counts = length counts - 1
+
+-- the units at the first k places of the order have seats
+abbrev pub Skipped : ℕ → List ℕ → List ℕ → Type 0
+Skipped k order plan = (k ≤ length order) × ((p : ℕ) → p < k → 0 < at plan (at order p))
 
 -- all slots take their units in order, in a plan where some may have seats already
 abbrev pub seatsInto : List ℕ → List ℤ → List ℕ → List ℕ → List ℕ
-seatsInto first counts order plan = seatSlots (at first) (countAt counts) order 0 (topOf counts) plan
+seatsInto first counts order plan = seatSlots (at first) (countAt counts) order 0 (lastSlot counts) plan
 
 -- and in a plan where all are free
 abbrev pub seatsBy : List ℕ → List ℤ → List ℕ → List ℕ
@@ -48,7 +52,7 @@ seatsBy first counts order = seatsInto first counts order (replicate (length fir
 
 -- the whole plan
 unfoldable pub seatsFrom : List ℕ → List ℕ → List ℤ → List ℕ
-seatsFrom first last counts = seatsBy first counts (inOrder last (replicate (length first) 0))
+seatsFrom first last counts = seatsBy first counts (seatOrder last (replicate (length first) 0))
 
 -- the lists are the units of s, and row 0 of its finished table D
 pub record RowOf (s : Sheet) (D : Weights) (first last : List ℕ) (counts : List ℤ) : Type 0 where

@@ -1,0 +1,138 @@
+-- Each return is the first no: the questions asked before it were answered yes.
+-- Key idea: past a yes the questions that are left decide (`past-lists`, `past-span`, ..), each from the place just before it.
+use mathlib.Core.Path.{_≡_, sym, ap, _∙_}
+use mathlib.Core.Bool.{true}
+use mathlib.Core.List.{[]}
+use Prim.Native.Nat.{ℕ, _≤_}
+use native.Mathlib.Omega.{arith}
+use lib.ListN.{length, drop}
+use borrow.Author.Needs.{needs}
+use borrow.Author.Tests.{le-leb, lt-leb}
+use Rattle.questions.specs.Questions.{Verdict, firstNo}
+use Rattle.questions.specs.FirstNoLaws.{no-here, yes-here, every-yes}
+use Rattle.sheet.specs.Sizes.{maxSlots}
+use Rattle.sheet.specs.QuestionLaws.{Agree}
+use Rattle.sheet.specs.Lists.{Lists, listed, given, agree}
+use Rattle.plan_ask.specs.Asking.{fitLengths, lengthsFit, askedFirst}
+use Rattle.plan_ask.specs.AskingLaws.{lists-read, span-bound, asks-span, asks-units, asks-rules, asks-windows, asks-stretches, asks-counts, asks-rooms}
+use Rattle.plan_ask.proofs.ask_lists.Statement.{statement}
+use Rattle.plan_ask.proofs.ask_lists.Tie as tie
+
+abbrev lists : tie.Start → Lists
+lists c =
+    let a = c .args in
+    listed (a .span) (a .first .now) (a .last .now) (a .from .now) (a .to .now) (a .low .now) (a .high .now)
+
+-- the first no of the questions past the first k
+abbrev left : ℕ → tie.Start → Verdict
+left k c = firstNo (drop k (askedFirst (lists c) (c .args .rooms)))
+
+-- ---- the function's start, from the place past each yes
+abbrev s₁ : tie.Then1 → tie.Start
+s₁ c = c .before .before .before .before .before .before .before .before
+
+abbrev s₂ : tie.Then2 → tie.Start
+s₂ c = s₁ (c .before .before)
+
+abbrev s₄ : tie.Else4 → tie.Start
+s₄ c = s₂ (c .before .before)
+
+abbrev s₇ : tie.Then7 → tie.Start
+s₇ c = s₄ (c .before .before .before .before .before .before)
+
+-- ---- the questions that are left there
+lists-agree : (c : tie.Then1) → agree (lists (s₁ c)) ≡ true
+lists-agree c = sym (c .before .lists-agree .ensures) ∙ c .if1 .taken
+
+agreed : (c : tie.Then1) → let l = lists (s₁ c) in Agree (l .first) (l .last) (l .from) (l .to) (l .low) (l .high)
+agreed c = lists-read (lists (s₁ c)) (lists-agree c)
+
+past-lists : (c : tie.Then1) → left 0 (s₁ c) ≡ left 1 (s₁ c)
+past-lists c = yes-here _ 13 0 _ (lists-agree c)
+
+past-span : (c : tie.Then2) → left 0 (s₂ c) ≡ left 2 (s₂ c)
+past-span c = past-lists (c .before .before) ∙ yes-here _ 6 0 _ (asks-span (lists (s₂ c)) ∙ sym (c .before .is-span .ensures) ∙ c .if2 .taken)
+
+past-units : (c : tie.Else3) → left 0 (s₂ (c .before)) ≡ left 3 (s₂ (c .before))
+past-units c =
+    let p = c .before in
+    past-span p ∙ yes-here _ 9 0 _ (asks-units (lists (s₂ p)) (agreed (p .before .before)) ∙ le-leb _ _ (c .if3 .left))
+
+past-rules : (c : tie.Else4) → left 0 (s₄ c) ≡ left 4 (s₄ c)
+past-rules c =
+    past-units (c .before) ∙ yes-here _ 10 0 _ (asks-rules (lists (s₄ c)) (agreed (c .before .before .before .before)) ∙ le-leb _ _ (c .if4 .left))
+
+past-windows : (c : tie.Then5) → left 0 (s₄ (c .before .before)) ≡ left 5 (s₄ (c .before .before))
+past-windows c =
+    let p = c .before .before in
+    past-rules p ∙ yes-here _ 7 0 _ (asks-windows (lists (s₄ p)) ∙ sym (c .before .all-rise .ensures) ∙ c .if5 .taken)
+
+past-stretches : (c : tie.Then6) → let s = s₄ (c .before .before .before .before) in left 0 s ≡ left 6 s
+past-stretches c =
+    let p = c .before .before .before .before in
+    past-windows (c .before .before)
+    ∙ yes-here _ 7 0 _ (asks-stretches (lists (s₄ p)) (agreed (p .before .before .before .before)) ∙ sym (c .before .all-rise2 .ensures) ∙ c .if6 .taken)
+
+past-counts : (c : tie.Then7) → left 0 (s₇ c) ≡ left 7 (s₇ c)
+past-counts c =
+    let p = c .before .before .before .before .before .before in
+    past-stretches (c .before .before)
+    ∙ yes-here _ 8 0 _ (asks-counts (lists (s₇ c)) (agreed (p .before .before .before .before)) ∙ sym (c .before .all-rise3 .ensures) ∙ c .if7 .taken)
+
+span-few : (c : tie.Then7) → lists (s₇ c) .span ≤ maxSlots
+span-few c =
+    let p : tie.Then2 = c .before .before .before .before .before .before .before .before in
+    span-bound (lists (s₂ p)) (sym (p .before .is-span .ensures) ∙ p .if2 .taken)
+
+-- ---- the needs
+returns-2 : tie.Need-returns-2
+returns-2 c =
+    let p : tie.Then1 = c .before .before in
+    sym (past-lists p ∙ no-here _ 6 0 _ (asks-span (lists (s₁ p)) ∙ sym (c .before .is-span .ensures) ∙ c .if2 .left))
+
+returns-3 : tie.Need-returns-3
+returns-3 c =
+    let p : tie.Then2 = c .before in
+    sym (past-span p ∙ no-here _ 9 0 _ (asks-units (lists (s₂ p)) (agreed (p .before .before)) ∙ lt-leb _ _ (c .if3 .taken)))
+
+returns-4 : tie.Need-returns-4
+returns-4 c =
+    let p : tie.Else3 = c .before in
+    sym (past-units p ∙ no-here _ 10 0 _ (asks-rules (lists (s₂ (p .before))) (agreed (p .before .before .before)) ∙ lt-leb _ _ (c .if4 .taken)))
+
+returns-5 : tie.Need-returns-5
+returns-5 c =
+    let p : tie.Else4 = c .before .before in
+    sym (past-rules p ∙ no-here _ 7 0 _ (asks-windows (lists (s₄ p)) ∙ sym (c .before .all-rise .ensures) ∙ c .if5 .left))
+
+returns-6 : tie.Need-returns-6
+returns-6 c =
+    let p : tie.Then5 = c .before .before in
+    let q : tie.Else4 = p .before .before in
+    let e = asks-stretches (lists (s₄ q)) (agreed (q .before .before .before .before)) in
+    sym (past-windows p ∙ no-here _ 7 0 _ (e ∙ sym (c .before .all-rise2 .ensures) ∙ c .if6 .left))
+
+returns-7 : tie.Need-returns-7
+returns-7 c =
+    let p : tie.Then6 = c .before .before in
+    let q : tie.Else4 = p .before .before .before .before in
+    let e = asks-counts (lists (s₄ q)) (agreed (q .before .before .before .before)) in
+    sym (past-stretches p ∙ no-here _ 8 0 _ (e ∙ sym (c .before .all-rise3 .ensures) ∙ c .if7 .left))
+
+-- the rooms, as they are asked
+rooms-asked : (c : tie.After-rooms-fit) → let s = s₇ (c .before .before) in fitLengths (given (lists s)) (s .args .rooms) ≡ c .rooms-fit .result
+rooms-asked c =
+    let p : tie.Then7 = c .before .before in
+    let s = s₇ p in
+    let b = c .before in
+    asks-rooms (lists s) (agreed (p .before .before .before .before .before .before .before .before .before .before)) (s .args .rooms)
+    ∙ ap (λ (w : ℕ). lengthsFit w (length (lists s .first)) (s .args .rooms)) (sym (b .boundaries .ensures)) ∙ sym (c .rooms-fit .ensures)
+
+pub ask-lists-spec : {M : Type 1} → statement M
+ask-lists-spec = tie.close (tie.spec (λ c κs. search needs) (λ c. sym (no-here _ 13 0 _ (sym (c .before .lists-agree .ensures) ∙ c .if1 .left)))
+    (λ c κs. search needs) returns-2 returns-3 returns-4 (λ c κs. agreed (c .before .before .before .before) .windows) returns-5
+    (λ c κs. agreed (c .before .before .before .before .before .before) .stretches) returns-6
+    (λ c κs. let e = agreed (c .before .before .before .before .before .before .before .before) in e .highs ∙ sym (e .lows)) returns-7
+    (λ c κs. span-few c) (λ c κs. omega (arith, c .boundaries .ensures, span-few (c .before)))
+    (λ c. sym (past-counts (c .before .before .before) ∙ yes-here _ 12 0 _ (rooms-asked (c .before) ∙ c .if8 .taken) ∙ every-yes [] tt))
+    (λ c. sym (past-counts (c .before .before .before) ∙ no-here _ 12 0 _ (rooms-asked (c .before) ∙ c .if8 .left))))
