@@ -1,21 +1,20 @@
--- The answer to a text, byte by byte: what reading refuses, or the page of the sheet that was read (document 01, "The sheet and the answer page").
+-- The answer to a text, byte by byte: what reading refuses, or the page of the sheet that was read (docs/RULES.md, "Sheets and answers").
 -- Definitions only.
 use mathlib.Core.Path.{_≡_}
-use mathlib.Core.List.{List, [], _∷_}
+use mathlib.Core.List.{List}
 use Prim.Native.Nat.{ℕ}
 use lib.Dec.{T}
-use Rattle.lists.specs.Lists.{joined}
 use Rattle.network.specs.Table.{Passed, finished, stopped, outOfRange}
 use Rattle.sheet.specs.Sheet.{Sheet, isRing}
-use Rattle.read_ask.specs.Reading.{Verdict, no, allYes, firstNo, questions, roomsForAll, sheetIn}
+use Rattle.questions.specs.Questions.{Verdict, no, allYes, firstNo}
+use Rattle.read_ask.specs.Reading.{questions, roomsForAll, sheetIn}
 use Rattle.plan_ask.specs.Questions.{passed}
-use Rattle.forms.specs.Words.{text}
-use Rattle.print_bytes.specs.Writing.{digits, Written}
-use Rattle.print_answer.specs.Printing.{planBytes, ringBytes}
+use Rattle.print_bytes.specs.Writing.{Written, refusedLine}
+use Rattle.print.specs.Printing.{planBytes, ringBytes}
 
--- the line of a refusal, as `(refused 7 (line 3))`
-unfoldable pub refusedLine : ℕ → ℕ → List ℕ
-refusedLine number line = joined (text "(refused " ∷ digits number ∷ text " (line " ∷ digits line ∷ text "))\n" ∷ [])
+-- the longest line of a refusal: its question has at most two digits and its line number at most five
+abbrev pub maxRefusal : ℕ
+maxRefusal = 26
 
 -- the answer to a sheet, by the pass over its limits: the page of its plan; the page of a ring, which may be any; or 14, at no line
 abbrev pub ByPass : Passed → Sheet → List ℕ → Type 0

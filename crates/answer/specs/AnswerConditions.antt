@@ -15,20 +15,23 @@ use Rattle.network.specs.Table.{Passed, finished, stopped, outOfRange, entry}
 use Rattle.sheet.specs.Sheet.{Sheet, lawful, isRing, boundaries, leastIn, greatestIn, printedPlan, earliestSlots, latestSlots}
 use Rattle.sheet.specs.Questions.{accepted}
 use Rattle.sheet.specs.QuestionLaws.{accepted-valid}
-use Rattle.plan_seats.specs.RangeLaws.{solved-plan}
-use Rattle.read_ask.specs.Reading.{Verdict, no, allYes, firstNo, questions, roomsForAll, sheetIn}
+use Rattle.plans.specs.CountLaws.{solved-plan}
+use Rattle.read_ask.specs.Reading.{questions, roomsForAll, sheetIn}
+use Rattle.questions.specs.Questions.{Verdict, no, allYes, firstNo}
 use Rattle.read_ask.specs.AcceptedLaws.{reading-accepts}
 use Rattle.read_ask.specs.RefusalLaws.{reading-refusals}
 use Rattle.plan_ask.specs.Questions.{passed}
 use Rattle.plan_solve.specs.PlanningLaws.{passed-solved, stopped-unlawful}
 use Rattle.forms.specs.Words.{text}
-use Rattle.print_bytes.specs.Writing.{digits, digitsWithin, planHead}
+use Rattle.forms.specs.Form.{written}
+use Rattle.forms.specs.Decimal.{digits, digitsWithin}
+use Rattle.print_bytes.specs.Writing.{planHead, noneHead, refusedLine}
 use Rattle.print_page.specs.Page.{planPage, nonePage, maxPage}
 use Rattle.print_page.specs.PageBounds.{plan-short, none-short}
 use Rattle.print_page.specs.PageLines.{slot, unit, readLines, unitLinesWith}
 use Rattle.print_page.specs.PageLinesLaws.{slot-line-true, unit-line-true}
-use Rattle.print_answer.specs.Printing.{planBytes, ringBytes}
-use Rattle.answer.specs.Answer.{refusedLine, ByPass, ByReading, AnswerTo}
+use Rattle.print.specs.Printing.{planBytes, ringBytes}
+use Rattle.answer.specs.Answer.{ByPass, ByReading, AnswerTo}
 use Rattle.answer.specs.AnswerLaws.{refused-short}
 
 -- ---- the byte at place 10
@@ -37,15 +40,15 @@ abbrev mark : List ℕ → ℕ
 mark bytes = getD bytes 10 0
 
 plan-mark : (s : Sheet) → mark (planBytes s) ≡ 97
-unfolding planBytes planPage planHead text
+unfolding planBytes planPage planHead written text
 plan-mark s = refl
 
 ring-mark : (s : Sheet) (ring : List ℕ) → mark (ringBytes s ring) ≡ 110
-unfolding ringBytes nonePage text
+unfolding ringBytes nonePage noneHead written text
 ring-mark s ring = refl
 
 refused-mark : (line : ℕ) → (mark (refusedLine 12 line) ≡ 50) × (mark (refusedLine 14 line) ≡ 52) × (mark (refusedLine 15 line) ≡ 53)
-unfolding refusedLine text digits digitsWithin
+unfolding refusedLine written text digits digitsWithin
 refused-mark line = (refl, refl, refl)
 
 -- neither the 2 of 12 nor the 5 of 15
@@ -53,7 +56,7 @@ abbrev other : ℕ → Bool
 other b = not (eqb b 50) && not (eqb b 53)
 
 reading-mark : (line : ℕ) → T (every (λ n. other (mark (refusedLine n line))) (fromTo 1 11))
-unfolding refusedLine text digits digitsWithin
+unfolding refusedLine written text digits digitsWithin
 reading-mark line = tt
 
 answer-mark : (input bytes : List ℕ) → AnswerTo input bytes → T (other (mark bytes))

@@ -2,8 +2,8 @@
 -- Key idea: every room is long enough for a sheet that reading accepts, and the page for every answer, so that reading's first no and the pass over the
 -- sheet's limits alone decide.
 use mathlib.Core.Path.{_≡_, refl, sym, ap, ap₂, _∙_, subst}
-use mathlib.Core.Bool.{Bool, true, false}
-use mathlib.Core.List.{List}
+use mathlib.Core.Bool.{true}
+use mathlib.Core.List.{List, [], _∷_}
 use Prim.Native.Nat.{ℕ, _+_, _≤_}
 use native.Mathlib.Omega.{arith}
 use lib.Dec.{T}
@@ -14,53 +14,43 @@ use Rattle.lists.specs.Members.{within-iff}
 use Rattle.network.specs.Table.{Passed, finished, stopped, outOfRange}
 use Rattle.sheet.specs.Sheet.{Sheet, isRing}
 use Rattle.sheet.specs.declared.Sheet.{Sheet as Read}
+use Rattle.questions.specs.Questions.{Verdict, no, allYes, firstNo, refusalBy}
+use Rattle.questions.specs.declared.Refusal.{Refusal}
 use Rattle.sheet.specs.Sizes.{maxBytes}
-use Rattle.read_ask.specs.Reading.{Rooms, roomsForAll, Answer, refused, read, reading, Verdict, no, allYes, firstNo, questions, concluded, sheetIn}
+use Rattle.read_ask.specs.Reading.{ListRooms, roomsForAll, Answer, refused, read, reading, questions, concluded, sheetIn}
 use Rattle.read_ask.specs.AcceptedLaws.{reading-accepts}
 use Rattle.read_ask.specs.RefusalLaws.{reading-refusals}
 use Rattle.read.specs.Rooms.{sizesOf, leaves, roomsAfter}
-use Rattle.plan_ask.specs.Questions.{Lists, Rooms as Lent, given, passed}
-use Rattle.plan_solve.specs.Planning.{byPass, Left}
+use Rattle.sheet.specs.Lists.{Lists, given}
+use Rattle.plan_ask.specs.Questions.{Rooms as Lent, passed}
+use Rattle.plan_solve.specs.Planning.{byPass, Settled}
 use Rattle.plan_ask.specs.Asking.{Solvable}
-use Rattle.plan.specs.EntryLaws.{verdict-solvable}
+use Rattle.plan.specs.EntryLaws.{concludes-solvable}
 use Rattle.plan_solve.specs.declared.Answer.{Answer as Planned}
 use Rattle.forms.specs.Words.{text}
-use Rattle.print_bytes.specs.Writing.{onto, Room, Written}
+use Rattle.forms.specs.Forms.{refusedForm}
+use Rattle.forms.specs.DecimalLaws.{line-short}
+use Rattle.print_bytes.specs.Writing.{withBytes, Written, refusedLine}
 use Rattle.print_page.specs.Page.{maxPage}
-use Rattle.print_page.specs.PageBounds.{five-at-most, plan-short, none-short}
-use Rattle.print_answer.specs.Printing.{planBytes, ringBytes, holds, Asked, Shown, Printing}
+use Rattle.print_page.specs.PageBounds.{plan-short, none-short}
+use Rattle.print.specs.Printing.{planBytes, ringBytes, holds, placeAfter, Asked, Shown, Printing}
 use Rattle.print.specs.OwnLaws.{ownRooms, own-fit}
-use Rattle.print_answer.specs.declared.Printed.{Printed}
-use Rattle.print_answer.specs.declared.Printed.the-variants.{Refused, Plan, None}
-use Rattle.answer.specs.Answer.{refusedLine, ByPass, AnswerToSheet, ByReading, AnswerTo, Answered}
+use Rattle.print.specs.declared.Printed.{Printed}
+use Rattle.print.specs.declared.Printed.the-variants.{Refused, Plan, None}
+use Rattle.answer.specs.Answer.{maxRefusal, ByPass, AnswerToSheet, ByReading, AnswerTo, Answered}
 use Rattle.answer.specs.Fronts.{fronts, Held}
 use Rattle.answer.specs.FrontsLaws.{held, front-sheet}
 
--- ---- the line of a refusal fits the page
-pub refused-short : (number line : ℕ) → number ≤ 14 → line ≤ maxBytes → length (refusedLine number line) ≤ maxPage
+-- ---- the line of a refusal is short
+pub refused-short : (number line : ℕ) → number ≤ 14 → line ≤ maxBytes → length (refusedLine number line) ≤ maxRefusal
 unfolding refusedLine text
-refused-short number line hn hl = simp length-append (omega (arith, five-at-most number (omega arith), five-at-most line (omega arith)))
-
-pub refused-room : (page : List ℕ) (number line : ℕ) → number ≤ 14 → line ≤ maxBytes → maxPage ≤ length page → Room page 0 (refusedLine number line)
-refused-room page number line hn hl long = record { fits = omega (arith, refused-short number line hn hl) }
+refused-short number line hn hl = line-short refusedForm (number ∷ line ∷ []) (2 ∷ 5 ∷ []) (omega arith, (omega arith, tt))
 
 -- ---- the rooms that a call lends for planning hold every accepted sheet
-pub held-solvable : (t : Read) (m : Rooms (List ℕ)) → Held t m → Solvable (fronts t m) ownRooms
+pub held-solvable : (t : Read) (m : ListRooms (List ℕ)) → Held t m → Solvable (fronts t m) ownRooms
 held-solvable t m h = record { lists = h .lists; sheet = h .sheet; rooms = own-fit (given (fronts t m)) (h .sheet) }
 
 -- ---- what printing a sheet comes to, where every question before the pass is answered yes and the page is long enough
-
--- a refusal, or an answer
-abbrev kind : Printed → ℕ
-kind (Refused n) = 0
-kind (Plan next) = 1
-kind (None k next) = 2
-
--- the refusal's number, or the place just past the answer
-abbrev told : Printed → ℕ
-told (Refused n) = n
-told (Plan next) = next
-told (None k next) = next
 
 module _ (l : Lists) (before : Lent) (y : Solvable l before) (page : List ℕ) (long : maxPage ≤ length page)
     (reply : Printed) (after : Lent) (left : List ℕ) (call : Printing l before page 0 reply after left) where
@@ -68,19 +58,19 @@ module _ (l : Lists) (before : Lent) (y : Solvable l before) (page : List ℕ) (
   s = given l
 
   abbrev Ended : Passed → Type 0
-  Ended (finished t) = (reply ≡ Plan (0 + length (planBytes s))) × (left ≡ onto page 0 (planBytes s))
+  Ended (finished t) = (reply ≡ Plan (0 + length (planBytes s))) × (left ≡ withBytes page 0 (planBytes s))
   Ended stopped =
-      (ring : List ℕ) × T (isRing s ring) × (reply ≡ None (length ring) (0 + length (ringBytes s ring))) × (left ≡ onto page 0 (ringBytes s ring))
-  Ended outOfRange = (reply ≡ Refused 14) × (left ≡ page)
+      (ring : List ℕ) × T (isRing s ring) × (reply ≡ None (length ring) (0 + length (ringBytes s ring))) × (left ≡ withBytes page 0 (ringBytes s ring))
+  Ended outOfRange = (reply ≡ Refused (refusalBy 14 0)) × (left ≡ page)
 
   page-holds : (says : ℕ → Printed) (bytes : List ℕ) (planned : Lent) → length bytes ≤ maxPage
-      → Asked (holds page 0 bytes) says bytes before planned page 0 reply after left → (reply ≡ says (0 + length bytes)) × (left ≡ onto page 0 bytes)
+      → Asked (holds page 0 bytes) says bytes before planned page 0 reply after left → (reply ≡ says (0 + length bytes)) × (left ≡ withBytes page 0 bytes)
   page-holds says bytes planned short o =
       let f : Asked true says bytes before planned page 0 reply after left =
       subst (λ b. Asked b says bytes before planned page 0 reply after left) (le-leb (0 + length bytes) (length page) (omega arith)) o in
       (f .replied, f .shown)
 
-  ended : (p : Passed) (a : Planned) (planned : Lent) → Left (byPass p) s before a planned → Shown a s before planned page 0 reply after left → Ended p
+  ended : (p : Passed) (a : Planned) (planned : Lent) → Settled (byPass p) s before a planned → Shown a s before planned page 0 reply after left → Ended p
   unfolding planBytes ringBytes
   ended (finished t) a planned c o =
       page-holds Plan (planBytes s) planned (plan-short s (y .sheet)) (subst (λ x. Shown x s before planned page 0 reply after left) (c .0) o)
@@ -99,29 +89,33 @@ module _ (l : Lists) (before : Lent) (y : Solvable l before) (page : List ℕ) (
   ends : Ended (passed s)
   ends =
       ended (passed s) (call .answer) (call .planned)
-      (subst (λ v. Left v s before (call .answer) (call .planned)) (verdict-solvable l before y) (call .call)) (call .shown)
+      (subst (λ v. Settled v s before (call .answer) (call .planned)) (concludes-solvable l before y) (call .call)) (call .shown)
 
   -- a refusal is by 14, leaves the page, and its line is the answer
-  pub print-refused : (n : ℕ) → reply ≡ Refused n → (n ≡ 14) × (left ≡ page) × AnswerToSheet s (refusedLine n 0)
-  print-refused n e = go (passed s) ends
+  pub print-refused : (f : Refusal) → reply ≡ Refused f → (f ≡ refusalBy 14 0) × (left ≡ page) × AnswerToSheet s (refusedLine (f .number) (f .line))
+  print-refused f e = go (passed s) ends
     where
-      go : (p : Passed) → Ended p → (n ≡ 14) × (left ≡ page) × ByPass p s (refusedLine n 0)
-      go (finished t) h = absurd (omega (arith, ap kind (sym e ∙ h .0)))
-      go stopped h = absurd (omega (arith, ap kind (sym e ∙ h .2)))
-      go outOfRange h = let is14 = ap told (sym e ∙ h .0) in (is14, h .1, ap (λ k. refusedLine k 0) is14)
-
-  answered : (p : Passed) → Ended p → (kind reply ≡ 0 → ⊥) → Answered (ByPass p s) page left (told reply)
-  answered (finished t) h some = record { bytes = planBytes s; answers = refl; written = record { filled = h .1; moved = ap told (h .0) } }
-  answered stopped h some =
-      record { bytes = ringBytes s (h .0); answers = (h .0, h .1, refl); written = record { filled = h .3; moved = ap told (h .2) } }
-  answered outOfRange h some = absurd (some (ap kind (h .0)))
+      go : (p : Passed) → Ended p → (f ≡ refusalBy 14 0) × (left ≡ page) × ByPass p s (refusedLine (f .number) (f .line))
+      go (finished t) h = let q : reply ≡ Plan (0 + length (planBytes s)) = h .0 in let z : _≡_ {A = ℕ} 0 1 = cc in absurd (omega arith)
+      go stopped h = let q : reply ≡ None (length (h .0)) (0 + length (ringBytes s (h .0))) = h .2 in let z : _≡_ {A = ℕ} 0 1 = cc in absurd (omega arith)
+      go outOfRange h =
+          let q : reply ≡ Refused (refusalBy 14 0) = h .0 in
+          let is14 : f ≡ refusalBy 14 0 = cc in
+          (is14, h .1, ap (λ (g : Refusal). refusedLine (g .number) (g .line)) is14)
 
   -- else it says the place just past the answer
+  answered : (next : ℕ) (p : Passed) → Ended p → (reply ≡ Refused (refusalBy 14 0) → ⊥) → ((r : Printed) → reply ≡ r → placeAfter 0 r ≡ next) → Answered (ByPass p s) page left next
+  answered next (finished t) h other place =
+      record { bytes = planBytes s; answers = refl; written = record { filled = h .1; moved = sym (place _ (h .0)) } }
+  answered next stopped h other place =
+      record { bytes = ringBytes s (h .0); answers = (h .0, h .1, refl); written = record { filled = h .3; moved = sym (place _ (h .2)) } }
+  answered next outOfRange h other place = absurd (other (h .0))
+
   pub print-plan : (next : ℕ) → reply ≡ Plan next → Answered (AnswerToSheet s) page left next
-  print-plan next e = subst (Answered (AnswerToSheet s) page left) (ap told e) (answered (passed s) ends (λ z. omega (arith, ap kind e)))
+  print-plan next e = answered next (passed s) ends (λ q. let z : _≡_ {A = ℕ} 0 1 = cc in omega arith) (λ r q. ap (placeAfter 0) (sym q ∙ e))
 
   pub print-none : (k next : ℕ) → reply ≡ None k next → Answered (AnswerToSheet s) page left next
-  print-none k next e = subst (Answered (AnswerToSheet s) page left) (ap told e) (answered (passed s) ends (λ z. omega (arith, ap kind e)))
+  print-none k next e = answered next (passed s) ends (λ q. let z : _≡_ {A = ℕ} 0 1 = cc in omega arith) (λ r q. ap (placeAfter 0) (sym q ∙ e))
 
 -- the refusal's line, onto the page that printing left
 pub refusal-answered : {Answer : List ℕ → Type 0} {page left after : List ℕ} {next : ℕ} (bytes : List ℕ) → Answer bytes → left ≡ page
@@ -130,23 +124,7 @@ refusal-answered {Answer} {page} {left} {after} {next} bytes a e w =
     record { bytes = bytes; answers = a; written = subst (λ p. Written p 0 bytes after next) e w }
 
 -- ---- what reading comes to, with rooms for every sheet
-abbrev wasRead : Answer → Bool
-wasRead (refused q n) = false
-wasRead (read p u r) = true
-
-abbrev first-of : Answer → ℕ
-first-of (refused q n) = q
-first-of (read p u r) = p
-
-abbrev second-of : Answer → ℕ
-second-of (refused q n) = n
-second-of (read p u r) = u
-
-abbrev third-of : Answer → ℕ
-third-of (refused q n) = 0
-third-of (read p u r) = r
-
-module _ (input : List ℕ) (m : Rooms (List ℕ)) (sizes : sizesOf m ≡ roomsForAll) where
+module _ (input : List ℕ) (m : ListRooms (List ℕ)) (sizes : sizesOf m ≡ roomsForAll) where
   abbrev verdict : Verdict
   verdict = firstNo (questions input roomsForAll)
 
@@ -159,8 +137,8 @@ module _ (input : List ℕ) (m : Rooms (List ℕ)) (sizes : sizesOf m ≡ roomsF
     first-no = go verdict (e ∙ decided)
       where
         go : (v : Verdict) → refused number line ≡ concluded v (sheetIn input) → v ≡ no number line
-        go (no q n) f = ap₂ no (ap first-of (sym f)) (ap second-of (sym f))
-        go allYes f = absurd (subst (λ a. T (wasRead a)) (sym f) tt)
+        go (no q n) f = let a : q ≡ number = cc in let b : n ≡ line = cc in ap₂ no a b
+        go allYes f = let z : _≡_ {A = ℕ} 0 1 = cc in absurd (omega arith)
 
     pub refused-small : (number ≤ 14) × (line ≤ maxBytes)
     refused-small =
@@ -171,16 +149,25 @@ module _ (input : List ℕ) (m : Rooms (List ℕ)) (sizes : sizesOf m ≡ roomsF
     pub refused-answer : AnswerTo input (refusedLine number line)
     refused-answer = subst (λ v. ByReading v (sheetIn input) (refusedLine number line)) (sym first-no) refl
 
-  module _ (t : Read) (e : read (t .span) (t .units) (t .rules) ≡ reading input (sizesOf m)) (after : Rooms (List ℕ)) (lists : after ≡ roomsAfter input m) where
+  module _ (t : Read) (e : read (t .span) (t .units) (t .rules) ≡ reading input (sizesOf m)) (after : ListRooms (List ℕ)) (lists : after ≡ roomsAfter input m) where
     all-yes : verdict ≡ allYes
     all-yes = go verdict (e ∙ decided)
       where
         go : (v : Verdict) → read (t .span) (t .units) (t .rules) ≡ concluded v (sheetIn input) → v ≡ allYes
-        go (no q n) f = absurd (subst (λ a. T (wasRead a)) f tt)
+        go (no q n) f = let z : _≡_ {A = ℕ} 0 1 = cc in absurd (omega arith)
         go allYes f = refl
 
     same : read (t .span) (t .units) (t .rules) ≡ read (sheetIn input .span) (length (sheetIn input .units)) (length (sheetIn input .rules))
     same = e ∙ decided ∙ ap (λ v. concluded v (sheetIn input)) all-yes
+
+    span-same : t .span ≡ sheetIn input .span
+    span-same = let q = same in cc
+
+    units-same : t .units ≡ length (sheetIn input .units)
+    units-same = let q = same in cc
+
+    rules-same : t .rules ≡ length (sheetIn input .rules)
+    rules-same = let q = same in cc
 
     left-is : after ≡ leaves (read 0 0 0) (sheetIn input) m
     left-is = lists ∙ ap (λ a. leaves a (sheetIn input) m) (sym e)
@@ -189,13 +176,13 @@ module _ (input : List ℕ) (m : Rooms (List ℕ)) (sizes : sizesOf m ≡ roomsF
     pub read-held : Held t after
     read-held =
         subst (Held t) (sym left-is)
-        (held (sheetIn input) t (ap first-of same) (ap second-of same) (ap third-of same) m (reading-accepts input roomsForAll all-yes))
+        (held (sheetIn input) t span-same units-same rules-same m (reading-accepts input roomsForAll all-yes))
 
     pub read-answered : (page left : List ℕ) (next : ℕ) → Answered (AnswerToSheet (given (fronts t after))) page left next
         → Answered (AnswerTo input) page left next
     read-answered page left next a =
         let sheet : given (fronts t after) ≡ sheetIn input =
-        ap (λ r. given (fronts t r)) left-is ∙ front-sheet (sheetIn input) t (ap first-of same) (ap second-of same) (ap third-of same) m in
+        ap (λ r. given (fronts t r)) left-is ∙ front-sheet (sheetIn input) t span-same units-same rules-same m in
         record {
           bytes = a .bytes;
           answers =
@@ -205,7 +192,7 @@ module _ (input : List ℕ) (m : Rooms (List ℕ)) (sizes : sizesOf m ≡ roomsF
 
 -- ---- the place just past an answer lies within the page
 pub answered-inside : (Answer : List ℕ → Type 0) (page left : List ℕ) (next : ℕ) → Answered Answer page left next → next ≤ length left
-unfolding onto
+unfolding withBytes
 answered-inside Answer page left next a =
     let w = a .written in
     omega (arith, w .moved, ap length (w .filled), length-append (a .bytes) (drop (0 + length (a .bytes)) page))

@@ -5,17 +5,17 @@ use lib.Dec.{T}
 use lib.ListN.{length, take}
 use Rattle.sheet.specs.Questions.{accepted}
 use Rattle.sheet.specs.declared.Sheet.{Sheet}
-use Rattle.read_ask.specs.Reading.{Rooms}
-use Rattle.plan_ask.specs.Questions.{Lists, listed, given, agree}
+use Rattle.read_ask.specs.Reading.{ListRooms}
+use Rattle.sheet.specs.Lists.{Lists, listed, given, agree}
 
 -- of each list as many places as there are units or rules
-abbrev pub fronts : Sheet → Rooms (List ℕ) → Lists
+abbrev pub fronts : Sheet → ListRooms (List ℕ) → Lists
 fronts s m =
     listed (s .span) (take (s .units) (m .first)) (take (s .units) (m .last))
     (take (s .rules) (m .from)) (take (s .rules) (m .to)) (take (s .rules) (m .low)) (take (s .rules) (m .high))
 
 -- the lists hold a sheet that planning accepts
-pub record Held (s : Sheet) (m : Rooms (List ℕ)) : Type 0 where
+pub record Held (s : Sheet) (m : ListRooms (List ℕ)) : Type 0 where
   pub in-first : s .units ≤ length (m .first)
   pub in-last : s .units ≤ length (m .last)
   pub in-from : s .rules ≤ length (m .from)

@@ -12,9 +12,10 @@ use Rattle.lists.specs.Members.{both}
 use Rattle.sheet.specs.Sheet.{Window, Rule, Sheet}
 use Rattle.sheet.specs.Questions.{windowsOf, rulesOf, sheetOf, listsAgree, accepted}
 use Rattle.sheet.specs.declared.Sheet.{Sheet as Read}
-use Rattle.read_ask.specs.Reading.{Rooms, read}
-use Rattle.read.specs.Rooms.{onto, leaves}
-use Rattle.plan_ask.specs.Questions.{Lists, listed, given, agree}
+use Rattle.read_ask.specs.Reading.{ListRooms, read}
+use Rattle.lists.specs.Lists.{onFront}
+use Rattle.read.specs.Rooms.{leaves}
+use Rattle.sheet.specs.Lists.{Lists, listed, given, agree}
 use Rattle.answer.specs.Fronts.{fronts, Held}
 
 -- ---- a sheet in parallel lists is the sheet again
@@ -52,15 +53,15 @@ agree-back s =
 
 -- ---- the front of each room
 module _ {A : Type 0} (f : A → ℕ) (xs : List A) (n : ℕ) (e : n ≡ length xs) (room : List ℕ) where
-  front : take n (onto (map f xs) room) ≡ map f xs
+  front : take n (onFront (map f xs) room) ≡ map f xs
   front = take-at (map f xs) (drop (length (map f xs)) room) n (length-map xs f ∙ sym e)
 
-  front-fits : n ≤ length (onto (map f xs) room)
+  front-fits : n ≤ length (onFront (map f xs) room)
   front-fits = omega (arith, e, length-map xs f, length-append (map f xs) (drop (length (map f xs)) room))
 
 module _ (s : Sheet) (t : Read) (span : t .span ≡ s .span) (units : t .units ≡ length (s .units)) (rules : t .rules ≡ length (s .rules))
-    (m : Rooms (List ℕ)) where
-  abbrev left : Rooms (List ℕ)
+    (m : ListRooms (List ℕ)) where
+  abbrev left : ListRooms (List ℕ)
   left = leaves (read 0 0 0) s m
 
   fronts-are : fronts t left ≡ listsOf s

@@ -1,25 +1,34 @@
 ghost use Prim.Native.Nat.{_≤_};
 ghost use Rattle.sheet.specs.Sizes.{maxBytes};
 ghost use Rattle.read_ask.specs.Reading.{rooms};
-ghost use Rattle.plan_ask.specs.Questions.{given};
-ghost use Rattle.print_bytes.specs.Writing.{Written};
-ghost use Rattle.answer.specs.Answer.{refusedLine, AnswerToSheet, AnswerTo, Answered};
+ghost use Rattle.sheet.specs.Lists.{given};
+ghost use Rattle.print_bytes.specs.Writing.{Written, refusedLine};
+ghost use Rattle.answer.specs.Answer.{AnswerToSheet, AnswerTo, Answered};
 ghost use Rattle.answer.specs.Fronts.{fronts, Held};
-use print_answer::Printed;
+use print::Printed;
+use print_page::MAX_PAGE;
 use read_ask::Reading;
 use sheet::Sheet;
 
-// No answer is longer: the head, a line of 37 bytes for each unit and one of 38 for each slot.
-pub const MAX_ANSWER: usize = 18 + 37 * Sheet::MAX_UNITS + 38 * Sheet::MAX_SLOTS;
+// No line of a refusal is longer: its question has at most two digits and its line number at most five.
+const MAX_REFUSAL: usize = 26;
 
-// The line of a refusal.
-fn refuse(page: &mut [u8; MAX_ANSWER], number: usize, line: usize) -> usize
+// The line of a refusal, from the first place of the page on.
+fn refuse(page: &mut [u8; MAX_PAGE], number: usize, line: usize) -> usize
     requires { ⌜ (number ≤ 14) × (line ≤ maxBytes) ⌝ }
     ensures { λ r. ⌜ Written (now (page .entry)) 0 (refusedLine number line) (now (page .exit)) r ⌝ }
 {
-    let next = print_bytes::put_pair(page, 0, b"(refused ", number as u16);
-    let next2 = print_bytes::put_pair(page, next, b" (line ", line as u16);
-    print_bytes::put_word(page, next2, b"))\n")
+    let mut own = [0u8; MAX_REFUSAL];
+    let length = print_bytes::put_two_numbers(
+        &mut own,
+        0,
+        b"(refused ",
+        number as u16,
+        b" (line ",
+        line as u16,
+        b"))",
+    );
+    print_writer::write(page, 0, &own[..length])
 }
 
 // The answer to the sheet that reading left at the front of the lists.
@@ -31,7 +40,7 @@ fn answer_sheet(
     to: &[u16],
     low: &[u16],
     high: &[u16],
-    page: &mut [u8; MAX_ANSWER],
+    page: &mut [u8; MAX_PAGE],
 ) -> usize
     requires { ⌜ Held s (rooms (now first) (now last) (now from) (now to) (now low) (now high)) ⌝ }
     ensures { λ r. let m = rooms (now (first .entry)) (now (last .entry)) (now (from .entry)) (now (to .entry)) (now (low .entry)) (now (high .entry)) in
@@ -61,7 +70,7 @@ fn answer_sheet(
         0,
     );
     match printed {
-        Printed::Refused(number) => refuse(page, number, 0),
+        Printed::Refused(refusal) => refuse(page, refusal.number, refusal.line),
         Printed::Plan(next) => next,
         Printed::None(k, next) => next,
     }
@@ -69,7 +78,7 @@ fn answer_sheet(
 
 // The answer to a text, from the first place of the page on, and the place just past it. The lists are long enough for every sheet and the page for
 // every answer, so that no text is refused by 12 or 15.
-pub fn answer(text: &[u8], page: &mut [u8; MAX_ANSWER]) -> usize
+pub fn answer(text: &[u8], page: &mut [u8; MAX_PAGE]) -> usize
     ensures { λ r. ⌜ Answered (AnswerTo (now (text .entry))) (now (page .entry)) (now (page .exit)) r ⌝ }
 {
     let mut first = [0u16; Sheet::MAX_UNITS];

@@ -3,65 +3,64 @@
 use mathlib.Core.Path.{_≡_, refl, sym, ap, _∙_, subst}
 use mathlib.Core.Bool.{Bool, true, false}
 use mathlib.Core.List.{List, []}
-use Prim.Native.Nat.{ℕ, _+_, _*_, _≤_}
+use Prim.Native.Nat.{ℕ, _*_, _≤_}
 use native.Mathlib.Omega.{arith}
 use lib.Dec.{T}
 use lib.ListN.{length, take, drop}
 use lib.Seq.{take-at}
 use lib.IntN.{ℤ}
 use Rattle.network.specs.Table.{Passed, finished, stopped, outOfRange, cleared, entry}
+use Rattle.sheet.specs.Sizes.{boundariesOf}
+use Rattle.questions.specs.Questions.{no, allYes, firstNo, refusalBy}
+use Rattle.questions.specs.declared.Refusal.{Refusal}
 use Rattle.sheet.specs.Sheet.{Sheet, printedPlan, earliestSlots, latestSlots, isRing}
 use Rattle.limits.specs.LimitTable.{limitTable}
 use Rattle.sheet.specs.Questions.{accepted}
-use Rattle.plan.specs.EntryLaws.{lengthsOf, entry-refused, entry-solved}
-use Rattle.plan_ask.specs.Asking.{askedNo}
-use Rattle.plan_ask.specs.Questions.{Lists, Rooms, given, lent, places, passed}
-use Rattle.plan_solve.specs.Planning.{planned, ringed, refused, byPass, Left}
+use Rattle.plan.specs.EntryLaws.{entry-refused, entry-solved}
+use Rattle.plan_ask.specs.Asking.{lengthsOf, askedFirst}
+use Rattle.sheet.specs.Lists.{Lists, given}
+use Rattle.plan_ask.specs.Questions.{Rooms, lent, places, passed}
+use Rattle.plan_solve.specs.Planning.{planned, ringed, refused, byPass, Settled}
 use Rattle.plan_solve.specs.declared.Answer.{Answer}
 use Rattle.plan_solve.specs.declared.Answer.the-variants as planning
 use Rattle.print_page.specs.Page.{tablePage, nonePage}
-use Rattle.print_answer.specs.Printing.{ringBytes, onFront, holds, Asked, PrintingOf, Printing}
-use Rattle.print.specs.AnswerLaws.{boundaries-span, table-size, seats-size, firsts-size, lasts-size, plan-bytes, ring-bytes}
-use Rattle.print_answer.specs.declared.Printed.{Printed}
-use Rattle.print_answer.specs.declared.Printed.the-variants.{Refused, Plan, None}
+use Rattle.print.specs.Printing.{ringBytes, holds, Asked, PrintingOf, Printing}
+use Rattle.lists.specs.Lists.{onFront}
+use Rattle.print.specs.BytesLaws.{boundaries-span, table-size, seats-size, firsts-size, lasts-size, plan-bytes, ring-bytes}
+use Rattle.print.specs.declared.Printed.{Printed}
+use Rattle.print.specs.declared.Printed.the-variants.{Refused, Plan, None}
 
 -- ---- how the pass ended, from what planning replied
-abbrev tag : Answer → ℕ
-tag (planning.Refused n) = 0
-tag planning.Plan = 1
-tag (planning.None k) = 2
-
-abbrev number : Answer → ℕ
-number (planning.Refused n) = n
-number planning.Plan = 0
-number (planning.None k) = k
+-- two of its replies are never the same
+differ : {a b : Answer} → a ≡ b → {A : Type 0} → ((a ≡ b) → _≡_ {A = ℕ} 0 1) → A
+differ e f = absurd (let z = f e in omega arith)
 
 module _ (s : Sheet) (own after : Rooms) where
-  pub refused-left : (n : ℕ) → Left (byPass (passed s)) s own (planning.Refused n) after → (n ≡ 14) × (passed s ≡ outOfRange)
-  refused-left n = go (passed s)
+  pub refused-left : (f : Refusal) → Settled (byPass (passed s)) s own (planning.Refused f) after → (f ≡ refusalBy 14 0) × (passed s ≡ outOfRange)
+  refused-left f = go (passed s)
     where
-      go : (p : Passed) → Left (byPass p) s own (planning.Refused n) after → (n ≡ 14) × (p ≡ outOfRange)
-      go (finished t) h = absurd (omega (arith, ap tag (h .0)))
-      go stopped h = absurd (omega (arith, ap tag (h .2)))
-      go outOfRange h = (ap number (h .0), refl)
+      go : (p : Passed) → Settled (byPass p) s own (planning.Refused f) after → (f ≡ refusalBy 14 0) × (p ≡ outOfRange)
+      go (finished t) h = differ (h .0) (λ e. cc)
+      go stopped h = differ (h .2) (λ e. cc)
+      go outOfRange h = let e : planning.Refused f ≡ planning.Refused (refusalBy 14 0) = h .0 in (cc, refl)
 
-  pub plan-left : Left (byPass (passed s)) s own planning.Plan after → (t : List ℤ) × (passed s ≡ finished t) × (after ≡ planned s t own)
+  pub plan-left : Settled (byPass (passed s)) s own planning.Plan after → (t : List ℤ) × (passed s ≡ finished t) × (after ≡ planned s t own)
   plan-left = go (passed s)
     where
-      go : (p : Passed) → Left (byPass p) s own planning.Plan after → (t : List ℤ) × (p ≡ finished t) × (after ≡ planned s t own)
+      go : (p : Passed) → Settled (byPass p) s own planning.Plan after → (t : List ℤ) × (p ≡ finished t) × (after ≡ planned s t own)
       go (finished t) h = (t, refl, h .1)
-      go stopped h = absurd (omega (arith, ap tag (h .2)))
-      go outOfRange h = absurd (omega (arith, ap tag (h .0)))
+      go stopped h = differ (h .2) (λ e. cc)
+      go outOfRange h = differ (h .0) (λ e. cc)
 
-  pub none-left : (k : ℕ) → Left (byPass (passed s)) s own (planning.None k) after
+  pub none-left : (k : ℕ) → Settled (byPass (passed s)) s own (planning.None k) after
       → (c : List ℕ) × T (isRing s c) × (k ≡ length c) × (passed s ≡ stopped) × (after ≡ ringed s c own)
   none-left k = go (passed s)
     where
-      go : (p : Passed) → Left (byPass p) s own (planning.None k) after
+      go : (p : Passed) → Settled (byPass p) s own (planning.None k) after
           → (c : List ℕ) × T (isRing s c) × (k ≡ length c) × (p ≡ stopped) × (after ≡ ringed s c own)
-      go (finished t) h = absurd (omega (arith, ap tag (h .0)))
-      go stopped h = (h .0, h .1, ap number (h .2), refl, h .3)
-      go outOfRange h = absurd (omega (arith, ap tag (h .0)))
+      go (finished t) h = differ (h .0) (λ e. cc)
+      go stopped h = let e : planning.None k ≡ planning.None (length (h .0)) = h .2 in (h .0, h .1, cc, refl, h .3)
+      go outOfRange h = differ (h .0) (λ e. cc)
 
 -- ---- rooms that a part of the call does not see
 with-ring : (b : Bool) (says : ℕ → Printed) (bytes : List ℕ) (t t₁ t₂ : List ℤ) (p p₁ p₂ e e₁ e₂ l l₁ l₂ ring page : List ℕ) (at : ℕ)
@@ -87,12 +86,12 @@ module _ (s : Sheet) (ok : T (accepted s)) (table : List ℤ) (plan earliest lat
   before = lent table plan earliest latest ring
 
   -- a sum out of range: 14
-  pub range-printed : (n : ℕ) (table′ : List ℤ) (w : ℕ) → w ≡ s .span + 1 → (n ≡ 14) × (passed s ≡ outOfRange) → table′ ≡ cleared (w * w) table
-      → PrintingOf (byPass (passed s)) s before page at (Refused n) (lent table′ plan earliest latest ring) page
-  range-printed n table′ w e h c = record {
-    answer = planning.Refused 14;
+  pub range-printed : (f : Refusal) (table′ : List ℤ) (w : ℕ) → w ≡ boundariesOf (s .span) → (f ≡ refusalBy 14 0) × (passed s ≡ outOfRange)
+      → table′ ≡ cleared (w * w) table → PrintingOf (byPass (passed s)) s before page at (Refused f) (lent table′ plan earliest latest ring) page
+  range-printed f table′ w e h c = record {
+    answer = planning.Refused (refusalBy 14 0);
     planned = refused s 14 before;
-    call = subst (λ p. Left (byPass p) s before (planning.Refused 14) (refused s 14 before)) (sym (h .1)) (refl, refl);
+    call = subst (λ p. Settled (byPass p) s before (planning.Refused (refusalBy 14 0)) (refused s 14 before)) (sym (h .1)) (refl, refl);
     shown = record {
       replied = ap Refused (h .0);
       lent = ap (λ t. lent t plan earliest latest ring) (c ∙ ap (λ k. cleared (k * k) table) (e ∙ sym (boundaries-span s ok)));
@@ -117,7 +116,7 @@ module _ (s : Sheet) (ok : T (accepted s)) (table : List ℤ) (plan earliest lat
         record {
           answer = planning.Plan;
           planned = planned s t before;
-          call = subst (λ p. Left (byPass p) s before planning.Plan (planned s t before)) (sym e) (refl, refl);
+          call = subst (λ p. Settled (byPass p) s before planning.Plan (planned s t before)) (sym e) (refl, refl);
           shown =
               subst (λ bs. Asked (holds page at bs) Plan bs before (planned s t before) page at reply (lent table′ plan′ earliest′ latest′ ring) left)
               (plan-bytes s ok t e)
@@ -127,7 +126,7 @@ module _ (s : Sheet) (ok : T (accepted s)) (table : List ℤ) (plan earliest lat
         }
 
     -- none
-    pub ring-printed : (c : List ℕ) (h : T (isRing s c)) → passed s ≡ stopped → (w : ℕ) → w ≡ s .span + 1 → (room : List ℤ) → places s ≤ length room
+    pub ring-printed : (c : List ℕ) (h : T (isRing s c)) → passed s ≡ stopped → (w : ℕ) → w ≡ boundariesOf (s .span) → (room : List ℤ) → places s ≤ length room
         → (table′ : List ℤ) (ring′ : List ℕ)
         → (let bytes = nonePage (entry w (limitTable s room)) c in
         Asked (holds page at bytes) (None (length c)) bytes (lent table [] [] [] ring) (lent (cleared (w * w) table) [] [] [] (onFront c ring)) page at reply
@@ -143,7 +142,7 @@ module _ (s : Sheet) (ok : T (accepted s)) (table : List ℤ) (plan earliest lat
         record {
           answer = planning.None (length c);
           planned = ringed s c before;
-          call = subst (λ p. Left (byPass p) s before (planning.None (length c)) (ringed s c before)) (sym e) (c, h, refl, refl);
+          call = subst (λ p. Settled (byPass p) s before (planning.None (length c)) (ringed s c before)) (sym e) (c, h, refl, refl);
           shown =
               subst (λ bs. Asked (holds page at bs) (None (length c)) bs before (ringed s c before) page at reply (lent table′ plan earliest latest ring′) left)
               same
@@ -155,16 +154,16 @@ module _ (s : Sheet) (ok : T (accepted s)) (table : List ℤ) (plan earliest lat
 -- ---- the questions before the pass
 module _ (l : Lists) (before : Rooms) (page : List ℕ) (at : ℕ) where
   -- one of them is answered no: nothing is changed
-  pub refused-printed : (n : ℕ) → n ≡ askedNo l (lengthsOf before) → (n ≡ 0 → ⊥) → Printing l before page at (Refused n) before page
-  refused-printed n h ne = record {
-    answer = planning.Refused n;
+  pub refused-printed : (q n : ℕ) → no q n ≡ firstNo (askedFirst l (lengthsOf before)) → Printing l before page at (Refused (refusalBy q n)) before page
+  refused-printed q n h = record {
+    answer = planning.Refused (refusalBy q n);
     planned = before;
-    call = entry-refused l before n h ne;
+    call = entry-refused l before q n h;
     shown = record { replied = refl; lent = refl; shown = refl };
   }
 
   -- all are answered yes: the pass decides
-  pub solved-printed : 0 ≡ askedNo l (lengthsOf before) → (reply : Printed) (after : Rooms) (left : List ℕ)
+  pub solved-printed : allYes ≡ firstNo (askedFirst l (lengthsOf before)) → (reply : Printed) (after : Rooms) (left : List ℕ)
       → PrintingOf (byPass (passed (given l))) (given l) before page at reply after left → Printing l before page at reply after left
   solved-printed h reply after left p = record {
     answer = p .answer;

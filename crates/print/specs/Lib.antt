@@ -1,4 +1,6 @@
-pub mod AnswerLaws
+pub mod Printing
+pub mod PrintingLaws
+pub mod BytesLaws
 pub mod CallLaws
 pub mod OwnLaws
 pub mod PageConditions

@@ -5,15 +5,18 @@ use mathlib.Core.Path.{_≡_, refl, sym, ap, _∙_, subst}
 use mathlib.Core.Logic.{_⊎_, inl, inr, ⊎-elim}
 use mathlib.Core.Bool.{Bool, true, false}
 use mathlib.Core.List.{List, [], _∷_, _++_}
-use Prim.Native.Nat.{ℕ, zero, suc, _+_, _-_, _≤_}
+use Prim.Native.Nat.{ℕ, _+_, _-_, _≤_}
 use native.Mathlib.Omega.{arith}
 use lib.ListN.{length, getD, take, drop}
 use lib.Seq.{take-at}
 use borrow.Author.Tests.{leb-true, le-leb}
 use Rattle.lists.specs.Members.{In}
+use Rattle.questions.specs.Questions.{Verdict, no, allYes, refusalBy}
+use Rattle.questions.specs.declared.Refusal.{Refusal}
 use Rattle.sheet.specs.Sheet.{Sheet, limit, leastIn, greatestIn, printedPlan, earliestSlots, latestSlots}
-use Rattle.plan_ask.specs.Questions.{Lists, Rooms, given, refusal}
-use Rattle.plan_solve.specs.Planning.{verdict, Left, numberOf as planningNumber}
+use Rattle.sheet.specs.Lists.{Lists, given}
+use Rattle.plan_ask.specs.Questions.{Rooms, refusal}
+use Rattle.plan_solve.specs.Planning.{conclusion, Settled, refusalOf as planningRefusal}
 use Rattle.plan_solve.specs.PlanningLaws.{no-refusal}
 use Rattle.plan.specs.ConditionLaws.{call-answered}
 use Rattle.plan.specs.Conditions.{number-is-first-no}
@@ -24,34 +27,9 @@ use Rattle.print_page.specs.PageLines.{unit, slot, none, shortfall, readLines, 
 use Rattle.print_page.specs.PageLinesLaws.{slot-line-true, unit-line-true, none-read, answer-read}
 use Rattle.print_page.specs.Page.{shortfallOf, maxPage}
 use Rattle.print_page.specs.PageBounds.{plan-short, none-short}
-use Rattle.print_answer.specs.Printing.{planBytes, ringBytes, holds, numberOf, Asked, Shown, Printing}
-use Rattle.print_answer.specs.declared.Printed.{Printed}
-use Rattle.print_answer.specs.declared.Printed.the-variants.{Refused, Plan, None}
-
-abbrev tag : Answer → ℕ
-tag (planning.Refused n) = 0
-tag planning.Plan = 1
-tag (planning.None k) = 2
-
-abbrev tag-number : Answer → ℕ
-tag-number (planning.Refused n) = n
-tag-number planning.Plan = 0
-tag-number (planning.None k) = k
-
-abbrev kind : Printed → ℕ
-kind (Refused n) = 0
-kind (Plan next) = 1
-kind (None k next) = 2
-
-abbrev place : Printed → ℕ
-place (Refused n) = 0
-place (Plan next) = next
-place (None k next) = next
-
-abbrev rings : Printed → ℕ
-rings (Refused n) = 0
-rings (Plan next) = 0
-rings (None k next) = k
+use Rattle.print.specs.Printing.{planBytes, ringBytes, holds, refusalOf, Asked, Shown, Printing}
+use Rattle.print.specs.declared.Printed.{Printed}
+use Rattle.print.specs.declared.Printed.the-variants.{Refused, Plan, None}
 
 -- an answer that is printed stands on the page, and the rooms are planning's
 pub record Stands (bytes page : List ℕ) (at : ℕ) (left : List ℕ) (next : ℕ) (planned after : Rooms) : Type 0 where
@@ -60,14 +38,14 @@ pub record Stands (bytes page : List ℕ) (at : ℕ) (left : List ℕ) (next : �
   pub lent : after ≡ planned
 
 module _ (bytes : List ℕ) (before planned : Rooms) (page : List ℕ) (at : ℕ) (reply : Printed) (after : Rooms) (left : List ℕ) where
-  stands : (says : ℕ → Printed) → ((m : ℕ) → place (says m) ≡ m) → ((n : ℕ) → says n ≡ Refused 15 → ⊥) → (next : ℕ) → reply ≡ says next
+  stands : (says : ℕ → Printed) → ((m k : ℕ) → says m ≡ says k → m ≡ k) → ((n : ℕ) → says n ≡ Refused (refusalBy 15 0) → ⊥) → (next : ℕ) → reply ≡ says next
       → Asked (holds page at bytes) says bytes before planned page at reply after left → Stands bytes page at left next planned after
   stands says own other next e o = go (holds page at bytes) refl o
     where
       go : (b : Bool) → holds page at bytes ≡ b → Asked b says bytes before planned page at reply after left → Stands bytes page at left next planned after
       go true h o = record {
         room = record { fits = leb-true (at + length bytes) (length page) h };
-        written = record { filled = o .shown; moved = sym (own next) ∙ ap place (sym e ∙ o .replied) ∙ own (at + length bytes) };
+        written = record { filled = o .shown; moved = own next (at + length bytes) (sym e ∙ o .replied) };
         lent = o .lent;
       }
       go false h o = absurd (other next (sym e ∙ o .replied))
@@ -79,15 +57,18 @@ module _ (l : Lists) (before : Rooms) (page : List ℕ) (at : ℕ) (reply : Prin
 
   -- ---- a plan
   module _ (next : ℕ) (planned? : reply ≡ Plan next) where
+    not-refused : (f : Refusal) → reply ≡ Refused f → ⊥
+    not-refused f e = let z : _≡_ {A = ℕ} 0 1 = cc in omega arith
+
     answer-stands : (a : Answer) (planned : Rooms) → Shown a s before planned page at reply after left → Stands (planBytes s) page at left next planned after
-    answer-stands (planning.Refused n) planned o = absurd (omega (arith, ap kind (sym planned? ∙ o .replied)))
+    answer-stands (planning.Refused f) planned o = absurd (not-refused f (o .replied))
     answer-stands planning.Plan planned o =
-        stands (planBytes s) before planned page at reply after left Plan (λ m. refl) (λ n e. omega (arith, ap kind e)) next planned? o
+        stands (planBytes s) before planned page at reply after left Plan (λ m j e. cc) (λ n e. let z : _≡_ {A = ℕ} 0 1 = cc in omega arith) next planned? o
     answer-stands (planning.None k) planned o = absurd (not-ring (holds page at (ringBytes s (take k (planned .ring)))) o)
       where
         not-ring : (b : Bool) → Asked b (None k) (ringBytes s (take k (planned .ring))) before planned page at reply after left → ⊥
-        not-ring true o = omega (arith, ap kind (sym planned? ∙ o .replied))
-        not-ring false o = omega (arith, ap kind (sym planned? ∙ o .replied))
+        not-ring true o = let z : _≡_ {A = ℕ} 0 1 = cc in omega arith
+        not-ring false o = not-refused (refusalBy 15 0) (o .replied)
 
     pub plan-stands : Stands (planBytes s) page at left next (call .planned) after
     plan-stands = answer-stands (call .answer) (call .planned) (call .shown)
@@ -115,25 +96,28 @@ module _ (l : Lists) (before : Rooms) (page : List ℕ) (at : ℕ) (reply : Prin
 
   -- ---- none
   module _ (k next : ℕ) (none? : reply ≡ None k next) where
+    no-refusal-said : (f : Refusal) → reply ≡ Refused f → ⊥
+    no-refusal-said f e = let z : _≡_ {A = ℕ} 0 1 = cc in omega arith
+
     ring-stands′ : (a : Answer) (planned : Rooms) → Shown a s before planned page at reply after left
         → (a ≡ planning.None k) × Stands (ringBytes s (take k (planned .ring))) page at left next planned after
-    ring-stands′ (planning.Refused n) planned o = absurd (omega (arith, ap kind (sym none? ∙ o .replied)))
+    ring-stands′ (planning.Refused f) planned o = absurd (no-refusal-said f (o .replied))
     ring-stands′ planning.Plan planned o = absurd (not-plan (holds page at (planBytes s)) o)
       where
         not-plan : (b : Bool) → Asked b Plan (planBytes s) before planned page at reply after left → ⊥
-        not-plan true o = omega (arith, ap kind (sym none? ∙ o .replied))
-        not-plan false o = omega (arith, ap kind (sym none? ∙ o .replied))
+        not-plan true o = let z : _≡_ {A = ℕ} 0 1 = cc in omega arith
+        not-plan false o = no-refusal-said (refusalBy 15 0) (o .replied)
     ring-stands′ (planning.None j) planned o =
         let bytes : ℕ → List ℕ = λ i. ringBytes s (take i (planned .ring)) in
         let same : j ≡ k = which (holds page at (bytes j)) o in (
           ap planning.None same,
-          stands (bytes k) before planned page at reply after left (None k) (λ m. refl) (λ n e. omega (arith, ap kind e)) next none?
+          stands (bytes k) before planned page at reply after left (None k) (λ m j e. cc) (λ n e. let z : _≡_ {A = ℕ} 0 1 = cc in omega arith) next none?
               (subst (λ i. Asked (holds page at (bytes i)) (None i) (bytes i) before planned page at reply after left) same o),
         )
       where
         which : (b : Bool) → Asked b (None j) (ringBytes s (take j (planned .ring))) before planned page at reply after left → j ≡ k
-        which true o = ap rings (sym (o .replied) ∙ none?)
-        which false o = absurd (omega (arith, ap kind (sym none? ∙ o .replied)))
+        which true o = cc
+        which false o = absurd (no-refusal-said (refusalBy 15 0) (o .replied))
 
     pub ring-stands : (call .answer ≡ planning.None k) × Stands (ringBytes s (take k (call .planned .ring))) page at left next (call .planned) after
     ring-stands = ring-stands′ (call .answer) (call .planned) (call .shown)
@@ -149,45 +133,46 @@ module _ (l : Lists) (before : Rooms) (page : List ℕ) (at : ℕ) (reply : Prin
 
   -- ---- refusals
 
-  -- The reply's number is that of planning; or planning has an answer and the page does not hold it, and then nothing is changed.
-  pub refusals : (numberOf reply ≡ refusal l before) ⊎ ((refusal l before ≡ 0) × (reply ≡ Refused 15) × (after ≡ before) × (left ≡ page))
+  -- The reply's refusal, by number and line, is that of planning; or planning has an answer and the page does not hold it, and then nothing is changed.
+  pub refusals : (refusalOf reply ≡ refusal l before) ⊎ ((refusal l before ≡ allYes) × (reply ≡ Refused (refusalBy 15 0)) × (after ≡ before) × (left ≡ page))
   refusals = go (call .answer) (call .planned) (number-is-first-no l before (call .answer) (call .planned) (call .call)) (call .shown)
     where
-      asked : (b : Bool) (says : ℕ → Printed) (bytes : List ℕ) (planned : Rooms) → ((n : ℕ) → numberOf (says n) ≡ 0) → 0 ≡ refusal l before
+      asked : (b : Bool) (says : ℕ → Printed) (bytes : List ℕ) (planned : Rooms) → ((n : ℕ) → refusalOf (says n) ≡ allYes) → allYes ≡ refusal l before
           → Asked b says bytes before planned page at reply after left
-          → (numberOf reply ≡ refusal l before) ⊎ ((refusal l before ≡ 0) × (reply ≡ Refused 15) × (after ≡ before) × (left ≡ page))
-      asked true says bytes planned zeroes e o = inl (ap numberOf (o .replied) ∙ zeroes (at + length bytes) ∙ e)
+          → (refusalOf reply ≡ refusal l before) ⊎ ((refusal l before ≡ allYes) × (reply ≡ Refused (refusalBy 15 0)) × (after ≡ before) × (left ≡ page))
+      asked true says bytes planned zeroes e o = inl (ap refusalOf (o .replied) ∙ zeroes (at + length bytes) ∙ e)
       asked false says bytes planned zeroes e o = inr (sym e, o .replied, o .lent, o .shown)
 
-      go : (a : Answer) (planned : Rooms) → planningNumber a ≡ refusal l before → Shown a s before planned page at reply after left
-          → (numberOf reply ≡ refusal l before) ⊎ ((refusal l before ≡ 0) × (reply ≡ Refused 15) × (after ≡ before) × (left ≡ page))
-      go (planning.Refused n) planned e o = inl (ap numberOf (o .replied) ∙ e)
+      go : (a : Answer) (planned : Rooms) → planningRefusal a ≡ refusal l before → Shown a s before planned page at reply after left
+          → (refusalOf reply ≡ refusal l before) ⊎ ((refusal l before ≡ allYes) × (reply ≡ Refused (refusalBy 15 0)) × (after ≡ before) × (left ≡ page))
+      go (planning.Refused n) planned e o = inl (ap refusalOf (o .replied) ∙ e)
       go planning.Plan planned e o = asked (holds page at (planBytes s)) Plan (planBytes s) planned (λ n. refl) e o
       go (planning.None k) planned e o =
           let bytes = ringBytes s (take k (planned .ring)) in
           asked (holds page at bytes) (None k) bytes planned (λ n. refl) e o
 
   -- A page with maxPage places from its running place on is never refused by 15.
-  pub long-page : at + maxPage ≤ length page → numberOf reply ≡ refusal l before
+  pub long-page : at + maxPage ≤ length page → refusalOf reply ≡ refusal l before
   unfolding planBytes ringBytes
   long-page h = go (refusal l before) refl
     where
-      held : (says : ℕ → Printed) (bytes : List ℕ) (planned : Rooms) → ((n : ℕ) → numberOf (says n) ≡ 0) → 0 ≡ refusal l before → length bytes ≤ maxPage
-          → Asked (holds page at bytes) says bytes before planned page at reply after left → numberOf reply ≡ refusal l before
+      held : (says : ℕ → Printed) (bytes : List ℕ) (planned : Rooms) → ((n : ℕ) → refusalOf (says n) ≡ allYes) → allYes ≡ refusal l before
+          → length bytes ≤ maxPage → Asked (holds page at bytes) says bytes before planned page at reply after left → refusalOf reply ≡ refusal l before
       held says bytes planned zeroes e short o =
           let f : Asked true says bytes before planned page at reply after left =
           subst (λ b. Asked b says bytes before planned page at reply after left) (le-leb (at + length bytes) (length page) (omega arith)) o in
-          ap numberOf (f .replied) ∙ zeroes (at + length bytes) ∙ e
+          ap refusalOf (f .replied) ∙ zeroes (at + length bytes) ∙ e
 
-      answered : (a : Answer) (planned : Rooms) → refusal l before ≡ 0 → Left (verdict l before) s before a planned
-          → Shown a s before planned page at reply after left → numberOf reply ≡ refusal l before
-      answered (planning.Refused n) planned e c o = ap numberOf (o .replied) ∙ number-is-first-no l before (planning.Refused n) planned c
+      answered : (a : Answer) (planned : Rooms) → refusal l before ≡ allYes → Settled (conclusion l before) s before a planned
+          → Shown a s before planned page at reply after left → refusalOf reply ≡ refusal l before
+      answered (planning.Refused f) planned e c o = ap refusalOf (o .replied) ∙ number-is-first-no l before (planning.Refused f) planned c
       answered planning.Plan planned e c o =
           held Plan (planBytes s) planned (λ n. refl) (sym e) (plan-short s (no-refusal l before e .sheet)) o
       answered (planning.None k) planned e c o =
-          ⊎-elim (λ p. absurd (omega (arith, ap tag (p .is))))
+          ⊎-elim (λ p. let q : planning.None k ≡ planning.Plan = p .is in let z : _≡_ {A = ℕ} 0 1 = cc in absurd (omega arith))
           (λ r.
-          let size : k ≡ length (r .ring) = ap tag-number (r .is) in
+          let q : planning.None k ≡ planning.None (length (r .ring)) = r .is in
+          let size : k ≡ length (r .ring) = cc in
           let found : take k (planned .ring) ≡ r .ring =
           ap (λ i. take i (planned .ring)) size ∙ ap (λ (q : Rooms). take (length (r .ring)) (q .ring)) (r .left)
           ∙ take-at (r .ring) (drop (length (r .ring)) (before .ring)) (length (r .ring)) refl in
@@ -195,6 +180,6 @@ module _ (l : Lists) (before : Rooms) (page : List ℕ) (at : ℕ) (reply : Prin
           (subst (λ c. length (ringBytes s c) ≤ maxPage) (sym found) (none-short s (no-refusal l before e .sheet) (r .ring) (r .closed))) o)
           (call-answered l before (planning.None k) planned c e)
 
-      go : (n : ℕ) → refusal l before ≡ n → numberOf reply ≡ refusal l before
-      go zero e = answered (call .answer) (call .planned) e (call .call) (call .shown)
-      go (suc n) e = ⊎-elim (λ f. f) (λ q. absurd (omega (arith, q .0))) refusals
+      go : (v : Verdict) → refusal l before ≡ v → refusalOf reply ≡ refusal l before
+      go allYes e = answered (call .answer) (call .planned) e (call .call) (call .shown)
+      go (no q n) e = ⊎-elim (λ f. f) (λ r. let a = r .0 in let z : _≡_ {A = ℕ} 0 1 = cc in absurd (omega arith)) refusals

@@ -1,10 +1,140 @@
+ghost use mathlib.Core.Path.{_≡_};
+ghost use mathlib.Core.List.{[], _++_};
+ghost use Prim.Native.Nat.{_+_, _*_, _≤_};
+ghost use lib.Dec.{leb};
+ghost use lib.ListN.{length, drop};
+ghost use Rattle.network.specs.Table.{entry, cleared};
 ghost use Rattle.sheet.specs.Questions.{sheetOf};
-ghost use Rattle.plan_ask.specs.Questions.{listed, lent, passed};
+ghost use Rattle.sheet.specs.Lists.{listed};
+ghost use Rattle.plan_ask.specs.Questions.{lent, passed};
 ghost use Rattle.plan_ask.specs.Asking.{Solvable};
 ghost use Rattle.plan_solve.specs.Planning.{byPass};
-ghost use Rattle.print_answer.specs.Printing.{PrintingOf, Printing};
-use print_answer::Printed;
+ghost use Rattle.print_page.specs.Page.{Printable, tablePage, RingFits, nonePage, maxPage, maxRingPage};
+ghost use Rattle.print.specs.Printing.{holds as holdsAnswer, Asked, PrintingOf, Printing};
+ghost use Rattle.lists.specs.Lists.{onFront};
+use print_page::MAX_PAGE;
+use print_page::MAX_RING_PAGE;
+use questions::Checked;
+use questions::Refusal;
 use sheet::Sheet;
+
+// What a call answers: a refusal; a plan; or none, with the length of the ring. An answer has the place just past it.
+pub enum Printed {
+    Refused(Refusal),
+    Plan(usize),
+    None(usize, usize),
+}
+
+// Question 15.
+fn holds(page: usize, at: usize, answer: usize) -> bool
+    ensures { λ r. ⌜ r ≡ leb (at + answer) page ⌝ }
+{
+    if page < at {
+        return false;
+    }
+    answer <= page - at
+}
+
+// The finished table, the plan and the narrowed windows, at the front of their rooms.
+fn keep_plan(
+    closed: &[i16],
+    seats: &[u16],
+    firsts: &[u16],
+    lasts: &[u16],
+    table: &mut [i16],
+    plan: &mut [u16],
+    earliest: &mut [u16],
+    latest: &mut [u16],
+)
+    requires { ⌜ (length (now closed) ≤ length (now table)) × (length (now seats) ≤ length (now plan))
+        × (length (now firsts) ≤ length (now earliest)) × (length (now lasts) ≤ length (now latest)) ⌝ }
+    ensures { λ _. ⌜ (now (table .exit) ≡ now (closed .entry) ++ drop (length (now (closed .entry))) (now (table .entry)))
+        × (now (plan .exit) ≡ now (seats .entry) ++ drop (length (now (seats .entry))) (now (plan .entry)))
+        × (now (earliest .exit) ≡ now (firsts .entry) ++ drop (length (now (firsts .entry))) (now (earliest .entry)))
+        × (now (latest .exit) ≡ now (lasts .entry) ++ drop (length (now (lasts .entry))) (now (latest .entry))) ⌝ }
+{
+    network::copy_row(closed, table);
+    lists::copy_list(seats, plan);
+    lists::copy_list(firsts, earliest);
+    lists::copy_list(lasts, latest);
+}
+
+// The page of a plan is written into an array of the call's own. Where the lent page holds it, it is put there, and the rooms hold the plan too.
+fn print_plan(
+    span: usize,
+    closed: &[i16],
+    seats: &[u16],
+    firsts: &[u16],
+    lasts: &[u16],
+    table: &mut [i16],
+    plan: &mut [u16],
+    earliest: &mut [u16],
+    latest: &mut [u16],
+    page: &mut [u8],
+    at: usize,
+) -> Printed
+    requires { ⌜ Printable span (now seats) (now firsts) (now lasts) (now closed) ⌝ }
+    requires { ⌜ (length (now closed) ≤ length (now table)) × (length (now seats) ≤ length (now plan))
+        × (length (now firsts) ≤ length (now earliest)) × (length (now lasts) ≤ length (now latest)) ⌝ }
+    requires { ⌜ length (tablePage span (now seats) (now firsts) (now lasts) (now closed)) ≤ maxPage ⌝ }
+    ensures { λ r.
+        let bytes = tablePage span (now (seats .entry)) (now (firsts .entry)) (now (lasts .entry)) (now (closed .entry)) in
+        ⌜ Asked (holdsAnswer (now (page .entry)) at bytes) Printed.Plan bytes
+        (lent (now (table .entry)) (now (plan .entry)) (now (earliest .entry)) (now (latest .entry)) [])
+        (lent (onFront (now (closed .entry)) (now (table .entry))) (onFront (now (seats .entry)) (now (plan .entry)))
+        (onFront (now (firsts .entry)) (now (earliest .entry))) (onFront (now (lasts .entry)) (now (latest .entry))) [])
+        (now (page .entry)) at r
+        (lent (now (table .exit)) (now (plan .exit)) (now (earliest .exit)) (now (latest .exit)) []) (now (page .exit)) ⌝ }
+{
+    let mut answer = [0u8; MAX_PAGE];
+    let length = print_page::put_plan(&mut answer, 0, span, seats, firsts, lasts, closed);
+    if holds(page.len(), at, length) {
+        keep_plan(closed, seats, firsts, lasts, table, plan, earliest, latest);
+        let next = print_writer::write(page, at, &answer[..length]);
+        Printed::Plan(next)
+    } else {
+        Printed::Refused(Refusal {
+            number: 15,
+            line: 0,
+        })
+    }
+}
+
+// The same for the page of a ring; with it the ring stands in its room and the table's places are 0.
+fn print_ring(
+    limits: &[i16],
+    w: usize,
+    found: &[u16],
+    table: &mut [i16],
+    ring: &mut [u16],
+    page: &mut [u8],
+    at: usize,
+) -> Printed
+    requires { ⌜ RingFits w (now limits) (now found) ⌝ }
+    requires { ⌜ (w * w ≤ length (now table)) × (length (now found) ≤ length (now ring)) ⌝ }
+    requires { ⌜ length (nonePage (entry w (now limits)) (now found)) ≤ maxRingPage ⌝ }
+    ensures { λ r.
+        let bytes = nonePage (entry w (now (limits .entry))) (now (found .entry)) in
+        ⌜ Asked (holdsAnswer (now (page .entry)) at bytes) (Printed.None (length (now (found .entry)))) bytes
+        (lent (now (table .entry)) [] [] [] (now (ring .entry)))
+        (lent (cleared (w * w) (now (table .entry))) [] [] [] (onFront (now (found .entry)) (now (ring .entry))))
+        (now (page .entry)) at r
+        (lent (now (table .exit)) [] [] [] (now (ring .exit))) (now (page .exit)) ⌝ }
+{
+    let mut answer = [0u8; MAX_RING_PAGE];
+    let length = print_page::put_none(&mut answer, 0, limits, w, found);
+    if holds(page.len(), at, length) {
+        network::clear(w * w, table);
+        lists::copy_list(found, ring);
+        let next = print_writer::write(page, at, &answer[..length]);
+        Printed::None(found.len(), next)
+    } else {
+        Printed::Refused(Refusal {
+            number: 15,
+            line: 0,
+        })
+    }
+}
 
 // A sheet of which every question before the pass is answered yes. It is planned in arrays of this call's own: a refusal by 15 changes nothing.
 fn print_solved(
@@ -50,15 +180,15 @@ fn print_solved(
         &mut lasts,
         &mut found,
     );
-    let w = span + 1;
+    let w = sheet::boundaries(span);
     let cells = w * w;
     let n = first.len();
     match answer {
-        plan_solve::Answer::Refused(no) => {
+        plan_solve::Answer::Refused(refusal) => {
             network::clear(cells, table);
-            Printed::Refused(no)
+            Printed::Refused(refusal)
         }
-        plan_solve::Answer::Plan => print_answer::print_plan(
+        plan_solve::Answer::Plan => print_plan(
             span,
             &closed[..cells],
             &seats[..n],
@@ -73,7 +203,7 @@ fn print_solved(
         ),
         plan_solve::Answer::None(k) => {
             limits::fill::fill_limits(span, first, last, from, to, low, high, &mut closed);
-            print_answer::print_ring(&closed, w, &found[..k], table, ring, page, at)
+            print_ring(&closed, w, &found[..k], table, ring, page, at)
         }
     }
 }
@@ -101,16 +231,11 @@ pub fn print(
         (lent (now (table .entry)) (now (plan .entry)) (now (earliest .entry)) (now (latest .entry)) (now (ring .entry))) (now (page .entry)) at r
         (lent (now (table .exit)) (now (plan .exit)) (now (earliest .exit)) (now (latest .exit)) (now (ring .exit))) (now (page .exit)) ⌝ }
 {
-    let rooms = plan_ask::Lengths {
-        table: table.len(),
-        plan: plan.len(),
-        earliest: earliest.len(),
-        latest: latest.len(),
-        ring: ring.len(),
-    };
-    let no = plan_ask::ask(span, first, last, from, to, low, high, rooms);
-    if no == 0 {
-        print_solved(
+    let rooms = plan_ask::lengths_of(table, plan, earliest, latest, ring);
+    let asked = plan_ask::ask_lists(span, first, last, from, to, low, high, rooms);
+    match asked {
+        Checked::No(refusal) => Printed::Refused(refusal),
+        Checked::Yes => print_solved(
             span,
             first,
             last,
@@ -125,8 +250,6 @@ pub fn print(
             ring,
             page,
             at,
-        )
-    } else {
-        Printed::Refused(no)
+        ),
     }
 }

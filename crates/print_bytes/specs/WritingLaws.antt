@@ -1,19 +1,21 @@
 -- Laws of writing in order.
 -- Key idea: while something is written piece by piece, what is left to write, written from the present place on, gives the whole page. `Pending` says
--- so, and one law takes it over each piece: the same for a word, a number, a line and all lines of a page. Lengths are counted the same way.
+-- so, and one law takes it over each piece: the same for a byte, a word, a number, a line and all lines of a page. What is written by two calls has the
+-- laws `first-room`, `second-room` and `both-written`.
 use mathlib.Core.Path.{_≡_, refl, sym, ap, ap₂, _∙_, subst}
 use mathlib.Core.List.{List, [], _∷_, _++_, map, append-assoc, append-nil}
-use Prim.Native.Nat.{ℕ, zero, suc, _+_, _-_, _/_, _%_, _≤_, _<_}
+use Prim.Native.Nat.{ℕ, suc, _+_, _-_, _/_, _%_, _≤_, _<_}
 use native.Mathlib.Omega.{arith}
-use native.Mathlib.Decide.{decLe}
 use native.Mathlib.Nat.{add-zero, add-suc, suc-add}
 use native.Mathlib.Numerals.{add-one}
-use lib.ListN.{length, set, length-append, length-set}
-use lib.Seq.{sets, length-sets, sets-eq}
-use borrow.Author.Tests.{lt-ltb, le-ltb}
+use lib.ListN.{length, set, take, drop, length-append, length-set}
+use lib.Seq.{sets, length-sets, sets-eq, length-take-le, take-at, drop-at}
 use Rattle.lists.specs.Lists.{run, joined}
-use Rattle.forms.specs.Words.{text}
-use Rattle.print_bytes.specs.Writing.{onto, Room, Written, digit, digitsWithin, digits, oneNumber, fourNumbers, boundLine}
+use Rattle.forms.specs.Form.{Piece, word, number, written}
+use Rattle.forms.specs.Decimal.{digits, formLine}
+use Rattle.forms.specs.DecimalLaws.{digits-last}
+use Rattle.forms.specs.Words.{lineFeed}
+use Rattle.print_bytes.specs.Writing.{withBytes, Room, Written}
 
 -- ---- writing one thing after another
 sets-append : (page : List ℕ) (at : ℕ) (xs ys : List ℕ) → sets (sets page at xs) (at + length xs) ys ≡ sets page at (xs ++ ys)
@@ -22,12 +24,12 @@ sets-append page at (x ∷ xs) ys =
     ap (λ k. sets (sets page at (x ∷ xs)) k ys) (add-suc at (length xs) ∙ sym (suc-add at (length xs)))
     ∙ sets-append _ (suc at) xs ys
 
-pub onto-sets : (page : List ℕ) (at : ℕ) (bytes : List ℕ) → Room page at bytes → onto page at bytes ≡ sets page at bytes
-unfolding onto
-onto-sets page at bytes h = sym (sets-eq bytes page at (h .fits))
+pub bytes-set : (page : List ℕ) (at : ℕ) (bytes : List ℕ) → Room page at bytes → withBytes page at bytes ≡ sets page at bytes
+unfolding withBytes
+bytes-set page at bytes h = sym (sets-eq bytes page at (h .fits))
 
-pub onto-length : (page : List ℕ) (at : ℕ) (bytes : List ℕ) → Room page at bytes → length (onto page at bytes) ≡ length page
-onto-length page at bytes h = ap length (onto-sets page at bytes h) ∙ length-sets page at bytes
+pub bytes-length : (page : List ℕ) (at : ℕ) (bytes : List ℕ) → Room page at bytes → length (withBytes page at bytes) ≡ length page
+bytes-length page at bytes h = ap length (bytes-set page at bytes h) ∙ length-sets page at bytes
 
 -- `whole` is to be written on `page₀` from `at₀` on; when `page` and `at` are reached, the pieces are left to write
 pub record Pending (page₀ : List ℕ) (at₀ : ℕ) (whole page : List ℕ) (at : ℕ) (pieces : List (List ℕ)) : Type 0 where
@@ -41,10 +43,6 @@ pub pending-whole : {page : List ℕ} {at : ℕ} {whole : List ℕ} (pieces : Li
 pending-whole {page} {at} {whole} pieces e h =
     record { same = ap (sets page at) (sym e); place = ap (λ r. at + length r) (sym e); kept = refl; fits = h }
 
-pub pending-two : {page : List ℕ} {at : ℕ} (first second : List ℕ) → Room page at (first ++ second)
-    → Pending page at (first ++ second) page at (first ∷ second ∷ [])
-pending-two first second h = pending-whole (first ∷ second ∷ []) (ap (λ r. first ++ r) (sym (append-nil second))) h
-
 module _ {page₀ : List ℕ} {at₀ : ℕ} {whole page : List ℕ} {at : ℕ} where
   -- there is room for the next piece
   pub pending-room : {piece : List ℕ} {rest : List (List ℕ)} → Pending page₀ at₀ whole page at (piece ∷ rest) → Room page at piece
@@ -54,7 +52,7 @@ module _ {page₀ : List ℕ} {at₀ : ℕ} {whole page : List ℕ} {at : ℕ} w
   pub pending-after : {piece : List ℕ} {rest : List (List ℕ)} {page′ : List ℕ} {at′ : ℕ} → Pending page₀ at₀ whole page at (piece ∷ rest)
       → Written page at piece page′ at′ → Pending page₀ at₀ whole page′ at′ rest
   pending-after {piece} {rest} {page′} {at′} l w =
-      let e : page′ ≡ sets page at piece = w .filled ∙ onto-sets page at piece (pending-room l) in
+      let e : page′ ≡ sets page at piece = w .filled ∙ bytes-set page at piece (pending-room l) in
       record {
         same = ap₂ (λ p k. sets p k (joined rest)) e (w .moved) ∙ sets-append page at piece (joined rest) ∙ l .same;
         place = omega (arith, l .place, w .moved, length-append piece (joined rest));
@@ -62,70 +60,77 @@ module _ {page₀ : List ℕ} {at₀ : ℕ} {whole page : List ℕ} {at : ℕ} w
         fits = l .fits;
       }
 
-  -- a word and a number are one piece
-  pub pending-pair : {word number : List ℕ} {rest : List (List ℕ)} → Pending page₀ at₀ whole page at (word ∷ number ∷ rest)
-      → Pending page₀ at₀ whole page at ((word ++ number) ∷ rest)
-  pending-pair {word} {number} {rest} l =
-      let e : word ++ number ++ joined rest ≡ word ++ (number ++ joined rest) = append-assoc word number (joined rest) in
-      record { same = ap (sets page at) e ∙ l .same; place = ap (λ r. at + length r) e ∙ l .place; kept = l .kept; fits = l .fits }
-
   -- one byte is stored
   pub pending-byte : {b : ℕ} {bytes : List ℕ} {rest : List (List ℕ)} → Pending page₀ at₀ whole page at ((b ∷ bytes) ∷ rest)
       → Pending page₀ at₀ whole (set page at b) (suc at) (bytes ∷ rest)
   pending-byte {b} l = record { same = l .same; place = omega (arith, l .place); kept = length-set page at b ∙ l .kept; fits = l .fits }
 
-  -- nothing is left
-  pub pending-nothing : Pending page₀ at₀ whole page at [] → Written page₀ at₀ whole page at
-  pending-nothing l = record { filled = l .same ∙ sym (onto-sets page₀ at₀ whole (l .fits)); moved = omega (arith, l .place) }
-
   pub pending-empty : {rest : List (List ℕ)} → Pending page₀ at₀ whole page at ([] ∷ rest) → Pending page₀ at₀ whole page at rest
   pending-empty l = record { same = l .same; place = l .place; kept = l .kept; fits = l .fits }
 
--- ---- digits
-module _ (k n : ℕ) where
-  within-one : n < 10 → digitsWithin (suc k) n ≡ digit n ∷ []
-  unfolding digitsWithin
-  within-one h = rw (lt-ltb n 10 h)
+  -- nothing is left
+  pub pending-nothing : Pending page₀ at₀ whole page at [] → Written page₀ at₀ whole page at
+  pending-nothing l = record { filled = l .same ∙ sym (bytes-set page₀ at₀ whole (l .fits)); moved = omega (arith, l .place) }
 
-  within-more : 10 ≤ n → digitsWithin (suc k) n ≡ digitsWithin k (n / 10) ++ (digit (n % 10) ∷ [])
-  unfolding digitsWithin
-  within-more h = rw (le-ltb n 10 h)
+-- ---- two pieces
+pub record Parts (whole first second : List ℕ) : Type 0 where
+  pub same : whole ≡ first ++ second
 
--- more room than enough changes nothing
-within-enough : (k m n : ℕ) → n < k → n < m → digitsWithin k n ≡ digitsWithin m n
-within-enough zero m n h g = absurd (omega arith)
-within-enough (suc k) zero n h g = absurd (omega arith)
-within-enough (suc k) (suc m) n h g = elim (decLe 10 n) [
-  | yes l ↦ within-more k n l ∙ ap (λ r. r ++ (digit (n % 10) ∷ [])) (within-enough k m (n / 10) (omega arith) (omega arith)) ∙ sym (within-more m n l)
-  | no g ↦ within-one k n (omega arith) ∙ sym (within-one m n (omega arith))
-]
+module _ {page : List ℕ} {at : ℕ} {whole first second : List ℕ} (parts : Parts whole first second) (room : Room page at whole) where
+  begun : Pending page at whole page at (first ∷ second ∷ [])
+  begun = pending-whole (first ∷ second ∷ []) (parts .same ∙ ap (λ r. first ++ r) (sym (append-nil second))) room
 
-pub digits-one : (n : ℕ) → n < 10 → digits n ≡ digit n ∷ []
-unfolding digits
-digits-one n h = within-one n n h
+  pub first-room : Room page at first
+  first-room = pending-room begun
 
--- the last digit is the remainder by ten
-pub digits-last : (n : ℕ) → 10 ≤ n → digits n ≡ digits (n / 10) ++ digits (n % 10)
-unfolding digits
-digits-last n h =
-    within-more n n h
-    ∙ ap₂ (λ r s. r ++ s) (within-enough n (suc (n / 10)) (n / 10) (omega arith) (omega arith)) (sym (within-one (n % 10) (n % 10) (omega arith)))
+  module _ {page′ : List ℕ} {at′ : ℕ} (done : Written page at first page′ at′) where
+    pub second-room : Room page′ at′ second
+    second-room = pending-room (pending-after begun done)
 
--- a number is its front digits and then its last one
-module _ {page : List ℕ} {at n : ℕ} (many : 10 ≤ n) (room : Room page at (digits n)) where
-  number-left : Pending page at (digits n) page at (digits (n / 10) ∷ digits (n % 10) ∷ [])
-  number-left =
-      pending-whole (digits (n / 10) ∷ digits (n % 10) ∷ []) (digits-last n many ∙ ap (λ r. digits (n / 10) ++ r) (sym (append-nil (digits (n % 10))))) room
+    pub both-written : {page″ : List ℕ} {at″ : ℕ} → Written page′ at′ second page″ at″ → Written page at whole page″ at″
+    both-written last = pending-nothing (pending-after (pending-after begun done) last)
 
-  pub front-room : Room page at (digits (n / 10))
-  front-room = pending-room number-left
+-- a line is a word and a number, and then the line of the form's rest; or it is its last word and the line feed
+pub pair-line : (w : List ℕ) (n : ℕ) (f : List Piece) (ns : List ℕ) → Parts (formLine (word w ∷ number ∷ f) (n ∷ ns)) (w ++ digits n) (formLine f ns)
+unfolding written
+pair-line w n f ns = record { same = simp append-assoc }
 
-  module _ {page′ : List ℕ} {at′ : ℕ} (front : Written page at (digits (n / 10)) page′ at′) where
-    pub last-room : Room page′ at′ (digits (n % 10))
-    last-room = pending-room (pending-after number-left front)
+pub word-line : (w : List ℕ) → Parts (formLine (word w ∷ []) []) w (lineFeed ∷ [])
+unfolding written
+word-line w = record { same = ap (λ r. r ++ (lineFeed ∷ [])) (append-nil w) }
 
-    pub number-written : {page″ : List ℕ} {at″ : ℕ} → Written page′ at′ (digits (n % 10)) page″ at″ → Written page at (digits n) page″ at″
-    number-written last = pending-nothing (pending-after (pending-after number-left front) last)
+-- a line is its pairs of a word and a number, and then its end
+abbrev pub pairsForm : List (List ℕ × ℕ) → List ℕ → List Piece
+pairsForm [] end = word end ∷ []
+pairsForm (p ∷ ps) end = word (p .0) ∷ number ∷ pairsForm ps end
+
+abbrev pub pairsNumbers : List (List ℕ × ℕ) → List ℕ
+pairsNumbers [] = []
+pairsNumbers (p ∷ ps) = p .1 ∷ pairsNumbers ps
+
+abbrev pub pieces : List (List ℕ × ℕ) → List ℕ → List (List ℕ)
+pieces [] end = formLine (word end ∷ []) [] ∷ []
+pieces (p ∷ ps) end = (p .0 ++ digits (p .1)) ∷ pieces ps end
+
+pub line-pieces : (ps : List (List ℕ × ℕ)) (end : List ℕ) → formLine (pairsForm ps end) (pairsNumbers ps) ≡ joined (pieces ps end)
+line-pieces [] end = sym (append-nil (formLine (word end ∷ []) []))
+line-pieces (p ∷ ps) end =
+    pair-line (p .0) (p .1) (pairsForm ps end) (pairsNumbers ps) .same ∙ ap (λ r. (p .0 ++ digits (p .1)) ++ r) (line-pieces ps end)
+
+-- the same with each word and each number by itself
+abbrev pub words : List (List ℕ × ℕ) → List ℕ → List (List ℕ)
+words [] end = formLine (word end ∷ []) [] ∷ []
+words (p ∷ ps) end = p .0 ∷ digits (p .1) ∷ words ps end
+
+pub line-words : (ps : List (List ℕ × ℕ)) (end : List ℕ) → formLine (pairsForm ps end) (pairsNumbers ps) ≡ joined (words ps end)
+line-words [] end = sym (append-nil (formLine (word end ∷ []) []))
+line-words (p ∷ ps) end =
+    pair-line (p .0) (p .1) (pairsForm ps end) (pairsNumbers ps) .same ∙ append-assoc (p .0) (digits (p .1)) (formLine (pairsForm ps end) (pairsNumbers ps))
+    ∙ ap (λ r. p .0 ++ (digits (p .1) ++ r)) (line-words ps end)
+
+-- a number is its front digits and its last one
+pub number-parts : (n : ℕ) → 10 ≤ n → Parts (digits n) (digits (n / 10)) (digits (n % 10))
+number-parts n h = record { same = digits-last n h }
 
 -- ---- lines one after another
 
@@ -143,55 +148,14 @@ lines-end {page₀} {at₀} {whole} {page} {at} f i n h l =
     let e : n - i ≡ 0 = omega arith in
     pending-nothing (subst (λ k. Pending page₀ at₀ whole page at (map f (run i k))) e l)
 
--- ---- lengths
-pub length-one : (n : ℕ) → n < 10 → length (digits n) ≡ 1
-length-one n h = ap length (digits-one n h)
-
-pub length-more : (n : ℕ) → 10 ≤ n → length (digits n) ≡ suc (length (digits (n / 10)))
-length-more n h =
-    ap length (digits-last n h) ∙ length-append (digits (n / 10)) (digits (n % 10)) ∙ omega (arith, length-one (n % 10) (omega arith))
-
-pub length-two : (n : ℕ) → 10 ≤ n → n < 100 → length (digits n) ≡ 2
-length-two n h k = length-more n h ∙ ap suc (length-one (n / 10) (omega arith))
-
-pub length-three : (n : ℕ) → 100 ≤ n → n < 1000 → length (digits n) ≡ 3
-length-three n h k = length-more n (omega arith) ∙ ap suc (length-two (n / 10) (omega arith) (omega arith))
-
-pub length-four : (n : ℕ) → 1000 ≤ n → n < 10000 → length (digits n) ≡ 4
-length-four n h k = length-more n (omega arith) ∙ ap suc (length-three (n / 10) (omega arith) (omega arith))
-
-pub length-five : (n : ℕ) → 10000 ≤ n → n < 100000 → length (digits n) ≡ 5
-length-five n h k = length-more n (omega arith) ∙ ap suc (length-four (n / 10) (omega arith) (omega arith))
-
-pub fourNumbers-length : (first : List ℕ) (a : ℕ) (second : List ℕ) (b : ℕ) (third : List ℕ) (c d : ℕ)
-    → length (fourNumbers first a second b third c d)
-    ≡ length first + length second + length third + 4
-    + (length (digits a) + (length (digits b) + (length (digits c) + length (digits d))))
-unfolding fourNumbers text
-fourNumbers-length first a second b third c d = simp length-append (omega arith)
-
-pub oneNumber-length : (word : List ℕ) (a : ℕ) → length (oneNumber word a) ≡ length word + 2 + length (digits a)
-unfolding oneNumber text
-oneNumber-length word a = simp length-append (omega arith)
-
-pub boundLine-length : (word : List ℕ) (bound first last : ℕ)
-    → length (boundLine word bound first last) ≡ length word + 12 + (length (digits bound) + (length (digits first) + length (digits last)))
-unfolding boundLine text
-boundLine-length word bound first last = simp length-append (omega arith)
-
--- what is counted and the length of the lines from i to n make up the whole
-pub record Measured (f : ℕ → List ℕ) (whole : List ℕ) (n i total : ℕ) : Type 0 where
-  pub rest : total + length (joined (map f (run i (n - i)))) ≡ length whole
-
-pub measured-next : {f : ℕ → List ℕ} {whole : List ℕ} {n i total line : ℕ} → i < n → line ≡ length (f i) → Measured f whole n i total
-    → Measured f whole n (i + 1) (total + line)
-measured-next {f} {whole} {n} {i} {total} {line} h e m =
-    let k : n - i ≡ suc (n - (i + 1)) = omega arith in
-    let l = ap (λ k. length (joined (map f (run i k)))) k ∙ length-append (f i) (joined (map f (run (suc i) (n - (i + 1))))) in
-    let next = ap (λ k. length (joined (map f (run k (n - (i + 1)))))) (add-one i) in
-    record { rest = omega (arith, m .rest) }
-
-pub measured-end : {f : ℕ → List ℕ} {whole : List ℕ} {n i total : ℕ} → n ≤ i → Measured f whole n i total → total ≡ length whole
-measured-end {f} {whole} {n} {i} {total} h m =
-    let e : n - i ≡ 0 = omega arith in
-    omega (arith, m .rest, ap (λ k. length (joined (map f (run i k)))) e)
+-- ---- what was written stands between the two places
+pub written-part : {page : List ℕ} {at : ℕ} {bytes left : List ℕ} {next : ℕ} → Room page at bytes → Written page at bytes left next
+    → take (next - at) (drop at left) ≡ bytes
+unfolding withBytes
+written-part {page} {at} {bytes} {left} {next} room w =
+    let n : next - at ≡ length bytes = omega (arith, w .moved) in
+    let front : length (take at page) ≡ at = length-take-le at page (omega (arith, room .fits)) in
+    let e : drop at left ≡ bytes ++ drop (at + length bytes) page =
+    ap (drop at) (w .filled ∙ append-assoc (take at page) bytes (drop (at + length bytes) page))
+    ∙ drop-at (take at page) (bytes ++ drop (at + length bytes) page) at front in
+    ap₂ take n e ∙ take-at bytes (drop (at + length bytes) page) (length bytes) refl

@@ -1,1 +1,1 @@
-mod TallyLaws
+mod SlotCountLaws

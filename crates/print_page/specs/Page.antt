@@ -1,8 +1,8 @@
--- The answer page, line by line (document 01, "The sheet and the answer page"). Definitions only, over plain lists and functions:
+-- The answer page, line by line (docs/RULES.md, "Sheets and answers"). Definitions only, over plain lists and functions:
 -- the sheet's definitions go in for the plan, the narrowed windows, the least and greatest counts and the limits.
 use mathlib.Core.Path.{_≡_}
 use mathlib.Core.Bool.{cond}
-use mathlib.Core.List.{List, [], _∷_, _++_, map}
+use mathlib.Core.List.{List, [], _∷_, map}
 use Prim.Native.Nat.{ℕ, suc, _+_, _-_, _*_, _≤_, _<_}
 use lib.Dec.{ltb, eqb}
 use lib.ListN.{length, getD}
@@ -10,11 +10,12 @@ use lib.IntN.{ℤ, negℤ}
 use Rattle.integers.specs.Parts.{up, dn}
 use Rattle.lists.specs.Lists.{run, fromTo, howMany, joined}
 use Rattle.lists.specs.Values.{listOf}
-use Rattle.sheet.specs.Sizes.{maxSlots, maxUnits, maxCount}
+use Rattle.sheet.specs.Sizes.{maxSlots, maxUnits, maxCount, boundariesOf}
 use Rattle.network.specs.Network.{Weights, around}
 use Rattle.network.specs.Table.{entry, maxBoundaries}
 use Rattle.forms.specs.Words.{text}
-use Rattle.print_bytes.specs.Writing.{planHead, unitLine, slotLine, boundLine, shortfallLine}
+use Rattle.forms.specs.Form.{Piece, word, number}
+use Rattle.print_bytes.specs.Writing.{planHead, unitLine, slotLine, noneHead, atMostLine, atLeastLine, shortfallLine}
 
 -- ---- the page of a plan
 
@@ -25,10 +26,6 @@ unitLineAt slots earliest latest j = unitLine (suc j) (getD slots j 0) (getD ear
 unfoldable pub unitLines : List ℕ → List ℕ → List ℕ → List ℕ
 unitLines slots earliest latest = joined (map (unitLineAt slots earliest latest) (run 0 (length slots)))
 
--- the head of the page, and the lines of the units
-abbrev pub headAndUnits : List ℕ → List ℕ → List ℕ → List ℕ
-headAndUnits slots earliest latest = planHead (length slots) ++ unitLines slots earliest latest
-
 unfoldable pub slotLineAt : (ℕ → ℕ) → (ℕ → ℕ) → (ℕ → ℕ) → ℕ → List ℕ
 slotLineAt count least greatest t = slotLine t (count t) (least t) (greatest t)
 
@@ -36,17 +33,17 @@ unfoldable pub slotLines : ℕ → (ℕ → ℕ) → (ℕ → ℕ) → (ℕ → 
 slotLines span count least greatest = joined (map (slotLineAt count least greatest) (fromTo 1 span))
 
 -- the number of units that have a slot
-abbrev pub unitsIn : List ℕ → ℕ → ℕ
-unitsIn slots t = howMany (eqb t) slots
+abbrev pub unitsAt : List ℕ → ℕ → ℕ
+unitsAt slots t = howMany (eqb t) slots
 
 -- the number of units in each slot, from slot 0 on, which none has
-unfoldable pub tally : List ℕ → List ℕ
-tally slots = listOf maxBoundaries (unitsIn slots)
+unfoldable pub slotCounts : List ℕ → List ℕ
+slotCounts slots = listOf maxBoundaries (unitsAt slots)
 
 -- each unit's slot and narrowed window; each slot's count in this plan, and the least and the greatest over lawful plans
 unfoldable pub planPage : ℕ → List ℕ → List ℕ → List ℕ → (ℕ → ℕ) → (ℕ → ℕ) → List ℕ
 planPage span slots earliest latest least greatest =
-    joined (planHead (length slots) ∷ unitLines slots earliest latest ∷ slotLines span (unitsIn slots) least greatest ∷ [])
+    joined (planHead (length slots) ∷ unitLines slots earliest latest ∷ slotLines span (unitsAt slots) least greatest ∷ [])
 
 -- the least and the greatest count of a slot, from the finished table of w boundaries: slot t is the stretch from boundary t - 1 to boundary t
 abbrev pub leastFrom : ℕ → List ℤ → ℕ → ℕ
@@ -61,18 +58,22 @@ pub record Printable (span : ℕ) (plan first last : List ℕ) (table : List ℤ
   pub units : length plan ≤ maxUnits
   pub earliest : length first ≡ length plan
   pub latest : length last ≡ length plan
-  pub entries : (span + 1) * (span + 1) ≤ length table
+  pub entries : boundariesOf span * boundariesOf span ≤ length table
 
 -- the page of a plan, with the least and greatest counts of the finished table
 abbrev pub tablePage : ℕ → List ℕ → List ℕ → List ℕ → List ℤ → List ℕ
-tablePage span slots earliest latest table = planPage span slots earliest latest (leastFrom (span + 1) table) (greatestFrom (span + 1) table)
+tablePage span slots earliest latest table = planPage span slots earliest latest (leastFrom (boundariesOf span) table) (greatestFrom (boundariesOf span) table)
 
 -- ---- the page of a ring
+
+-- the form of a step's line, by its first word
+abbrev pub boundForm : List ℕ → List Piece
+boundForm bound = word bound ∷ number ∷ word (text " (slots ") ∷ number ∷ word (text " ") ∷ number ∷ word (text "))") ∷ []
 
 -- forward, the step's limit; backward, minus its limit
 unfoldable pub stepLine : Weights → ℕ → ℕ → List ℕ
 stepLine d a b =
-    cond (ltb a b) (boundLine (text "(at-most ") (up (d a b)) (suc a) b) (boundLine (text "(at-least ") (up (negℤ (d a b))) (suc b) a)
+    cond (ltb a b) (atMostLine (up (d a b)) (suc a) b) (atLeastLine (up (negℤ (d a b))) (suc b) a)
 
 -- the lines of the steps from a over a list of boundaries and on to e
 unfoldable pub stepLines : Weights → ℕ → List ℕ → ℕ → List (List ℕ)
@@ -84,16 +85,12 @@ unfoldable pub ringLines : Weights → List ℕ → List (List ℕ)
 ringLines d [] = []
 ringLines d (a ∷ bs) = stepLines d a bs a
 
--- the head of the page, and the lines of the steps
-abbrev pub headAndSteps : Weights → List ℕ → List ℕ
-headAndSteps d ring = text "(answer none)\n" ++ joined (ringLines d ring)
-
 -- minus the ring's sum
 abbrev pub shortfallOf : Weights → List ℕ → ℕ
 shortfallOf d ring = up (negℤ (around d ring))
 
 unfoldable pub nonePage : Weights → List ℕ → List ℕ
-nonePage d ring = joined (text "(answer none)\n" ∷ joined (ringLines d ring) ∷ shortfallLine (shortfallOf d ring) ∷ [])
+nonePage d ring = joined (noneHead ∷ joined (ringLines d ring) ∷ shortfallLine (shortfallOf d ring) ∷ [])
 
 -- a ring, and the table of the limits of w boundaries, as a call is given them
 pub record RingFits (w : ℕ) (limits : List ℤ) (ring : List ℕ) : Type 0 where
@@ -106,7 +103,10 @@ pub record RingFits (w : ℕ) (limits : List ℤ) (ring : List ℕ) : Type 0 whe
 
 -- ---- how long a page can be
 
--- the longest line of a unit, of a slot and of a step: units and counts have at most three digits, slots at most two
+-- the longest head, and the longest line of a unit, of a slot and of a step: units and counts have at most three digits, slots at most two
+abbrev pub maxHead : ℕ
+maxHead = 18
+
 abbrev pub maxUnitLine : ℕ
 maxUnitLine = 37
 
@@ -116,6 +116,10 @@ maxSlotLine = 38
 abbrev pub maxStepLine : ℕ
 maxStepLine = 29
 
--- the head, 300 units and 48 slots; the page of a ring is shorter
+-- the head, 300 units and 48 slots
 abbrev pub maxPage : ℕ
-maxPage = 18 + (maxUnits * maxUnitLine + maxSlots * maxSlotLine)
+maxPage = maxHead + (maxUnits * maxUnitLine + maxSlots * maxSlotLine)
+
+-- the page of a ring: the head, a step for each boundary, and the shortfall, which is no longer than a head
+abbrev pub maxRingPage : ℕ
+maxRingPage = maxHead + (maxBoundaries * maxStepLine + maxHead)

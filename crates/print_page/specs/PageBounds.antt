@@ -1,26 +1,23 @@
 -- No answer page of an accepted sheet is longer than maxPage, so a page of that length never refuses one.
--- Key idea: a number below ten to the k has at most k digits, so a line is no longer than its words and so many digits, and a page no longer than so
--- many lines.
+-- Key idea: a line is no longer than its form's words and so many digits (`line-short`), and a page no longer than so many lines.
 use mathlib.Core.Path.{_≡_, refl, ap}
 use mathlib.Core.Logic.{_⊎_, inl, inr, ⊎-elim}
-use mathlib.Core.Bool.{Bool, true, false, _&&_, not}
+use mathlib.Core.Bool.{_&&_}
 use mathlib.Core.List.{List, [], _∷_, map, List·Memᴰ·head, List·Memᴰ·tail, List·Memᴰ·not-nil, List·Memᴰ·cases-cons}
 use Prim.Native.Nat.{ℕ, zero, suc, _+_, _-_, _*_, _≤_, _<_}
 use native.Mathlib.Omega.{arith}
 use native.Mathlib.Nat.{suc-mul}
 use native.Mathlib.Decide.{decLe}
-use lib.Dec.{T, eqb, leb, leb→le, eqb-refl}
+use lib.Dec.{T, eqb}
 use lib.ListN.{length, getD, length-append, List·getD-eq-default}
-use lib.IntN.{ℤ, pos, _+ℤ_}
-use lib.Signed.{ltZ}
+use lib.IntN.{ℤ, _+ℤ_}
 use Rattle.integers.specs.Parts.{up, dn, sum, neg, apart}
-use Rattle.lists.specs.Lists.{run, joined, every, least, greatest}
-use Rattle.lists.specs.Members.{In, left, right, in-keep, in-map, every-in}
+use Rattle.lists.specs.Lists.{run, joined, least, greatest}
+use Rattle.lists.specs.Members.{In, in-keep, in-map}
 use Rattle.lists.specs.Extremes.{least-in, greatest-in}
 use Rattle.lists.specs.Counts.{howMany-count, count-most}
-use Rattle.network.specs.Network.{Weights, via, around, distinct, lowestFirst, isNegativeCycle}
-use Rattle.network.specs.NetworkLaws.{Upto, upto-of-every}
-use Rattle.network_cycles.specs.CycleLaws.{Distinct, distinct-length}
+use Rattle.network.specs.Network.{Weights, via}
+use Rattle.network.specs.NetworkLaws.{Upto, distinct-length, cycle-read}
 use Rattle.network.specs.Table.{maxBoundaries}
 use Rattle.sheet.specs.Sizes.{maxSlots, maxUnits, maxCount}
 use Rattle.sheet.specs.Sheet.{Sheet, top, limit, isRing, countIn, lawfulPlans, leastIn, greatestIn, earliest, latest}
@@ -31,54 +28,41 @@ use Rattle.limits.specs.LimitTableLaws.{limit-small}
 use Rattle.sheet.specs.Questions.{accepted}
 use Rattle.sheet.specs.QuestionLaws.{accepted-sized, accepted-valid}
 use Rattle.forms.specs.Words.{text}
-use Rattle.print_bytes.specs.Writing.{digits, oneNumber, fourNumbers, planHead, unitLine, slotLine}
-use Rattle.print_bytes.specs.WritingLaws.{length-one, length-two, length-three, length-four, length-five, oneNumber-length, fourNumbers-length, boundLine-length}
-use Rattle.print_page.specs.Page.{unitLineAt, unitLines, slotLineAt, slotLines, unitsIn, planPage, maxUnitLine, maxSlotLine}
-use Rattle.print_page.specs.Page.{stepLine, stepLines, ringLines, shortfallOf, nonePage, maxStepLine, maxPage}
-use Rattle.print_page.specs.PageLaws.{three-length, step-forward, step-backward, nonePage-length}
-
--- ---- digits
-one-at-most : (n : ℕ) → n < 10 → length (digits n) ≤ 1
-one-at-most n h = omega (arith, length-one n h)
-
-two-at-most : (n : ℕ) → n < 100 → length (digits n) ≤ 2
-two-at-most n h = elim (decLe 10 n) [ yes l ↦ omega (arith, length-two n l h) | no g ↦ omega (arith, one-at-most n (omega arith)) ]
-
-three-at-most : (n : ℕ) → n < 1000 → length (digits n) ≤ 3
-three-at-most n h = elim (decLe 100 n) [ yes l ↦ omega (arith, length-three n l h) | no g ↦ omega (arith, two-at-most n (omega arith)) ]
-
-four-at-most : (n : ℕ) → n < 10000 → length (digits n) ≤ 4
-four-at-most n h = elim (decLe 1000 n) [ yes l ↦ omega (arith, length-four n l h) | no g ↦ omega (arith, three-at-most n (omega arith)) ]
-
-pub five-at-most : (n : ℕ) → n < 100000 → length (digits n) ≤ 5
-five-at-most n h = elim (decLe 10000 n) [ yes l ↦ omega (arith, length-five n l h) | no g ↦ omega (arith, four-at-most n (omega arith)) ]
+use Rattle.forms.specs.Forms.{planHeadForm, unitLineForm, slotLineForm, noneHeadForm, atMostForm, atLeastForm, shortfallForm}
+use Rattle.forms.specs.DecimalLaws.{line-short}
+use Rattle.print_bytes.specs.Writing.{planHead, unitLine, slotLine, noneHead, atMostLine, atLeastLine, shortfallLine}
+use Rattle.print_page.specs.Page.{unitLineAt, unitLines, slotLineAt, slotLines, unitsAt, planPage, maxHead, maxUnitLine, maxSlotLine}
+use Rattle.print_page.specs.Page.{stepLine, stepLines, ringLines, shortfallOf, nonePage, maxStepLine, maxPage, maxRingPage}
+use Rattle.print_page.specs.PageLaws.{three-length, step-forward, step-backward}
 
 -- ---- lines
 unitLine-short : (u x e l : ℕ) → u < 1000 → x < 100 → e < 100 → l < 100 → length (unitLine u x e l) ≤ maxUnitLine
-unfolding unitLine fourNumbers text
-unitLine-short u x e l hu hx he hl = omega (
-  arith,
-  fourNumbers-length (text "(unit ") u (text " (slot ") x (text ") (between ") e l,
-  three-at-most u hu,
-  two-at-most x hx,
-  two-at-most e he,
-  two-at-most l hl,
-)
+unfolding unitLine text
+unitLine-short u x e l hu hx he hl = line-short unitLineForm (u ∷ x ∷ e ∷ l ∷ []) (3 ∷ 2 ∷ 2 ∷ 2 ∷ []) (hu, (hx, (he, (hl, tt))))
 
 slotLine-short : (t c l g : ℕ) → t < 100 → c < 1000 → l < 1000 → g < 1000 → length (slotLine t c l g) ≤ maxSlotLine
-unfolding slotLine fourNumbers text
-slotLine-short t c l g ht hc hl hg = omega (
-  arith,
-  fourNumbers-length (text "(slot ") t (text " (count ") c (text ") (range ") l g,
-  two-at-most t ht,
-  three-at-most c hc,
-  three-at-most l hl,
-  three-at-most g hg,
-)
+unfolding slotLine text
+slotLine-short t c l g ht hc hl hg = line-short slotLineForm (t ∷ c ∷ l ∷ g ∷ []) (2 ∷ 3 ∷ 3 ∷ 3 ∷ []) (ht, (hc, (hl, (hg, tt))))
 
-head-short : (n : ℕ) → n < 1000 → length (planHead n) ≤ 18
-unfolding planHead oneNumber text
-head-short n h = omega (arith, oneNumber-length (text "(answer plan ") n, three-at-most n h)
+head-short : (n : ℕ) → n < 1000 → length (planHead n) ≤ maxHead
+unfolding planHead text
+head-short n h = line-short planHeadForm (n ∷ []) (3 ∷ []) (h, tt)
+
+atMost-short : (k a b : ℕ) → k < 1000 → a < 100 → b < 100 → length (atMostLine k a b) ≤ maxStepLine
+unfolding atMostLine text
+atMost-short k a b hk ha hb = omega (arith, line-short atMostForm (k ∷ a ∷ b ∷ []) (3 ∷ 2 ∷ 2 ∷ []) (hk, (ha, (hb, tt))))
+
+atLeast-short : (k a b : ℕ) → k < 1000 → a < 100 → b < 100 → length (atLeastLine k a b) ≤ maxStepLine
+unfolding atLeastLine text
+atLeast-short k a b hk ha hb = line-short atLeastForm (k ∷ a ∷ b ∷ []) (3 ∷ 2 ∷ 2 ∷ []) (hk, (ha, (hb, tt)))
+
+noneHead-short : length noneHead ≤ maxHead
+unfolding noneHead text
+noneHead-short = omega (arith, line-short noneHeadForm [] [] tt)
+
+shortfall-short : (k : ℕ) → k < 100000 → length (shortfallLine k) ≤ maxHead
+unfolding shortfallLine text
+shortfall-short k h = line-short shortfallForm (k ∷ []) (5 ∷ []) (h, tt)
 
 lines-short : (f : ℕ → List ℕ) (m i k : ℕ) → ((j : ℕ) → i ≤ j → j < i + k → length (f j) ≤ m) → length (joined (map f (run i k))) ≤ k * m
 lines-short f m i zero h = omega arith
@@ -107,18 +91,18 @@ module _ {span : ℕ} {slots first last : List ℕ} {low high : ℕ → ℕ} (s 
       (λ j p q. let b = s .seats j in unitLine-short (suc j) (getD slots j 0) (getD first j 0) (getD last j 0)
       (omega (arith, s .units)) (omega arith) (omega arith) (omega arith))
 
-  slots-short : length (slotLines span (unitsIn slots) low high) ≤ span * maxSlotLine
+  slots-short : length (slotLines span (unitsAt slots) low high) ≤ span * maxSlotLine
   unfolding slotLines slotLineAt
   slots-short =
       let e : suc span - 1 ≡ span = omega arith in
       omega (
         arith,
         ap (λ k. k * maxSlotLine) e,
-        lines-short (slotLineAt (unitsIn slots) low high) maxSlotLine 1 (suc span - 1)
+        lines-short (slotLineAt (unitsAt slots) low high) maxSlotLine 1 (suc span - 1)
             (λ t p q.
             let b = s .ranges t in
             let c = howMany-count (eqb t) 0 slots in
-            slotLine-short t (unitsIn slots t) (low t) (high t) (omega (arith, s .spans))
+            slotLine-short t (unitsAt slots t) (low t) (high t) (omega (arith, s .spans))
             (omega (arith, c, count-most (length slots) (λ i. eqb t (getD slots i 0)), s .units)) (omega arith) (omega arith)),
       )
 
@@ -127,7 +111,7 @@ module _ {span : ℕ} {slots first last : List ℕ} {low high : ℕ → ℕ} (s 
   planPage-short =
       omega (
         arith,
-        three-length (planHead (length slots)) (unitLines slots first last) (slotLines span (unitsIn slots) low high),
+        three-length (planHead (length slots)) (unitLines slots first last) (slotLines span (unitsAt slots) low high),
         units-short,
         slots-short,
         head-short (length slots) (omega (arith, s .units)),
@@ -207,32 +191,19 @@ module _ (s : Sheet) (ok : T (accepted s)) where
 
 -- limits within 300 of 0, between boundaries within 48
 pub record SmallSteps (d : Weights) : Type 0 where
-  pub at : (a b : ℕ) → a ≤ maxSlots → b ≤ maxSlots → (up (d a b) ≤ maxCount) × (dn (d a b) ≤ maxCount)
+  pub each : (a b : ℕ) → a ≤ maxSlots → b ≤ maxSlots → (up (d a b) ≤ maxCount) × (dn (d a b) ≤ maxCount)
 
 fall-sum : (x y : ℤ) → dn (x +ℤ y) ≤ dn x + dn y
 fall-sum x y = ⊎-elim (λ e. omega (arith, sum x y)) (λ e. omega arith) (apart (x +ℤ y))
 
 module _ (d : Weights) (small : SmallSteps d) where
   stepLine-short : (a b : ℕ) → a ≤ maxSlots → b ≤ maxSlots → length (stepLine d a b) ≤ maxStepLine
-  unfolding text
-  stepLine-short a b ha hb = elim (decLe b a) [
-    | yes l ↦ omega (
-      arith,
-      ap length (step-backward d a b l),
-      boundLine-length (text "(at-least ") (dn (d a b)) (suc b) a,
-      three-at-most (dn (d a b)) (omega (arith, small .at a b ha hb)),
-      two-at-most (suc b) (omega arith),
-      two-at-most a (omega arith),
-    )
-    | no g ↦ omega (
-      arith,
-      ap length (step-forward d a b (omega arith)),
-      boundLine-length (text "(at-most ") (up (d a b)) (suc a) b,
-      three-at-most (up (d a b)) (omega (arith, small .at a b ha hb)),
-      two-at-most (suc a) (omega arith),
-      two-at-most b (omega arith),
-    )
-  ]
+  stepLine-short a b ha hb =
+      let l = small .each a b ha hb in
+      elim (decLe b a) [
+        | yes h ↦ rw (step-backward d a b h) (atLeast-short (dn (d a b)) (suc b) a (omega arith) (omega arith) (omega arith))
+        | no g ↦ rw (step-forward d a b (omega arith)) (atMost-short (up (d a b)) (suc a) b (omega arith) (omega arith) (omega arith))
+      ]
 
   stepLines-short : (a : ℕ) (bs : List ℕ) (e : ℕ) → a ≤ maxSlots → ((b : ℕ) → In b bs → b ≤ maxSlots) → e ≤ maxSlots
       → length (joined (stepLines d a bs e)) ≤ suc (length bs) * maxStepLine
@@ -249,33 +220,25 @@ module _ (d : Weights) (small : SmallSteps d) where
 
   fall-short : (a : ℕ) (bs : List ℕ) (e : ℕ) → a ≤ maxSlots → ((b : ℕ) → In b bs → b ≤ maxSlots) → e ≤ maxSlots
       → dn (via d a bs e) ≤ suc (length bs) * maxCount
-  fall-short a [] e ha h he = omega (arith, small .at a e ha he)
+  fall-short a [] e ha h he = omega (arith, small .each a e ha he)
   fall-short a (b ∷ bs) e ha h he =
       let hb = h b (List·Memᴰ·head refl) in
-      omega (arith, fall-sum (d a b) (via d b bs e), small .at a b ha hb, fall-short b bs e hb (λ c m. h c (List·Memᴰ·tail m)) he)
+      omega (arith, fall-sum (d a b) (via d b bs e), small .each a b ha hb, fall-short b bs e hb (λ c m. h c (List·Memᴰ·tail m)) he)
 
-  pub nonePage-short : (ring : List ℕ) → length ring ≤ maxBoundaries → ((b : ℕ) → In b ring → b ≤ maxSlots) → length (nonePage d ring) ≤ maxPage
-  unfolding ringLines
-  nonePage-short [] few h = omega (arith, nonePage-length d [], one-at-most 0 (omega arith))
+  pub nonePage-short : (ring : List ℕ) → length ring ≤ maxBoundaries → ((b : ℕ) → In b ring → b ≤ maxSlots) → length (nonePage d ring) ≤ maxRingPage
+  unfolding nonePage ringLines
+  nonePage-short [] few h =
+      omega (arith, three-length noneHead [] (shortfallLine (shortfallOf d [])), noneHead-short, shortfall-short (shortfallOf d []) (omega arith))
   nonePage-short (a ∷ bs) few h =
       let ha = h a (List·Memᴰ·head refl) in
       let hs : (b : ℕ) → In b bs → b ≤ maxSlots = λ c m. h c (List·Memᴰ·tail m) in
       omega (
         arith,
-        nonePage-length d (a ∷ bs),
+        three-length noneHead (joined (stepLines d a bs a)) (shortfallLine (shortfallOf d (a ∷ bs))),
+        noneHead-short,
         stepLines-short a bs a ha hs ha,
-        five-at-most (shortfallOf d (a ∷ bs)) (omega (arith, neg (via d a bs a) .0, fall-short a bs a ha hs ha)),
+        shortfall-short (shortfallOf d (a ∷ bs)) (omega (arith, neg (via d a bs a) .0, fall-short a bs a ha hs ha)),
       )
-
-distinct-read : (c : List ℕ) → T (distinct c) → Distinct c
-distinct-read [] h = tt
-distinct-read (a ∷ bs) h =
-    let apart = left (every (λ b. not (eqb a b)) bs) (distinct bs) h in
-    (λ m. clash (eqb a a) (eqb-refl a) (every-in (λ b. not (eqb a b)) a bs m apart), distinct-read bs (right (every (λ b. not (eqb a b)) bs) (distinct bs) h))
-  where
-    clash : (b : Bool) → T b → T (not b) → ⊥
-    clash true p q = q
-    clash false p q = p
 
 -- what a ring of a sheet is, as printing asks it
 pub record RingRead (top : ℕ) (ring : List ℕ) : Type 0 where
@@ -284,18 +247,10 @@ pub record RingRead (top : ℕ) (ring : List ℕ) : Type 0 where
   pub upto : Upto top ring
 
 pub ring-read : (s : Sheet) (ring : List ℕ) → T (isRing s ring) → RingRead (top s) ring
-unfolding isRing isNegativeCycle
+unfolding isRing
 ring-read s ring h =
-    let e = every (λ b. leb b (top s)) ring in
-    let rest = lowestFirst ring && ltZ (around (limit s) ring) (pos 0) in
-    let h₁ = right (leb 2 (length ring)) (e && (distinct ring && rest)) h in
-    let inside = upto-of-every (top s) ring (left e (distinct ring && rest) h₁) in
-    let apart = left (distinct ring) rest (right e (distinct ring && rest) h₁) in
-    record {
-      long = leb→le 2 (length ring) (left (leb 2 (length ring)) (e && (distinct ring && rest)) h);
-      few = distinct-length (top s) ring inside (distinct-read ring apart);
-      upto = inside;
-    }
+    let r = cycle-read (top s) (limit s) ring h in
+    record { long = r .long; few = distinct-length (top s) ring (r .upto) (r .apart); upto = r .upto }
 
 upto-in : (most : ℕ) (ring : List ℕ) → Upto most ring → (b : ℕ) → In b ring → b ≤ most
 upto-in most [] h b m = absurd (List·Memᴰ·not-nil m)
@@ -303,11 +258,14 @@ upto-in most (a ∷ bs) h b m = ⊎-elim (λ e. omega (arith, h .0)) (upto-in mo
 
 module _ (s : Sheet) (ok : T (accepted s)) where
   limits-small : SmallSteps (limit s)
-  limits-small = record { at = λ a b ha hb. limit-small s ok a b }
+  limits-small = record { each = λ a b ha hb. limit-small s ok a b }
 
-  pub none-short : (ring : List ℕ) → T (isRing s ring) → length (nonePage (limit s) ring) ≤ maxPage
+  pub none-fits : (ring : List ℕ) → T (isRing s ring) → length (nonePage (limit s) ring) ≤ maxRingPage
   unfolding top
-  none-short ring h =
+  none-fits ring h =
       let r = ring-read s ring h in
       let most = accepted-sized s ok .slots .1 in
       nonePage-short (limit s) limits-small ring (omega (arith, r .few)) (λ b m. omega (arith, upto-in (top s) ring (r .upto) b m))
+
+  pub none-short : (ring : List ℕ) → T (isRing s ring) → length (nonePage (limit s) ring) ≤ maxPage
+  none-short ring h = omega (arith, none-fits ring h)

@@ -1,10 +1,10 @@
 -- Laws of the pages: which of their parts depend on what, the counts of a plan's slots, and the lines of a ring step by step.
--- Key idea: an index that walks a ring has behind it what is written, or counted, and before it the steps from its place on and back to the first boundary.
+-- Key idea: an index that walks a ring has behind it what is written, or added up, and before it the steps from its place on and back to the first boundary.
 use mathlib.Core.Path.{_≡_, refl, sym, ap, ap₂, _∙_}
 use mathlib.Core.Logic.{⊎-elim}
 use mathlib.Core.Bool.{cond}
-use mathlib.Core.List.{List, [], _∷_, append-nil}
-use Prim.Native.Nat.{ℕ, suc, _+_, _-_, _≤_, _<_}
+use mathlib.Core.List.{List, [], _∷_}
+use Prim.Native.Nat.{ℕ, suc, _+_, _-_, _*_, _≤_, _<_}
 use native.Mathlib.Omega.{arith}
 use native.Mathlib.Numerals.{add-one}
 use lib.ListN.{length, drop, getD, length-append, drop-of-length-le}
@@ -19,9 +19,9 @@ use Rattle.network.specs.Network.{Weights, via, around}
 use Rattle.network.specs.NetworkLaws.{Upto, via-same}
 use Rattle.network.specs.Table.{maxBoundaries}
 use Rattle.sheet.specs.Sizes.{maxSlots}
-use Rattle.forms.specs.Words.{text}
-use Rattle.print_bytes.specs.Writing.{digits, planHead, boundLine, shortfallLine}
-use Rattle.print_page.specs.Page.{unitsIn, tally, unitLines, slotLineAt, slotLines, planPage, stepLine, stepLines, ringLines, shortfallOf, nonePage}
+use Rattle.limits.specs.LentTableLaws.{place-inside}
+use Rattle.print_bytes.specs.Writing.{planHead, noneHead, atMostLine, atLeastLine, shortfallLine}
+use Rattle.print_page.specs.Page.{unitsAt, slotCounts, unitLines, slotLineAt, slotLines, planPage, stepLine, stepLines, ringLines, shortfallOf, nonePage, RingFits}
 
 -- a page is three parts
 pub three-length : (a b c : List ℕ) → length (joined (a ∷ b ∷ c ∷ [])) ≡ length a + (length b + length c)
@@ -29,7 +29,7 @@ three-length a b c = simp length-append (omega arith)
 
 -- ---- lines that agree slot by slot
 pub record SameSlots (span : ℕ) (f g : ℕ → ℕ) : Type 0 where
-  pub at : (t : ℕ) → 1 ≤ t → t ≤ span → f t ≡ g t
+  pub each : (t : ℕ) → 1 ≤ t → t ≤ span → f t ≡ g t
 
 pub slotLines-same : (span : ℕ) {count count′ least least′ greatest greatest′ : ℕ → ℕ} → SameSlots span count count′ → SameSlots span least least′
     → SameSlots span greatest greatest′ → slotLines span count least greatest ≡ slotLines span count′ least′ greatest′
@@ -37,7 +37,7 @@ unfolding slotLines slotLineAt
 slotLines-same span {count} {count′} {least} {least′} {greatest} {greatest′} c l g =
     ap joined
     (values-same (slotLineAt count least greatest) (slotLineAt count′ least′ greatest′) 1 (suc span - 1)
-    (λ t h k. let m : t ≤ span = omega arith in rw (c .at t h m, l .at t h m, g .at t h m)))
+    (λ t h k. let m : t ≤ span = omega arith in rw (c .each t h m, l .each t h m, g .each t h m)))
 
 -- a plan's page depends on the least and greatest counts of its slots alone
 pub planPage-same : (span : ℕ) (slots earliest latest : List ℕ) {least least′ greatest greatest′ : ℕ → ℕ} → SameSlots span least least′
@@ -45,45 +45,45 @@ pub planPage-same : (span : ℕ) (slots earliest latest : List ℕ) {least least
 unfolding planPage
 planPage-same span slots earliest latest l g =
     ap (λ ls. joined (planHead (length slots) ∷ unitLines slots earliest latest ∷ ls ∷ []))
-    (slotLines-same span (record { at = λ t h k. refl }) l g)
+    (slotLines-same span (record { each = λ t h k. refl }) l g)
 
--- ---- each slot's count, read from the tally
-pub tally-at : (plan : List ℕ) (t : ℕ) → t < maxBoundaries → getD (tally plan) t 0 ≡ unitsIn plan t
-unfolding tally
-tally-at plan t h = listOf-at (unitsIn plan) maxBoundaries t 0 h
+-- ---- each slot's count, read from the list of counts
+pub counts-at : (plan : List ℕ) (t : ℕ) → t < maxBoundaries → getD (slotCounts plan) t 0 ≡ unitsAt plan t
+unfolding slotCounts
+counts-at plan t h = listOf-at (unitsAt plan) maxBoundaries t 0 h
 
-pub tally-length : (plan : List ℕ) → length (tally plan) ≡ maxBoundaries
-unfolding tally
-tally-length plan = length-listOf (unitsIn plan) maxBoundaries
+pub counts-length : (plan : List ℕ) → length (slotCounts plan) ≡ maxBoundaries
+unfolding slotCounts
+counts-length plan = length-listOf (unitsAt plan) maxBoundaries
 
--- the page of a plan, with each slot's count read from the tally
-pub page-counted : (span : ℕ) (plan earliest latest counts : List ℕ) (least greatest : ℕ → ℕ) → span ≤ maxSlots → counts ≡ tally plan
+-- the page of a plan, with each slot's count read from the list of counts
+pub page-counted : (span : ℕ) (plan earliest latest counts : List ℕ) (least greatest : ℕ → ℕ) → span ≤ maxSlots → counts ≡ slotCounts plan
     → planPage span plan earliest latest least greatest
     ≡ joined (planHead (length plan) ∷ unitLines plan earliest latest ∷ slotLines span (λ t. getD counts t 0) least greatest ∷ [])
 unfolding planPage
 page-counted span plan earliest latest counts least greatest h e =
     ap (λ ls. joined (planHead (length plan) ∷ unitLines plan earliest latest ∷ ls ∷ []))
-    (slotLines-same span counted (record { at = λ t k m. refl }) (record { at = λ t k m. refl }))
+    (slotLines-same span counted (record { each = λ t k m. refl }) (record { each = λ t k m. refl }))
   where
-    counted : SameSlots span (unitsIn plan) (λ t. getD counts t 0)
-    counted = record { at = λ t k m. let small : t < maxBoundaries = omega arith in sym (ap (λ c. getD c t 0) e ∙ tally-at plan t small) }
-
-pub page-counted-length : (span : ℕ) (plan earliest latest counts : List ℕ) (least greatest : ℕ → ℕ) → span ≤ maxSlots → counts ≡ tally plan
-    → length (planPage span plan earliest latest least greatest)
-    ≡ length (planHead (length plan)) + (length (unitLines plan earliest latest) + length (slotLines span (λ t. getD counts t 0) least greatest))
-page-counted-length span plan earliest latest counts least greatest h e =
-    ap length (page-counted span plan earliest latest counts least greatest h e)
-    ∙ three-length (planHead (length plan)) (unitLines plan earliest latest) (slotLines span (λ t. getD counts t 0) least greatest)
+    counted : SameSlots span (unitsAt plan) (λ t. getD counts t 0)
+    counted = record { each = λ t k m. let small : t < maxBoundaries = omega arith in sym (ap (λ c. getD c t 0) e ∙ counts-at plan t small) }
 
 -- ---- the steps of a ring
+
+-- the entry of a step lies in the table
+pub step-inside : {w : ℕ} {limits : List ℤ} {ring : List ℕ} → RingFits w limits ring → (i j : ℕ) → i < length ring → j < length ring
+    → getD ring i 0 * w + getD ring j 0 < length limits
+step-inside {w} {limits} {ring} f i j hi hj =
+    omega (arith, place-inside w (getD ring i 0) (getD ring j 0) (f .inside i hi) (f .inside j hj), f .entries)
+
 module _ (d : Weights) (a b : ℕ) where
-  pub step-forward : a < b → stepLine d a b ≡ boundLine (text "(at-most ") (up (d a b)) (suc a) b
+  pub step-forward : a < b → stepLine d a b ≡ atMostLine (up (d a b)) (suc a) b
   unfolding stepLine
   step-forward h = rw (lt-ltb a b h)
 
-  pub step-backward : b ≤ a → stepLine d a b ≡ boundLine (text "(at-least ") (dn (d a b)) (suc b) a
+  pub step-backward : b ≤ a → stepLine d a b ≡ atLeastLine (dn (d a b)) (suc b) a
   unfolding stepLine
-  step-backward h = rw (le-ltb a b h) (ap (λ k. boundLine (text "(at-least ") k (suc b) a) (neg (d a b) .0))
+  step-backward h = rw (le-ltb a b h) (ap (λ k. atLeastLine k (suc b) a) (neg (d a b) .0))
 
 module _ (d : Weights) (ring : List ℕ) where
   -- all lines, from the first boundary on
@@ -140,46 +140,12 @@ module _ (d : Weights) (ring : List ℕ) where
       (λ z. omega (arith, w .rest, ap up e, ap dn e, neg (around d ring)))
       (apart (around d ring))
 
-  -- what is counted and the length of the lines of the steps from place i on make up the whole
-  pub record StepsMeasured (i total : ℕ) : Type 0 where
-    pub rest : total + length (joined (stepLines d (getD ring i 0) (drop (i + 1) ring) (getD ring 0 0))) ≡ length (joined (ringLines d ring))
-
-  pub steps-none : 1 ≤ length ring → StepsMeasured 0 0
-  steps-none h = record { rest = omega (arith, ap (λ ls. length (joined ls)) (ring-start h)) }
-
-  pub steps-next : (i total : ℕ) → i + 1 < length ring → StepsMeasured i total
-      → StepsMeasured (i + 1) (total + length (stepLine d (getD ring i 0) (getD ring (i + 1) 0)))
-  steps-next i total h m =
-      let a = getD ring i 0 in
-      let b = getD ring (i + 1) 0 in
-      let e = getD ring 0 0 in
-      record {
-        rest = omega (
-          arith,
-          m .rest,
-          ap (λ ls. length (joined ls)) (ring-next i a e h),
-          length-append (stepLine d a b) (joined (stepLines d b (drop (i + 1 + 1) ring) e)),
-        );
-      }
-
-  pub steps-all : (i total : ℕ) → length ring ≤ i + 1 → StepsMeasured i total
-      → total + length (stepLine d (getD ring i 0) (getD ring 0 0)) ≡ length (joined (ringLines d ring))
-  steps-all i total h m =
-      let a = getD ring i 0 in
-      let e = getD ring 0 0 in
-      omega (arith, m .rest, ap (λ ls. length (joined ls)) (ring-end i a e h), ap length (append-nil (stepLine d a e)))
-
-pub nonePage-length : (d : Weights) (ring : List ℕ)
-    → length (nonePage d ring) ≡ 14 + (length (joined (ringLines d ring)) + (13 + length (digits (shortfallOf d ring))))
-unfolding nonePage shortfallLine text
-nonePage-length d ring = simp length-append (omega arith)
-
 -- ---- the page of a ring depends on the limits of its own steps alone
 module _ (top : ℕ) (d e : Weights) (same : (a b : ℕ) → a ≤ top → b ≤ top → d a b ≡ e a b) where
   stepLine-same : (a b : ℕ) → a ≤ top → b ≤ top → stepLine d a b ≡ stepLine e a b
   unfolding stepLine
   stepLine-same a b ha hb =
-      ap (λ v. cond (ltb a b) (boundLine (text "(at-most ") (up v) (suc a) b) (boundLine (text "(at-least ") (up (negℤ v)) (suc b) a)) (same a b ha hb)
+      ap (λ v. cond (ltb a b) (atMostLine (up v) (suc a) b) (atLeastLine (up (negℤ v)) (suc b) a)) (same a b ha hb)
 
   stepLines-same : (a : ℕ) (bs : List ℕ) (z : ℕ) → a ≤ top → Upto top bs → z ≤ top → stepLines d a bs z ≡ stepLines e a bs z
   unfolding stepLines
@@ -190,5 +156,5 @@ module _ (top : ℕ) (d e : Weights) (same : (a b : ℕ) → a ≤ top → b ≤
   unfolding nonePage ringLines
   nonePage-same [] h = refl
   nonePage-same (a ∷ bs) h =
-      ap₂ (λ ls k. joined (text "(answer none)\n" ∷ joined ls ∷ shortfallLine (up (negℤ k)) ∷ []))
+      ap₂ (λ ls k. joined (noneHead ∷ joined ls ∷ shortfallLine (up (negℤ k)) ∷ []))
       (stepLines-same a bs a (h .0) (h .1) (h .0)) (via-same top d e same a bs a (h .0) (h .1) (h .0))

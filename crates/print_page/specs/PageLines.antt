@@ -9,9 +9,9 @@ use lib.ListN.{getD, take, drop}
 use Rattle.lists.specs.Lists.{howMany}
 use Rattle.integers.specs.Parts.{up}
 use Rattle.network.specs.Network.{Weights}
-use Rattle.forms.specs.Form.{Piece, word, number, matches, numbers, value}
+use Rattle.forms.specs.Form.{Piece, matches, numbers, value}
+use Rattle.forms.specs.Forms.{planHeadForm, unitLineForm, slotLineForm, noneHeadForm, atMostForm, atLeastForm, shortfallForm}
 use Rattle.forms.specs.Lines.{lines}
-use Rattle.forms.specs.Words.{text}
 
 -- what a line says, with its numbers in their order
 pub data Said : Type 0 where
@@ -29,46 +29,20 @@ pub record Reading : Type 0 where
   pub form : List Piece
   pub says : (ℕ → ℕ) → Said
 
-abbrev reading : List Piece → ((ℕ → ℕ) → Said) → Reading
+abbrev pub reading : List Piece → ((ℕ → ℕ) → Said) → Reading
 reading f s = record { form = f; says = s }
 
--- (answer plan N)
-abbrev pub planReading : Reading
-planReading = reading (word (text "(answer plan ") ∷ number ∷ word (text ")") ∷ []) (λ n. plan (n 0))
-
--- (unit N (slot N) (between N N))
-abbrev pub unitReading : Reading
-unitReading =
-    reading
-    (word (text "(unit ") ∷ number ∷ word (text " (slot ") ∷ number ∷ word (text ") (between ") ∷ number ∷ word (text " ") ∷ number ∷ word (text "))") ∷ [])
-    (λ n. unit (n 0) (n 1) (n 2) (n 3))
-
--- (slot N (count N) (range N N))
-abbrev pub slotReading : Reading
-slotReading =
-    reading
-    (word (text "(slot ") ∷ number ∷ word (text " (count ") ∷ number ∷ word (text ") (range ") ∷ number ∷ word (text " ") ∷ number ∷ word (text "))") ∷ [])
-    (λ n. slot (n 0) (n 1) (n 2) (n 3))
-
--- (answer none)
-abbrev pub noneReading : Reading
-noneReading = reading (word (text "(answer none)") ∷ []) (λ n. none)
-
--- (at-most N (slots N N))
-abbrev pub atMostReading : Reading
-atMostReading =
-    reading (word (text "(at-most ") ∷ number ∷ word (text " (slots ") ∷ number ∷ word (text " ") ∷ number ∷ word (text "))") ∷ [])
-    (λ n. atMost (n 0) (n 1) (n 2))
-
--- (at-least N (slots N N))
-abbrev pub atLeastReading : Reading
-atLeastReading =
-    reading (word (text "(at-least ") ∷ number ∷ word (text " (slots ") ∷ number ∷ word (text " ") ∷ number ∷ word (text "))") ∷ [])
-    (λ n. atLeast (n 0) (n 1) (n 2))
-
--- (shortfall N)
-abbrev pub shortfallReading : Reading
-shortfallReading = reading (word (text "(shortfall ") ∷ number ∷ word (text ")") ∷ []) (λ n. shortfall (n 0))
+-- the lines of a page; no two of them start alike
+abbrev pub readings : List Reading
+readings =
+    reading planHeadForm (λ n. plan (n 0))
+    ∷ reading unitLineForm (λ n. unit (n 0) (n 1) (n 2) (n 3))
+    ∷ reading slotLineForm (λ n. slot (n 0) (n 1) (n 2) (n 3))
+    ∷ reading noneHeadForm (λ n. none)
+    ∷ reading atMostForm (λ n. atMost (n 0) (n 1) (n 2))
+    ∷ reading atLeastForm (λ n. atLeast (n 0) (n 1) (n 2))
+    ∷ reading shortfallForm (λ n. shortfall (n 0))
+    ∷ []
 
 -- what a line says by the first form it has
 unfoldable pub readBy : List Reading → List ℕ → Said
@@ -76,8 +50,7 @@ readBy [] l = other
 readBy (r ∷ rs) l = cond (matches (r .form) l) ((r .says) (λ i. getD (map value (numbers (r .form) l)) i 0)) (readBy rs l)
 
 abbrev pub readLine : List ℕ → Said
-readLine l =
-    readBy (planReading ∷ unitReading ∷ slotReading ∷ noneReading ∷ atMostReading ∷ atLeastReading ∷ shortfallReading ∷ []) l
+readLine l = readBy readings l
 
 -- what the lines of a text say
 unfoldable pub readLines : List ℕ → List Said

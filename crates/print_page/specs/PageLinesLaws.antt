@@ -1,79 +1,33 @@
 -- What is read on a page is what was written on it.
--- Key idea: each line is a form of words and numbers, written out and ended by a line feed. A form written out matches itself and gives its numbers back
--- (form), a line without a line feed inside is found again, and the digits of a number are worth the number.
+-- Key idea: each line is a form written out with the digits of its numbers and ended by a line feed. A form written out matches itself and gives its
+-- numbers back, a line without a line feed inside is found again, and no form starts as an earlier one does, which is one computed test (`clear`). So one
+-- law, `says`, reads every line.
 use mathlib.Core.Path.{_≡_, refl, sym, ap, ap₂, _∙_, subst}
 use mathlib.Core.Bool.{Bool, true, false, _&&_, not, cond}
 use mathlib.Core.Logic.{_⊎_, ⊎-elim, ⊎-map}
 use mathlib.Core.List.{List, [], _∷_, _++_, map, append-assoc, append-nil, List·Memᴰ·cases-cons, List·Memᴰ·append-cases}
-use Prim.Native.Nat.{ℕ, zero, suc, _+_, _-_, _*_, _/_, _%_, _≤_, _<_}
+use Prim.Native.Nat.{ℕ, zero, suc, _+_, _-_, _≤_, _<_}
 use native.Mathlib.Omega.{arith}
-use native.Mathlib.Decide.{decLe}
 use lib.Dec.{T, eqb, leb, ltb}
-use lib.ListN.{length, getD, take, drop}
-use lib.Seq.{length-take-le, take-at, drop-at}
+use lib.ListN.{length, getD}
 use lib.IntN.{negℤ}
-use borrow.Author.Tests.{ne-eqb, le-leb, leb-true}
-use Rattle.lists.specs.Members.{In, both, left, right, in-map, in-run}
+use borrow.Author.Tests.{ne-eqb, leb-true}
+use Rattle.lists.specs.Members.{In, both, left, right, in-map, in-run, and-left}
 use Rattle.lists.specs.Values.{listOf-is}
 use Rattle.lists.specs.Lists.{run, fromTo, every, howMany, oneIf, joined}
 use Rattle.integers.specs.Parts.{up}
 use Rattle.network.specs.Network.{Weights}
-use Rattle.forms.specs.Words.{lineFeed, zeroDigit}
-use Rattle.forms.specs.Form.{Piece, word, number, isDigit, some, matches, numbers, written, value, valueFrom}
-use Rattle.forms.specs.FormLaws.{and-left, Digits, Number, Suits, separated, written-matches}
+use Rattle.forms.specs.Words.{lineFeed, text}
+use Rattle.forms.specs.Form.{Piece, word, number, isDigit, startsWith, matches, numbers, written, value}
+use Rattle.forms.specs.FormLaws.{Digits, Suits, separated, written-matches}
+use Rattle.forms.specs.Decimal.{digits, spell, formLine}
+use Rattle.forms.specs.DecimalLaws.{values-digits, numbersIn, suits-digits}
 use Rattle.forms.specs.Lines.{textLine, inFront, lines}
-use Rattle.forms.specs.Words.{text}
-use Rattle.print_bytes.specs.Writing.{onto, Room, Written, digit, digits, unitLine, slotLine, planHead, boundLine, shortfallLine}
-use Rattle.print_bytes.specs.WritingLaws.{digits-one, digits-last}
-use Rattle.print_page.specs.Page.{unitLineAt, unitLines, slotLineAt, slotLines, unitsIn, planPage, stepLine, stepLines, ringLines, shortfallOf, nonePage}
-use Rattle.print_page.specs.PageLines.{Said, plan, unit, slot, none, atMost, atLeast, shortfall, other}
-use Rattle.print_page.specs.PageLines.{Reading, planReading, unitReading, slotReading, noneReading, atMostReading, atLeastReading, shortfallReading}
+use Rattle.print_bytes.specs.Writing.{Room, Written, planHead, unitLine, slotLine, noneHead, atMostLine, atLeastLine, shortfallLine}
+use Rattle.print_bytes.specs.WritingLaws.{written-part}
+use Rattle.print_page.specs.Page.{unitLineAt, unitLines, slotLineAt, slotLines, unitsAt, planPage, stepLine, stepLines, ringLines, shortfallOf, nonePage}
+use Rattle.print_page.specs.PageLines.{Said, plan, unit, slot, none, atMost, atLeast, shortfall, other, Reading, reading, readings}
 use Rattle.print_page.specs.PageLines.{readBy, readLine, readLines, answerOn, isUnitWith, unitLinesWith, stepSaid, stepsSaid, ringSaid}
-
--- ---- the digits of a number
-
--- by the number of its digits: what holds of one digit, and of a number with one digit more, holds of every number
-digits-rule : (P : ℕ → List ℕ → Type 0) → ((n : ℕ) → n < 10 → P n (digit n ∷ []))
-    → ((n : ℕ) → 10 ≤ n → P (n / 10) (digits (n / 10)) → P n (digits (n / 10) ++ (digit (n % 10) ∷ []))) → (k n : ℕ) → n < k → P n (digits n)
-digits-rule P one more zero n h = absurd (omega arith)
-digits-rule P one more (suc k) n h = elim (decLe 10 n) [
-  | yes l ↦ subst (P n) (sym (digits-last n l ∙ ap (λ r. digits (n / 10) ++ r) (digits-one (n % 10) (omega arith))))
-      (more n l (digits-rule P one more k (n / 10) (omega arith)))
-  | no g ↦ subst (P n) (sym (digits-one n (omega arith))) (one n (omega arith))
-]
-
-value-append : (v : ℕ) (xs : List ℕ) (b : ℕ) → valueFrom v (xs ++ (b ∷ [])) ≡ valueFrom v xs * 10 + (b - zeroDigit)
-unfolding valueFrom
-value-append v [] b = refl
-value-append v (x ∷ xs) b = value-append (v * 10 + (x - zeroDigit)) xs b
-
--- they are worth the number
-pub value-digits : (n : ℕ) → value (digits n) ≡ n
-unfolding valueFrom
-value-digits n = digits-rule (λ m ds. value ds ≡ m)
-    (λ m h. omega arith)
-    (λ m h e. value-append 0 (digits (m / 10)) (digit (m % 10)) ∙ omega (arith, e))
-    (suc n) n (omega arith)
-
-is-digit : (d : ℕ) → d < 10 → isDigit (digit d) ≡ true
-is-digit d h = rw (le-leb 48 (48 + d) (omega arith), le-leb (48 + d) 57 (omega arith))
-
-digits-append : (xs : List ℕ) (b : ℕ) → Digits xs → isDigit b ≡ true → Digits (xs ++ (b ∷ []))
-digits-append [] b h e = (e, tt)
-digits-append (x ∷ xs) b h e = (h .0, digits-append xs b (h .1) e)
-
-some-append : (xs : List ℕ) (b : ℕ) → some (xs ++ (b ∷ [])) ≡ true
-some-append [] b = refl
-some-append (x ∷ xs) b = refl
-
-pub number-digits : (n : ℕ) → Number (digits n)
-number-digits n = digits-rule (λ m ds. Number ds)
-    (λ m h. record { digits = (is-digit m h, tt); not-empty = refl })
-    (λ m h e. record {
-      digits = digits-append (digits (m / 10)) (digit (m % 10)) (e .digits) (is-digit (m % 10) (omega arith));
-      not-empty = some-append (digits (m / 10)) (digit (m % 10));
-    })
-    (suc n) n (omega arith)
 
 -- ---- lines
 
@@ -135,137 +89,113 @@ read-next {line} {s} t l =
     ∙ ap (map (λ m. readLine (m .bytes))) (next-line (l .bytes) t (l .whole))
     ∙ ap (λ r. r ∷ map (λ m. readLine (m .bytes)) (lines t)) (l .read)
 
--- ---- each form, read
+-- ---- a form, read by the first reading that has it
 
-values-digits : (ns : List ℕ) → map value (map digits ns) ≡ ns
-values-digits [] = refl
-values-digits (n ∷ ns) = ap₂ (λ m ms. m ∷ ms) (value-digits n) (values-digits ns)
+-- two words that differ before either ends
+abbrev apart : List ℕ → List ℕ → Bool
+apart [] w = false
+apart (x ∷ v) [] = false
+apart (x ∷ v) (y ∷ w) = cond (eqb x y) (apart v w) true
 
--- a form written out with numbers
-abbrev spell : List Piece → List ℕ → List ℕ
-spell f ns = written f (map digits ns)
+apart-starts : (v w t : List ℕ) → T (apart v w) → startsWith v (w ++ t) ≡ false
+apart-starts [] w t h = absurd h
+apart-starts (x ∷ v) [] t h = absurd h
+apart-starts (x ∷ v) (y ∷ w) t h = go (eqb x y) (apart-starts v w t) h
+  where
+    go : (e : Bool) → (T (apart v w) → startsWith v (w ++ t) ≡ false) → T (cond e (apart v w) true) → (e && startsWith v (w ++ t)) ≡ false
+    go true rest h = rest h
+    go false rest h = refl
 
-module _ (r : Reading) (rs : List Reading) where
-  -- the line has the form: its numbers are read
-  has-form : (ns : List ℕ) → separated (r .form) ≡ true → Suits (r .form) (map digits ns)
-      → readBy (r ∷ rs) (spell (r .form) ns) ≡ (r .says) (λ i. getD ns i 0)
-  unfolding readBy
-  has-form ns sep suits =
-      let f = written-matches (r .form) (map digits ns) sep suits in
-      ap₂ (λ m v. cond m ((r .says) (λ i. getD (map value v) i 0)) (readBy rs (spell (r .form) ns))) (f .matched) (f .found)
-      ∙ ap (λ v. (r .says) (λ i. getD v i 0)) (values-digits ns)
+abbrev firstWord : List Piece → List ℕ
+firstWord [] = []
+firstWord (word w ∷ f) = w
+firstWord (number ∷ f) = []
 
-  -- its first word is another's: the next form is tried
-  lacks-form : (l : List ℕ) → matches (r .form) l ≡ false → readBy (r ∷ rs) l ≡ readBy rs l
-  unfolding readBy
-  lacks-form l e = ap (λ m. cond m ((r .says) (λ i. getD (map value (numbers (r .form) l)) i 0)) (readBy rs l)) e
+other-form : (g f : List Piece) (ns : List (List ℕ)) → T (apart (firstWord g) (firstWord f)) → matches g (written f ns) ≡ false
+unfolding matches written
+other-form [] f ns h = absurd h
+other-form (number ∷ g) f ns h = absurd h
+other-form (word [] ∷ g) f ns h = absurd h
+other-form (word (x ∷ v) ∷ g) [] ns h = absurd h
+other-form (word (x ∷ v) ∷ g) (number ∷ f) ns h = absurd h
+other-form (word (x ∷ v) ∷ g) (word w ∷ f) ns h = rw (apart-starts (x ∷ v) w (written f ns) h)
 
--- a line that is a form written out, and that is read by it
-says-form : (line : List ℕ) (r : Reading) (ns : List ℕ) → line ≡ spell (r .form) ns ++ (lineFeed ∷ []) → T (unbrokenForm (r .form))
-    → Suits (r .form) (map digits ns) → readLine (spell (r .form) ns) ≡ (r .says) (λ i. getD ns i 0) → Says line ((r .says) (λ i. getD ns i 0))
-says-form line r ns e u suits read =
-    record { bytes = spell (r .form) ns; ended = e; whole = unbroken-written (r .form) (map digits ns) u suits; read = read }
+abbrev nth : List Reading → ℕ → Reading
+nth [] i = reading [] (λ n. other)
+nth (r ∷ rs) zero = r
+nth (r ∷ rs) (suc i) = nth rs i
 
-module _ (n : ℕ) where
-  one-suits : Number (digits n) × Unit {0}
-  one-suits = (number-digits n, tt)
+-- the form at a place: no earlier one starts as it does, words end its numbers, and no line feed stands in it
+abbrev clear : List Reading → ℕ → Bool
+clear [] i = false
+clear (r ∷ rs) zero = separated (r .form) && unbrokenForm (r .form)
+clear (r ∷ rs) (suc i) = apart (firstWord (r .form)) (firstWord (nth rs i .form)) && clear rs i
 
-  pub plan-says : Says (planHead n) (plan n)
-  unfolding planHead text written
-  plan-says = says-form (planHead n) planReading (n ∷ []) (simp append-assoc) tt one-suits (has-form planReading _ (n ∷ []) refl one-suits)
+is-true : (b : Bool) → T b → b ≡ true
+is-true true h = refl
+is-true false h = absurd h
 
-  pub shortfall-says : Says (shortfallLine n) (shortfall n)
-  unfolding shortfallLine text written matches
-  shortfall-says =
-      let l = spell (shortfallReading .form) (n ∷ []) in
-      says-form (shortfallLine n) shortfallReading (n ∷ []) (simp append-assoc) tt one-suits
-      (lacks-form planReading _ l refl
-      ∙ (lacks-form unitReading _ l refl
-      ∙ (lacks-form slotReading _ l refl
-      ∙ (lacks-form noneReading _ l refl
-      ∙ (lacks-form atMostReading _ l refl ∙ (lacks-form atLeastReading _ l refl ∙ has-form shortfallReading _ (n ∷ []) refl one-suits))))))
+clear-unbroken : (rs : List Reading) (i : ℕ) → T (clear rs i) → T (unbrokenForm (nth rs i .form))
+clear-unbroken [] i h = absurd h
+clear-unbroken (r ∷ rs) zero h = right (separated (r .form)) (unbrokenForm (r .form)) h
+clear-unbroken (r ∷ rs) (suc i) h = clear-unbroken rs i (right (apart (firstWord (r .form)) (firstWord (nth rs i .form))) (clear rs i) h)
 
-module _ (a b c d : ℕ) where
-  abbrev four : List ℕ
-  four = a ∷ b ∷ c ∷ d ∷ []
+reads : (rs : List Reading) (i : ℕ) (ns : List ℕ) → T (clear rs i) → Suits (nth rs i .form) (map digits ns)
+    → readBy rs (spell (nth rs i .form) ns) ≡ (nth rs i .says) (λ j. getD ns j 0)
+unfolding readBy
+reads [] i ns h s = absurd h
+reads (r ∷ rs) zero ns h s =
+    let f = written-matches (r .form) (map digits ns) (is-true (separated (r .form)) (left (separated (r .form)) (unbrokenForm (r .form)) h)) s in
+    ap₂ (λ m v. cond m ((r .says) (λ i. getD (map value v) i 0)) (readBy rs (spell (r .form) ns))) (f .matched) (f .found)
+    ∙ ap (λ v. (r .says) (λ i. getD v i 0)) (values-digits ns)
+reads (r ∷ rs) (suc i) ns h s =
+    let l = spell (nth rs i .form) ns in
+    let differs = apart (firstWord (r .form)) (firstWord (nth rs i .form)) in
+    ap (λ m. cond m ((r .says) (λ i. getD (map value (numbers (r .form) l)) i 0)) (readBy rs l))
+    (other-form (r .form) (nth rs i .form) (map digits ns) (left differs (clear rs i) h))
+    ∙ reads rs i ns (right differs (clear rs i) h) s
 
-  four-suits : Number (digits a) × (Number (digits b) × (Number (digits c) × (Number (digits d) × Unit {0})))
-  four-suits = (number-digits a, (number-digits b, (number-digits c, (number-digits d, tt))))
+-- the line of the form at place i of the readings says what that reading has it say
+says : (i : ℕ) (ns : List ℕ) → T (clear readings i) → length ns ≡ numbersIn (nth readings i .form)
+    → Says (formLine (nth readings i .form) ns) ((nth readings i .says) (λ j. getD ns j 0))
+says i ns h e =
+    let s = suits-digits (nth readings i .form) ns e in
+    record {
+      bytes = spell (nth readings i .form) ns;
+      ended = refl;
+      whole = unbroken-written (nth readings i .form) (map digits ns) (clear-unbroken readings i h) s;
+      read = reads readings i ns h s;
+    }
 
-  pub unit-says : Says (unitLine a b c d) (unit a b c d)
-  unfolding unitLine text written matches
-  unit-says =
-      says-form (unitLine a b c d) unitReading four (simp append-assoc) tt four-suits
-      (lacks-form planReading _ (spell (unitReading .form) four) refl ∙ has-form unitReading _ four refl four-suits)
+plan-says : (n : ℕ) → Says (planHead n) (plan n)
+unfolding planHead text
+plan-says n = says 0 (n ∷ []) tt refl
 
-  pub slot-says : Says (slotLine a b c d) (slot a b c d)
-  unfolding slotLine text written matches
-  slot-says =
-      says-form (slotLine a b c d) slotReading four (simp append-assoc) tt four-suits
-      (lacks-form planReading _ (spell (slotReading .form) four) refl
-      ∙ (lacks-form unitReading _ (spell (slotReading .form) four) refl ∙ has-form slotReading _ four refl four-suits))
+unit-says : (a b c d : ℕ) → Says (unitLine a b c d) (unit a b c d)
+unfolding unitLine text
+unit-says a b c d = says 1 (a ∷ b ∷ c ∷ d ∷ []) tt refl
 
-pub none-says : Says (text "(answer none)\n") none
-unfolding text written matches
-none-says =
-    let l = spell (noneReading .form) [] in
-    says-form (text "(answer none)\n") noneReading [] refl tt tt
-    (lacks-form planReading _ l refl ∙ (lacks-form unitReading _ l refl ∙ (lacks-form slotReading _ l refl ∙ has-form noneReading _ [] refl tt)))
+slot-says : (a b c d : ℕ) → Says (slotLine a b c d) (slot a b c d)
+unfolding slotLine text
+slot-says a b c d = says 2 (a ∷ b ∷ c ∷ d ∷ []) tt refl
 
-module _ (a b c : ℕ) where
-  abbrev three : List ℕ
-  three = a ∷ b ∷ c ∷ []
+none-says : Says noneHead none
+unfolding noneHead text
+none-says = says 3 [] tt refl
 
-  three-suits : Number (digits a) × (Number (digits b) × (Number (digits c) × Unit {0}))
-  three-suits = (number-digits a, (number-digits b, (number-digits c, tt)))
+at-most-says : (a b c : ℕ) → Says (atMostLine a b c) (atMost a b c)
+unfolding atMostLine text
+at-most-says a b c = says 4 (a ∷ b ∷ c ∷ []) tt refl
 
-  at-most-says : Says (boundLine (text "(at-most ") a b c) (atMost a b c)
-  unfolding boundLine text written matches
-  at-most-says =
-      let l = spell (atMostReading .form) three in
-      says-form (boundLine (text "(at-most ") a b c) atMostReading three (simp append-assoc) tt three-suits
-      (lacks-form planReading _ l refl
-      ∙ (lacks-form unitReading _ l refl
-      ∙ (lacks-form slotReading _ l refl ∙ (lacks-form noneReading _ l refl ∙ has-form atMostReading _ three refl three-suits))))
+at-least-says : (a b c : ℕ) → Says (atLeastLine a b c) (atLeast a b c)
+unfolding atLeastLine text
+at-least-says a b c = says 5 (a ∷ b ∷ c ∷ []) tt refl
 
-  at-least-says : Says (boundLine (text "(at-least ") a b c) (atLeast a b c)
-  unfolding boundLine text written matches
-  at-least-says =
-      let l = spell (atLeastReading .form) three in
-      says-form (boundLine (text "(at-least ") a b c) atLeastReading three (simp append-assoc) tt three-suits
-      (lacks-form planReading _ l refl
-      ∙ (lacks-form unitReading _ l refl
-      ∙ (lacks-form slotReading _ l refl
-      ∙ (lacks-form noneReading _ l refl ∙ (lacks-form atMostReading _ l refl ∙ has-form atLeastReading _ three refl three-suits)))))
+shortfall-says : (n : ℕ) → Says (shortfallLine n) (shortfall n)
+unfolding shortfallLine text
+shortfall-says n = says 6 (n ∷ []) tt refl
 
 -- ---- the page of a plan, read
-
--- the kind of a line, and its numbers
-abbrev kind : Said → ℕ
-kind (plan n) = 0
-kind (unit a b c d) = 1
-kind (slot a b c d) = 2
-kind none = 3
-kind (atMost a b c) = 4
-kind (atLeast a b c) = 5
-kind (shortfall k) = 6
-kind other = 7
-
-abbrev four-of : ℕ → ℕ → ℕ → ℕ → ℕ → ℕ
-four-of a b c d zero = a
-four-of a b c d (suc zero) = b
-four-of a b c d (suc (suc zero)) = c
-four-of a b c d (suc (suc (suc i))) = d
-
-abbrev parts : ℕ → Said → ℕ
-parts i (plan n) = n
-parts i (unit a b c d) = four-of a b c d i
-parts i (slot a b c d) = four-of a b c d i
-parts i none = 0
-parts i (atMost a b c) = 0
-parts i (atLeast a b c) = 0
-parts i (shortfall k) = 0
-parts i other = 0
 
 howMany-append : {A : Type 0} (t : A → Bool) (xs ys : List A) → howMany t (xs ++ ys) ≡ howMany t xs + howMany t ys
 howMany-append t [] ys = omega arith
@@ -293,18 +223,18 @@ module _ (span : ℕ) (slots first last : List ℕ) (low high : ℕ → ℕ) whe
   unitSaid j = unit (suc j) (getD slots j 0) (getD first j 0) (getD last j 0)
 
   abbrev pub slotSaid : ℕ → Said
-  slotSaid t = slot t (unitsIn slots t) (low t) (high t)
+  slotSaid t = slot t (unitsAt slots t) (low t) (high t)
 
   -- the head with the number of units, then the units in their order, then the slots in theirs
   pub plan-read : readLines page ≡ plan (length slots) ∷ (map unitSaid (run 0 (length slots)) ++ map slotSaid (fromTo 1 span))
   unfolding planPage unitLines unitLineAt slotLines slotLineAt
   plan-read =
-      read-next (joined (unitLines slots first last ∷ slotLines span (unitsIn slots) low high ∷ [])) (plan-says (length slots))
+      read-next (joined (unitLines slots first last ∷ slotLines span (unitsAt slots) low high ∷ [])) (plan-says (length slots))
       ∙ ap (λ ls. plan (length slots) ∷ ls)
       (read-lines (unitLineAt slots first last) unitSaid (λ j. unit-says (suc j) (getD slots j 0) (getD first j 0) (getD last j 0)) 0 (length slots)
-      (joined (slotLines span (unitsIn slots) low high ∷ []))
+      (joined (slotLines span (unitsAt slots) low high ∷ []))
       ∙ ap (λ ls. map unitSaid (run 0 (length slots)) ++ ls)
-      (read-lines (slotLineAt (unitsIn slots) low high) slotSaid (λ t. slot-says t (unitsIn slots t) (low t) (high t)) 1 (suc span - 1) []
+      (read-lines (slotLineAt (unitsAt slots) low high) slotSaid (λ t. slot-says t (unitsAt slots t) (low t) (high t)) 1 (suc span - 1) []
       ∙ ap (λ ls. map slotSaid (fromTo 1 span) ++ ls) read-nothing ∙ append-nil (map slotSaid (fromTo 1 span))))
 
   -- the unit lines with a slot are as many as the units that have it
@@ -316,7 +246,7 @@ module _ (span : ℕ) (slots first last : List ℕ) (low high : ℕ → ℕ) whe
   no-units t i zero = refl
   no-units t i (suc k) = omega (arith, no-units t (suc i) k)
 
-  lines-with : (t : ℕ) → unitLinesWith t (readLines page) ≡ unitsIn slots t
+  lines-with : (t : ℕ) → unitLinesWith t (readLines page) ≡ unitsAt slots t
   lines-with t =
       omega (
         arith,
@@ -341,15 +271,16 @@ module _ (span : ℕ) (slots first last : List ℕ) (low high : ℕ → ℕ) whe
   -- On each slot line the count is the number of this answer's unit lines with that slot, and the range is the least and the greatest.
   pub slot-line-true : (t c l g : ℕ) → In (slot t c l g) (readLines page) → (c ≡ unitLinesWith t (readLines page)) × (l ≡ low t) × (g ≡ high t)
   slot-line-true t c l g m = ⊎-elim
-      (λ e. absurd (omega (arith, ap kind e)))
+      (λ (q : slot t c l g ≡ plan (length slots)). let z : _≡_ {A = ℕ} 0 1 = cc in absurd (omega arith))
       (λ r. ⊎-elim
-      (λ u. absurd (omega (arith, ap kind (u .2))))
+      (λ u. let q : slot t c l g ≡ unitSaid (u .0) = u .2 in let z : _≡_ {A = ℕ} 0 1 = cc in absurd (omega arith))
       (λ v.
-      let same = ap (parts 0) (v .3) in (
-        ap (parts 1) (v .3) ∙ ap (unitsIn slots) (sym same) ∙ sym (lines-with t),
-        ap (parts 2) (v .3) ∙ ap low (sym same),
-        ap (parts 3) (v .3) ∙ ap high (sym same),
-      ))
+      let q : slot t c l g ≡ slotSaid (v .0) = v .3 in
+      let same : v .0 ≡ t = cc in
+      let count : c ≡ unitsAt slots (v .0) = cc in
+      let low-is : l ≡ low (v .0) = cc in
+      let high-is : g ≡ high (v .0) = cc in
+      (count ∙ ap (unitsAt slots) same ∙ sym (lines-with t), low-is ∙ ap low same, high-is ∙ ap high same))
       r)
       (found (slot t c l g) m)
 
@@ -357,19 +288,22 @@ module _ (span : ℕ) (slots first last : List ℕ) (low high : ℕ → ℕ) whe
   pub unit-line-true : (u x e l : ℕ) → In (unit u x e l) (readLines page)
       → (1 ≤ u) × (u ≤ length slots) × (x ≡ getD slots (u - 1) 0) × (e ≡ getD first (u - 1) 0) × (l ≡ getD last (u - 1) 0)
   unit-line-true u x e l m = ⊎-elim
-      (λ q. absurd (omega (arith, ap kind q)))
+      (λ (q : unit u x e l ≡ plan (length slots)). let z : _≡_ {A = ℕ} 0 1 = cc in absurd (omega arith))
       (λ r. ⊎-elim
       (λ p.
-      let j = p .0 in
-      let same : u ≡ suc j = ap (parts 0) (p .2) in
-      let k : j ≡ u - 1 = omega arith in (
+      let q : unit u x e l ≡ unitSaid (p .0) = p .2 in
+      let same : u ≡ suc (p .0) = cc in
+      let k : p .0 ≡ u - 1 = omega arith in
+      let seat : x ≡ getD slots (p .0) 0 = cc in
+      let from : e ≡ getD first (p .0) 0 = cc in
+      let to : l ≡ getD last (p .0) 0 = cc in (
         omega arith,
         omega (arith, p .1),
-        ap (parts 1) (p .2) ∙ ap (λ i. getD slots i 0) k,
-        ap (parts 2) (p .2) ∙ ap (λ i. getD first i 0) k,
-        ap (parts 3) (p .2) ∙ ap (λ i. getD last i 0) k,
+        seat ∙ ap (λ i. getD slots i 0) k,
+        from ∙ ap (λ i. getD first i 0) k,
+        to ∙ ap (λ i. getD last i 0) k,
       ))
-      (λ v. absurd (omega (arith, ap kind (v .3))))
+      (λ v. let q : unit u x e l ≡ slotSaid (v .0) = v .3 in let z : _≡_ {A = ℕ} 0 1 = cc in absurd (omega arith))
       r)
       (found (unit u x e l) m)
 
@@ -379,7 +313,7 @@ module _ (d : Weights) where
   unfolding stepLine
   step-says a b = go (ltb a b)
     where
-      go : (c : Bool) → Says (cond c (boundLine (text "(at-most ") (up (d a b)) (suc a) b) (boundLine (text "(at-least ") (up (negℤ (d a b))) (suc b) a))
+      go : (c : Bool) → Says (cond c (atMostLine (up (d a b)) (suc a) b) (atLeastLine (up (negℤ (d a b))) (suc b) a))
           (cond c (atMost (up (d a b)) (suc a) b) (atLeast (up (negℤ (d a b))) (suc b) a))
       go true = at-most-says (up (d a b)) (suc a) b
       go false = at-least-says (up (negℤ (d a b))) (suc b) a
@@ -409,11 +343,5 @@ module _ (d : Weights) where
 -- ---- the answer on a page that was written on: its own lines, and nothing that stood there before
 pub answer-read : {page : List ℕ} {at : ℕ} {bytes left : List ℕ} {next : ℕ} → Room page at bytes → Written page at bytes left next
     → answerOn left at next ≡ readLines bytes
-unfolding answerOn onto
-answer-read {page} {at} {bytes} {left} {next} room w =
-    let n : next - at ≡ length bytes = omega (arith, w .moved) in
-    let front : length (take at page) ≡ at = length-take-le at page (omega (arith, room .fits)) in
-    let e : drop at left ≡ bytes ++ drop (at + length bytes) page =
-    ap (drop at) (w .filled ∙ append-assoc (take at page) bytes (drop (at + length bytes) page))
-    ∙ drop-at (take at page) (bytes ++ drop (at + length bytes) page) at front in
-    ap readLines (ap₂ take n e ∙ take-at bytes (drop (at + length bytes) page) (length bytes) refl)
+unfolding answerOn
+answer-read room w = ap readLines (written-part room w)

@@ -1,5 +1,2 @@
 mod Again
-mod Calls
 mod Held
-mod Thin
-mod ThinContract

@@ -1,18 +1,16 @@
--- Replies as document 01's numbers, for callers in other languages: 0 for what a reply does not have. Definitions only.
+-- Replies as numbers, for callers in other languages: 0 for what a reply does not have. Definitions only.
 use mathlib.Core.Path.{_≡_}
 use mathlib.Core.List.{List}
 use Prim.Native.Nat.{ℕ}
-use lib.IntN.{ℤ}
-use Rattle.network.specs.Table.{Passed, After}
-use Rattle.network.specs.declared.Outcome.{Outcome}
-use Rattle.network.specs.declared.Outcome.the-variants.{Finished, Stopped, OutOfRange}
+use Rattle.questions.specs.Questions.{numberOf}
 use Rattle.sheet.specs.Sheet.{Sheet}
 use Rattle.read_ask.specs.Reading.{Answer as ReadingAnswer, refused, read}
-use Rattle.plan_ask.specs.Questions.{Lists, Rooms}
-use Rattle.plan_solve.specs.Planning.{Verdict, Left, numberOf, ringLength}
+use Rattle.sheet.specs.Lists.{Lists}
+use Rattle.plan_ask.specs.Questions.{Rooms}
+use Rattle.plan_solve.specs.Planning.{Conclusion, Settled, refusalOf, ringLength}
 use Rattle.plan_solve.specs.declared.Answer.{Answer}
-use Rattle.print_answer.specs.Printing.{Printing, placeAfter, numberOf as printedNumber, ringLength as printedLength}
-use Rattle.print_answer.specs.declared.Printed.{Printed}
+use Rattle.print.specs.Printing.{Printing, placeAfter, refusalOf as printedRefusal, ringLength as printedLength}
+use Rattle.print.specs.declared.Printed.{Printed}
 
 -- ---- reading
 
@@ -32,10 +30,10 @@ numbersOf (read p u r) = numbers 0 0 p u r
 
 -- ---- planning: some reply with these numbers, and the rooms as it leaves them
 
-pub record PlanTold (v : Verdict) (s : Sheet) (before : Rooms) (number length : ℕ) (after : Rooms) : Type 0 where
+pub record PlanTold (v : Conclusion) (s : Sheet) (before : Rooms) (number length : ℕ) (after : Rooms) : Type 0 where
   pub reply : Answer
-  pub left : Left v s before reply after
-  pub number-is : number ≡ numberOf reply
+  pub left : Settled v s before reply after
+  pub number-is : number ≡ numberOf (refusalOf reply)
   pub length-is : length ≡ ringLength reply
 
 -- ---- printing
@@ -43,18 +41,6 @@ pub record PlanTold (v : Verdict) (s : Sheet) (before : Rooms) (number length : 
 pub record PrintTold (l : Lists) (before : Rooms) (page : List ℕ) (at : ℕ) (number place length : ℕ) (after : Rooms) (left : List ℕ) : Type 0 where
   pub reply : Printed
   pub call : Printing l before page at reply after left
-  pub number-is : number ≡ printedNumber reply
+  pub number-is : number ≡ numberOf (printedRefusal reply)
   pub place-is : place ≡ placeAfter at reply
   pub length-is : length ≡ printedLength reply
-
--- ---- the pass
-
-abbrev pub codeOf : Outcome → ℕ
-codeOf Finished = 0
-codeOf Stopped = 1
-codeOf OutOfRange = 2
-
-pub record PassTold (w : ℕ) (t : List ℤ) (p : Passed) (code : ℕ) (u : List ℤ) : Type 0 where
-  pub outcome : Outcome
-  pub after : After w t p outcome u
-  pub coded : code ≡ codeOf outcome

@@ -1,16 +1,13 @@
 ghost use mathlib.Core.Path.{_≡_};
-ghost use Prim.Native.Nat.{_*_, _<_, _≤_};
-ghost use lib.ListN.{length};
-ghost use Rattle.network.specs.Table.{maxBoundaries, passOf};
-ghost use Rattle.network_cycles.specs.Finder.{Weighed, Infeasible, CycleAt};
 ghost use Rattle.read_ask.specs.Reading.{reading, rooms};
 ghost use Rattle.read.specs.Rooms.{sizesOf, roomsAfter};
-ghost use Rattle.plan_ask.specs.Questions.{listed, lent, given};
-ghost use Rattle.plan_solve.specs.Planning.{verdict};
-ghost use Rattle.tugrokt.specs.Numbers.{numbers, numbersOf, PlanTold, PrintTold, PassTold};
-use print_answer::Printed;
-use read_ask::Reading;
+ghost use Rattle.sheet.specs.Lists.{listed, given};
+ghost use Rattle.plan_ask.specs.Questions.{lent};
+ghost use Rattle.plan_solve.specs.Planning.{conclusion};
+ghost use Rattle.tugrokt.specs.Numbers.{numbers, numbersOf, PlanTold, PrintTold};
 use plan_solve::Answer;
+use print::Printed;
+use read_ask::Reading;
 
 // The entries for other languages: numbers and slices only. What a reply does not have is written as 0.
 
@@ -66,7 +63,7 @@ pub extern "C" fn tugrokt_plan(
     low: &[u16],
     high: &[u16],
     table: &mut [i16],
-    seats: &mut [u16],
+    plan: &mut [u16],
     earliest: &mut [u16],
     latest: &mut [u16],
     ring: &mut [u16],
@@ -74,9 +71,9 @@ pub extern "C" fn tugrokt_plan(
 ) -> usize
     ensures { λ r.
         let l = listed span (now (first .entry)) (now (last .entry)) (now (from .entry)) (now (to .entry)) (now (low .entry)) (now (high .entry)) in
-        let before = lent (now (table .entry)) (now (seats .entry)) (now (earliest .entry)) (now (latest .entry)) (now (ring .entry)) in
-        ⌜ PlanTold (verdict l before) (given l) before r (now (length .exit))
-        (lent (now (table .exit)) (now (seats .exit)) (now (earliest .exit)) (now (latest .exit)) (now (ring .exit))) ⌝ }
+        let before = lent (now (table .entry)) (now (plan .entry)) (now (earliest .entry)) (now (latest .entry)) (now (ring .entry)) in
+        ⌜ PlanTold (conclusion l before) (given l) before r (now (length .exit))
+        (lent (now (table .exit)) (now (plan .exit)) (now (earliest .exit)) (now (latest .exit)) (now (ring .exit))) ⌝ }
 {
     let answer = plan::plan(
         span,
@@ -87,15 +84,15 @@ pub extern "C" fn tugrokt_plan(
         low,
         high,
         table,
-        seats,
+        plan,
         earliest,
         latest,
         ring,
     );
     match answer {
-        Answer::Refused(number) => {
+        Answer::Refused(refusal) => {
             *length = 0;
-            number
+            refusal.number
         }
         Answer::Plan => {
             *length = 0;
@@ -119,7 +116,7 @@ pub extern "C" fn tugrokt_print(
     low: &[u16],
     high: &[u16],
     table: &mut [i16],
-    seats: &mut [u16],
+    plan: &mut [u16],
     earliest: &mut [u16],
     latest: &mut [u16],
     ring: &mut [u16],
@@ -129,9 +126,9 @@ pub extern "C" fn tugrokt_print(
 ) -> usize
     ensures { λ r.
         ⌜ PrintTold (listed span (now (first .entry)) (now (last .entry)) (now (from .entry)) (now (to .entry)) (now (low .entry)) (now (high .entry)))
-        (lent (now (table .entry)) (now (seats .entry)) (now (earliest .entry)) (now (latest .entry)) (now (ring .entry))) (now (page .entry))
+        (lent (now (table .entry)) (now (plan .entry)) (now (earliest .entry)) (now (latest .entry)) (now (ring .entry))) (now (page .entry))
         (now (place .entry)) r (now (place .exit)) (now (length .exit))
-        (lent (now (table .exit)) (now (seats .exit)) (now (earliest .exit)) (now (latest .exit)) (now (ring .exit))) (now (page .exit)) ⌝ }
+        (lent (now (table .exit)) (now (plan .exit)) (now (earliest .exit)) (now (latest .exit)) (now (ring .exit))) (now (page .exit)) ⌝ }
 {
     let at = *place;
     let printed = print::print(
@@ -143,7 +140,7 @@ pub extern "C" fn tugrokt_print(
         low,
         high,
         table,
-        seats,
+        plan,
         earliest,
         latest,
         ring,
@@ -151,9 +148,9 @@ pub extern "C" fn tugrokt_print(
         at,
     );
     match printed {
-        Printed::Refused(number) => {
+        Printed::Refused(refusal) => {
             *length = 0;
-            number
+            refusal.number
         }
         Printed::Plan(next) => {
             *place = next;
@@ -166,27 +163,4 @@ pub extern "C" fn tugrokt_print(
             0
         }
     }
-}
-
-// The pass: 0 where it finished, 1 where it stopped, 2 where a sum is out of range.
-#[no_mangle]
-pub extern "C" fn tugrokt_pass(t: &mut [i16], w: usize) -> usize
-    requires { ⌜ (0 < w) × (w ≤ maxBoundaries) × (w * w ≤ length (now t)) ⌝ }
-    ensures { λ r. ⌜ PassTold w (now (t .entry)) (passOf w (now (t .entry))) r (now (t .exit)) ⌝ }
-{
-    let outcome = network::pass(t, w);
-    match outcome {
-        network::Outcome::Finished => 0,
-        network::Outcome::Stopped => 1,
-        network::Outcome::OutOfRange => 2,
-    }
-}
-
-// The finder of negative cycles.
-#[no_mangle]
-pub extern "C" fn tugrokt_cycle(d: &[i16], w: usize, out: &mut [u16]) -> usize
-    requires { ⌜ Weighed w (now d) × Infeasible w (now d) × (w ≤ length (now out)) ⌝ }
-    ensures { λ r. ⌜ CycleAt w (now (d .entry)) (now (out .entry)) r (now (out .exit)) ⌝ }
-{
-    network_cycles::negative_cycle(d, w, out)
 }

@@ -48,7 +48,7 @@ fn main() {
         return;
     }
     let n = input.length;
-    let mut page = [0u8; answer::MAX_ANSWER];
+    let mut page = [0u8; print_page::MAX_PAGE];
     let end = answer::answer(&text[..n], &mut page);
     if !io::write_all(STDOUT_FILENO, &page[..end]) {
         os::fail(b"write");

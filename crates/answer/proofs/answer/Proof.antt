@@ -5,16 +5,17 @@ use Prim.Native.Nat.{ℕ}
 use native.Mathlib.Omega.{arith}
 use denote.Ref.{now}
 use lib.ListN.{replicate}
-use Rattle.read_ask.specs.Reading.{Rooms, rooms, roomsForAll, refused, read, reading, answerOf}
+use Rattle.read_ask.specs.Reading.{ListRooms, rooms, roomsForAll, refused, read, reading, answerOf}
 use Rattle.read.specs.Rooms.{sizesOf}
+use Rattle.sheet.specs.Sizes.{maxUnits, maxRules}
 use Rattle.answer.specs.AnswerLaws.{refused-small, refused-answer, read-held, read-answered, refusal-answered}
 use borrow.Author.Needs.{needs}
 use Rattle.answer.proofs.answer.Statement.{statement}
 use Rattle.answer.proofs.answer.Tie as tie
 
 -- the lists as the call makes them
-abbrev empty : Rooms (List ℕ)
-empty = rooms (replicate 300 0) (replicate 300 0) (replicate 60 0) (replicate 60 0) (replicate 60 0) (replicate 60 0)
+abbrev empty : ListRooms (List ℕ)
+empty = rooms (replicate maxUnits 0) (replicate maxUnits 0) (replicate maxRules 0) (replicate maxRules 0) (replicate maxRules 0) (replicate maxRules 0)
 
 sizes : sizesOf empty ≡ roomsForAll
 sizes = refl

@@ -1,15 +1,18 @@
 -- The lists and rooms answer every question before the pass with yes, so what is printed is the answer; a refusal can only be 14.
-use mathlib.Core.Path.{_≡_, sym}
+use mathlib.Core.Path.{_≡_, sym, ap}
 use native.Mathlib.Omega.{arith}
 use denote.Ref.{now}
 use lib.Seq.{length-take-le}
+use Rattle.questions.specs.Questions.{refusalBy}
+use Rattle.questions.specs.declared.Refusal.{Refusal}
 use Rattle.sheet.specs.Sheet.{Sheet}
-use Rattle.read_ask.specs.Reading.{Rooms, rooms}
+use Rattle.read_ask.specs.Reading.{ListRooms, rooms}
 use Prim.Native.Nat.{ℕ}
 use mathlib.Core.List.{List}
-use Rattle.plan_ask.specs.Questions.{given}
-use Rattle.print_answer.specs.declared.Printed.the-variants.{Refused, Plan, None}
-use Rattle.answer.specs.Answer.{refusedLine, AnswerToSheet, Answered}
+use Rattle.sheet.specs.Lists.{given}
+use Rattle.answer.specs.Answer.{AnswerToSheet, Answered}
+use Rattle.print.specs.declared.Printed.the-variants.{Refused, Plan, None}
+use Rattle.print_bytes.specs.Writing.{refusedLine}
 use Rattle.answer.specs.Fronts.{fronts}
 use Rattle.print.specs.OwnLaws.{ownRooms}
 use Rattle.answer.specs.AnswerLaws.{held-solvable, print-refused, print-plan, print-none, refusal-answered}
@@ -18,7 +21,7 @@ use Rattle.answer.proofs.answer_sheet.Statement.{statement}
 use Rattle.answer.proofs.answer_sheet.Tie as tie
 
 -- the lists at the call's start
-abbrev lists : tie.Start → Rooms (List ℕ)
+abbrev lists : tie.Start → ListRooms (List ℕ)
 lists c = let a = c .args in rooms (now (a .first)) (now (a .last)) (now (a .from)) (now (a .to)) (now (a .low)) (now (a .high))
 
 -- from the first argument of print, and from its return, back to the start
@@ -39,7 +42,8 @@ module _ (c : tie.After-print) where
   abbrev left : List ℕ
   left = c .print .last .1 .1 .1 .1 .1 .1 .1 .1 .1 .1 .1 .1 .0
 
-  refused-is : (n : ℕ) → c .print .result ≡ Refused n → (n ≡ 14) × (left ≡ now (begun .args .page)) × AnswerToSheet sheet (refusedLine n 0)
+  refused-is : (f : Refusal) → c .print .result ≡ Refused f
+      → (f ≡ refusalBy 14 0) × (left ≡ now (begun .args .page)) × AnswerToSheet sheet (refusedLine (f .number) (f .line))
   refused-is =
       print-refused (fronts (begun .args .s) (lists begun)) ownRooms (held-solvable _ _ (begun .pre)) (now (begun .args .page))
       (omega (arith, c .before .print-arg7 .given .0 .1)) (c .print .result) _ left (c .print .ensures)
@@ -76,13 +80,13 @@ refuse-requires : tie.Need-refuse-requires
 refuse-requires c κs =
     let told = c .before .before .printed .given in
     let r = refused-is (c .before .before .before .before .before .before .before .before .before) (told .0 .0) (told .1) in
-    (omega (arith, r .0), omega arith)
+    (omega (arith, ap (λ (g : Refusal). g .number) (r .0)), omega (arith, ap (λ (g : Refusal). g .line) (r .0)))
 
 returns : tie.Need-returns
 returns c =
     let told = c .before .before .before .printed .given in
     let r = refused-is (c .before .before .before .before .before .before .before .before .before .before) (told .0 .0) (told .1) in
-    refusal-answered (refusedLine (c .before .before .before .printed .given .0 .0) 0) (r .2) (r .1) (c .refuse .ensures)
+    refusal-answered (refusedLine (told .0 .0 .number) (told .0 .0 .line)) (r .2) (r .1) (c .refuse .ensures)
 
 returns-2 : tie.Need-returns-2
 returns-2 c = plan-is (c .before .before .before .before .before .before .before .before) _ (c .before .printed2 .given .1)

@@ -2,7 +2,7 @@
 -- Key idea: every need past the call of solve goes back to that call (`where-plan`, `where-ring`), and what planning left there answers it.
 use mathlib.Core.Path.{_≡_, refl, sym, _∙_}
 use mathlib.Core.List.{List}
-use Prim.Native.Nat.{ℕ, _+_, _*_, _≤_}
+use Prim.Native.Nat.{ℕ}
 use native.Mathlib.Omega.{arith}
 use denote.Ref.{now}
 use lib.ListN.{length, length-replicate}
@@ -11,11 +11,11 @@ use lib.Dec.{T}
 use lib.IntN.{ℤ, pos}
 use Rattle.network.specs.Table.{finished, stopped}
 use Rattle.sheet.specs.Sheet.{Sheet, isRing}
-use Rattle.plan_ask.specs.Questions.{Lists, Rooms, listed, lent, given, passed}
-use Rattle.plan_solve.specs.Planning.{planned, ringed, byPass, Left}
-use Rattle.print.specs.OwnLaws.{ownCells, ownRooms, own-solvable, span-few, cells-few, cells-lent}
-use Rattle.print.specs.OwnLaws.{refused-own, plan-own, closed-long, seats-long, firsts-long, lasts-long, plan-asked, plan-shown}
-use Rattle.print.specs.OwnLaws.{none-own, ring-long, limits-fillable, ring-asked, ring-shown}
+use Rattle.sheet.specs.Lists.{Lists, listed, given}
+use Rattle.plan_ask.specs.Questions.{Rooms, lent, passed}
+use Rattle.plan_solve.specs.Planning.{byPass, Settled}
+use Rattle.print.specs.OwnLaws.{ownRooms, own-solvable, span-few, cells-few, cells-lent, refused-own, plan-own, plan-asked, plan-shown, none-own, limits-fillable, ring-asked, ring-shown, Front, PlanFronts}
+use Rattle.sheet.specs.Sizes.{maxCells, boundariesOf}
 use borrow.Author.Needs.{needs}
 use Rattle.print.proofs.print_solved.Statement.{statement}
 use Rattle.print.proofs.print_solved.Tie as tie
@@ -42,76 +42,51 @@ start c = c .before .before .before .before .before .before .before .before .bef
 abbrev sheet : tie.After-solve → Sheet
 sheet c = given (lists (start c))
 
-ends : (c : tie.After-solve) → Left (byPass (passed (sheet c))) (sheet c) ownRooms (c .solve .result) (after c)
+ends : (c : tie.After-solve) → Settled (byPass (passed (sheet c))) (sheet c) ownRooms (c .solve .result) (after c)
 ends c = c .solve .ensures
 
-own-cells : (c : tie.After-solve) → length (after c .table) ≡ ownCells
-own-cells c = c .solve .kept .1 .1 .1 .1 .1 .1 .1 .0 ∙ length-replicate ownCells (pos 0)
+own-cells : (c : tie.After-solve) → length (after c .table) ≡ maxCells
+own-cells c = c .solve .kept .1 .1 .1 .1 .1 .1 .1 .0 ∙ length-replicate maxCells (pos 0)
 
 -- ---- a plan was found
 
 -- back to the call of solve
 abbrev where-plan : tie.After-enum-told → tie.After-solve
-where-plan c = c .before .before .before .before .before .before .before
+where-plan c = c .before .before .before .before .before .before .before .before
 
-plan-found : (c : tie.After-enum-told)
-    → (t : List ℤ) × (passed (sheet (where-plan c)) ≡ finished t) × (after (where-plan c) ≡ planned (sheet (where-plan c)) t ownRooms)
+abbrev plan-w : tie.After-enum-told → ℕ
+plan-w c = c .before .before .boundaries .result
+
+plan-w-is : (c : tie.After-enum-told) → plan-w c ≡ boundariesOf (start (where-plan c) .args .span)
+plan-w-is c = c .before .before .boundaries .ensures
+
+plan-found : (c : tie.After-enum-told) → let p = where-plan c in
+    (t : List ℤ) × (passed (sheet p) ≡ finished t) × PlanFronts (sheet p) (plan-w c) (length (lists (start p) .first)) t (after p)
 plan-found c =
     let p = where-plan c in
     let s = start p in
-    plan-own (lists s) (before s) (s .pre) ownRooms (after p) (p .solve .result) (ends p) (c .enum-told .given .1)
-
--- the parts that the plan is in are parts of the arrays
-closed-fits : (c : tie.After-enum-told) → (let w = start (where-plan c) .args .span + 1 in w * w ≤ length (after (where-plan c) .table))
-closed-fits c =
-    let p = where-plan c in
-    let s = start p in
-    let f = plan-found c in
-    closed-long (lists s) (before s) (s .pre) ownRooms (after p) (f .0) (f .1) (f .2)
-
-seats-fit : (c : tie.After-enum-told) → length (lists (start (where-plan c)) .first) ≤ length (after (where-plan c) .plan)
-seats-fit c =
-    let p = where-plan c in
-    let s = start p in
-    let f = plan-found c in
-    seats-long (lists s) (before s) (s .pre) ownRooms (after p) (f .0) (f .1) (f .2)
-
-firsts-fit : (c : tie.After-enum-told) → length (lists (start (where-plan c)) .first) ≤ length (after (where-plan c) .earliest)
-firsts-fit c =
-    let p = where-plan c in
-    let s = start p in
-    let f = plan-found c in
-    firsts-long (lists s) (before s) (s .pre) ownRooms (after p) (f .0) (f .1) (f .2)
-
-lasts-fit : (c : tie.After-enum-told) → length (lists (start (where-plan c)) .first) ≤ length (after (where-plan c) .latest)
-lasts-fit c =
-    let p = where-plan c in
-    let s = start p in
-    let f = plan-found c in
-    lasts-long (lists s) (before s) (s .pre) ownRooms (after p) (f .0) (f .1) (f .2)
+    plan-own (lists s) (before s) (s .pre) (plan-w c) (plan-w-is c) ownRooms (after p) (p .solve .result) (ends p) (c .enum-told .given .1)
 
 -- ---- none, and a ring
 abbrev where-ring : tie.After-answer2 → tie.After-solve
-where-ring c = c .before .before .before .before .before .before .before
+where-ring c = c .before .before .before .before .before .before .before .before
+
+abbrev ring-w : tie.After-answer2 → ℕ
+ring-w c = c .before .before .boundaries .result
+
+ring-w-is : (c : tie.After-answer2) → ring-w c ≡ boundariesOf (start (where-ring c) .args .span)
+ring-w-is c = c .before .before .boundaries .ensures
 
 -- the ring's length, as the reply has it
 abbrev steps : tie.After-answer2 → ℕ
 steps c = c .answer2 .given .0 .0
 
-ring-found : (c : tie.After-answer2)
-    → (r : List ℕ) × T (isRing (sheet (where-ring c)) r) × (steps c ≡ length r) × (passed (sheet (where-ring c)) ≡ stopped)
-    × (after (where-ring c) ≡ ringed (sheet (where-ring c)) r ownRooms)
+ring-found : (c : tie.After-answer2) → let p = where-ring c in
+    (r : List ℕ) × T (isRing (sheet p) r) × (passed (sheet p) ≡ stopped) × Front (steps c) r (after p .ring)
 ring-found c =
     let p = where-ring c in
     let s = start p in
-    none-own (lists s) (before s) (s .pre) ownRooms (after p) (p .solve .result) (ends p) (steps c) (c .answer2 .given .1)
-
-ring-fits : (c : tie.After-answer2) → steps c ≤ length (after (where-ring c) .ring)
-ring-fits c =
-    let p = where-ring c in
-    let s = start p in
-    let f = ring-found c in
-    ring-long (lists s) (before s) (s .pre) ownRooms (after p) (f .0) (f .1) (f .3) (f .4) (steps c) (f .2)
+    none-own (lists s) (before s) (s .pre) (ring-w c) (ring-w-is c) ownRooms (after p) (p .solve .result) (ends p) (steps c) (c .answer2 .given .1)
 
 -- ---- the needs, in order
 
@@ -120,43 +95,19 @@ solve-requires c κs =
     let s : tie.Start = c .before .before .before .before .before .before .before .before .before .before .before .before .before .before .before .before in
     own-solvable (lists s) (before s) (s .pre)
 
-add-w : tie.Need-add-w
-add-w c = let s : tie.Start = start (c .before .before .before .before .before) in omega (arith, span-few (lists s) (before s) (s .pre))
+boundaries-requires : tie.Need-boundaries-requires
+boundaries-requires c κs = let s = start (c .before .before .before .before .before) in span-few (lists s) (before s) (s .pre)
 
 mul-cells : tie.Need-mul-cells
-mul-cells c = let s : tie.Start = start (c .before .before .before .before .before) in omega (arith, cells-few (lists s) (before s) (s .pre))
+mul-cells c =
+    let s = start (c .before .before .before .before .before .before) in
+    omega (arith, cells-few (lists s) (before s) (s .pre) (c .boundaries .result) (c .boundaries .ensures))
 
 clear-requires : tie.Need-clear-requires
 clear-requires c κs =
-    let s : tie.Start = start (c .before .before .before .before .before .before .before .before .before) in
-    cells-lent (lists s) (before s) (s .pre)
-
-enum-told : tie.Need-enum-told
-enum-told c = search needs
-
-array-share-prefix-closed : tie.Need-array-share-prefix-closed
-array-share-prefix-closed c = closed-fits c
-
-slice-aggregate-print-plan : tie.Need-slice-aggregate-print-plan
-slice-aggregate-print-plan c = sym (length-take-le _ _ (closed-fits (c .before)))
-
-array-share-prefix-seats : tie.Need-array-share-prefix-seats
-array-share-prefix-seats c = seats-fit (c .before)
-
-slice-aggregate-print-plan-2 : tie.Need-slice-aggregate-print-plan-2
-slice-aggregate-print-plan-2 c = sym (length-take-le _ _ (seats-fit (c .before .before)))
-
-array-share-prefix-firsts : tie.Need-array-share-prefix-firsts
-array-share-prefix-firsts c = firsts-fit (c .before .before)
-
-slice-aggregate-print-plan-3 : tie.Need-slice-aggregate-print-plan-3
-slice-aggregate-print-plan-3 c = sym (length-take-le _ _ (firsts-fit (c .before .before .before)))
-
-array-share-prefix-lasts : tie.Need-array-share-prefix-lasts
-array-share-prefix-lasts c = lasts-fit (c .before .before .before)
-
-slice-aggregate-print-plan-4 : tie.Need-slice-aggregate-print-plan-4
-slice-aggregate-print-plan-4 c = sym (length-take-le _ _ (lasts-fit (c .before .before .before .before)))
+    let s = start (c .before .before .before .before .before .before .before .before .before .before) in
+    let r = c .before .before .before .before .boundaries in
+    cells-lent (lists s) (before s) (s .pre) (r .result) (r .ensures)
 
 print-plan-requires : tie.Need-print-plan-requires
 print-plan-requires c κs =
@@ -164,10 +115,7 @@ print-plan-requires c κs =
     let p = where-plan told in
     let s = start p in
     let f = plan-found told in
-    plan-asked (lists s) (before s) (s .pre) ownRooms (after p) (f .0) (f .1) (f .2)
-
-slice-aggregate-fill-limits : tie.Need-slice-aggregate-fill-limits
-slice-aggregate-fill-limits c = sym (where-ring (c .before .before) .solve .kept .1 .1 .1 .1 .1 .1 .1 .0)
+    plan-asked (lists s) (before s) (s .pre) (plan-w told) (plan-w-is told) (after p) (f .0) (f .1) (f .2)
 
 fill-limits-requires : tie.Need-fill-limits-requires
 fill-limits-requires c κs =
@@ -175,13 +123,7 @@ fill-limits-requires c κs =
     let p = where-ring told in
     let s = start p in
     let f = ring-found told in
-    limits-fillable (lists s) (before s) (s .pre) ownRooms (after p) (f .0) (f .1) (f .3) (f .4) (steps told) (f .2) (after p .table) (own-cells p)
-
-array-share-prefix-found : tie.Need-array-share-prefix-found
-array-share-prefix-found c = ring-fits (c .before .before .before .before .before)
-
-slice-aggregate-print-ring-2 : tie.Need-slice-aggregate-print-ring-2
-slice-aggregate-print-ring-2 c = sym (length-take-le _ _ (ring-fits (c .before .before .before .before .before .before)))
+    limits-fillable (lists s) (before s) (s .pre) (ring-w told) (ring-w-is told) (after p) (f .0) (f .1) (f .2) (steps told) (f .3) (after p .table) (own-cells p)
 
 print-ring-requires : tie.Need-print-ring-requires
 print-ring-requires c κs =
@@ -190,34 +132,17 @@ print-ring-requires c κs =
     let s = start p in
     let f = ring-found told in
     let filled = c .before .before .before .before .before .before .fill-limits in
-    ring-asked (lists s) (before s) (s .pre) ownRooms (after p) (f .0) (f .1) (f .3) (f .4) (steps told) (f .2) (after p .table) (own-cells p)
+    ring-asked (lists s) (before s) (s .pre) (ring-w told) (ring-w-is told) (after p) (f .0) (f .1) (f .2) (steps told) (f .3) (after p .table) (own-cells p)
     (filled .last .1 .1 .1 .1 .1 .1 .1 .0) (filled .ensures)
-
-same-length : tie.Need-same-length
-same-length c = c .before .clear .kept .1 .0
 
 returns : tie.Need-returns
 returns c =
-    let p : tie.After-solve = c .before .before .before .before .before .before .before .before .before .before .before in
+    let p : tie.After-solve = c .before .before .before .before .before .before .before .before .before .before .before .before in
     let s = start p in
+    let r = c .before .before .before .before .before .before .boundaries in
     let told = c .before .before .before .before .answer .given in
-    refused-own (lists s) (before s) (s .pre) ownRooms (after p) (p .solve .result) (ends p) (told .0 .0) (told .1)
+    refused-own (lists s) (before s) (s .pre) (r .result) (r .ensures) ownRooms (after p) (p .solve .result) (ends p) (told .0 .0) (told .1)
     (c .before .clear .last .1 .0) (c .before .clear .ensures) (now (s .args .page)) (s .args .at)
-
-same-length-2 : tie.Need-same-length-2
-same-length-2 c = c .before .before .before .before .before .before .before .before .before .print-plan .kept .1 .1 .1 .1 .1 .0
-
-same-length-3 : tie.Need-same-length-3
-same-length-3 c = c .before .before .before .before .before .before .before .before .before .print-plan .kept .1 .1 .1 .1 .1 .1 .0
-
-same-length-4 : tie.Need-same-length-4
-same-length-4 c = c .before .before .before .before .before .before .before .before .before .print-plan .kept .1 .1 .1 .1 .1 .1 .1 .0
-
-same-length-5 : tie.Need-same-length-5
-same-length-5 c = c .before .before .before .before .before .before .before .before .before .print-plan .kept .1 .1 .1 .1 .1 .1 .1 .1 .0
-
-same-length-6 : tie.Need-same-length-6
-same-length-6 c = c .before .before .before .before .before .before .before .before .before .print-plan .kept .1 .1 .1 .1 .1 .1 .1 .1 .1 .0
 
 returns-2 : tie.Need-returns-2
 returns-2 c =
@@ -226,17 +151,8 @@ returns-2 c =
     let p = where-plan told in
     let s = start p in
     let f = plan-found told in
-    plan-shown (lists s) (before s) (s .pre) ownRooms (after p) (f .0) (f .1) (f .2) (now (s .args .page)) (s .args .at) _ _ _ _ _ _
+    plan-shown (lists s) (before s) (s .pre) (plan-w told) (plan-w-is told) (after p) (f .0) (f .1) (f .2) (now (s .args .page)) (s .args .at) _ _ _ _ _ _
     (printed .print-plan .ensures)
-
-same-length-7 : tie.Need-same-length-7
-same-length-7 c = c .before .before .before .before .before .print-ring .kept .1 .1 .1 .0
-
-same-length-8 : tie.Need-same-length-8
-same-length-8 c = c .before .before .before .before .before .print-ring .kept .1 .1 .1 .1 .0
-
-same-length-9 : tie.Need-same-length-9
-same-length-9 c = c .before .before .before .before .before .print-ring .kept .1 .1 .1 .1 .1 .0
 
 returns-3 : tie.Need-returns-3
 returns-3 c =
@@ -245,14 +161,27 @@ returns-3 c =
     let s = start p in
     let f = ring-found told in
     let filled = c .before .before .before .before .before .before .before .before .before .before .before .before .fill-limits in
-    ring-shown (lists s) (before s) (s .pre) ownRooms (after p) (f .0) (f .1) (f .3) (f .4) (steps told) (f .2) (after p .table) (own-cells p)
+    ring-shown (lists s) (before s) (s .pre) (ring-w told) (ring-w-is told) (after p) (f .0) (f .1) (f .2) (steps told) (f .3) (after p .table) (own-cells p)
     (filled .last .1 .1 .1 .1 .1 .1 .1 .0) (filled .ensures) (now (s .args .page)) (s .args .at) _ _ _ _
     (c .before .before .before .before .before .print-ring .ensures)
 
 pub print-solved-spec : {M : Type 1} → statement M
-print-solved-spec = tie.close (tie.spec (λ c. refl) (λ c. refl) (λ c. refl) (λ c. refl) (λ c. refl) solve-requires add-w mul-cells (λ c. search needs)
-    clear-requires enum-told array-share-prefix-closed slice-aggregate-print-plan array-share-prefix-seats slice-aggregate-print-plan-2
-    array-share-prefix-firsts slice-aggregate-print-plan-3 array-share-prefix-lasts slice-aggregate-print-plan-4 print-plan-requires
-    (λ c. search needs) slice-aggregate-fill-limits fill-limits-requires (λ c. search needs) array-share-prefix-found slice-aggregate-print-ring-2
-    print-ring-requires same-length returns same-length-2 same-length-3 same-length-4 same-length-5 same-length-6 returns-2 same-length-7
-    same-length-8 same-length-9 returns-3)
+print-solved-spec = tie.close (tie.spec (λ c. refl) (λ c. refl) (λ c. refl) (λ c. refl) (λ c. refl) solve-requires boundaries-requires mul-cells
+    (λ c. search needs) clear-requires (λ c. search needs)
+    (λ c. plan-found c .2 .closed .long) (λ c. sym (length-take-le _ _ (plan-found (c .before) .2 .closed .long)))
+    (λ c. plan-found (c .before) .2 .seats .long) (λ c. sym (length-take-le _ _ (plan-found (c .before .before) .2 .seats .long)))
+    (λ c. plan-found (c .before .before) .2 .firsts .long) (λ c. sym (length-take-le _ _ (plan-found (c .before .before .before) .2 .firsts .long)))
+    (λ c. plan-found (c .before .before .before) .2 .lasts .long)
+    (λ c. sym (length-take-le _ _ (plan-found (c .before .before .before .before) .2 .lasts .long))) print-plan-requires
+    (λ c. search needs) (λ c. sym (where-ring (c .before .before) .solve .kept .1 .1 .1 .1 .1 .1 .1 .0)) fill-limits-requires
+    (λ c. search needs) (λ c. ring-found (c .before .before .before .before .before) .3 .long)
+    (λ c. sym (length-take-le _ _ (ring-found (c .before .before .before .before .before .before) .3 .long))) print-ring-requires
+    (λ c. c .before .clear .kept .1 .0) returns
+    (λ c. c .before .before .before .before .before .before .before .before .before .print-plan .kept .1 .1 .1 .1 .1 .0)
+    (λ c. c .before .before .before .before .before .before .before .before .before .print-plan .kept .1 .1 .1 .1 .1 .1 .0)
+    (λ c. c .before .before .before .before .before .before .before .before .before .print-plan .kept .1 .1 .1 .1 .1 .1 .1 .0)
+    (λ c. c .before .before .before .before .before .before .before .before .before .print-plan .kept .1 .1 .1 .1 .1 .1 .1 .1 .0)
+    (λ c. c .before .before .before .before .before .before .before .before .before .print-plan .kept .1 .1 .1 .1 .1 .1 .1 .1 .1 .0) returns-2
+    (λ c. c .before .before .before .before .before .print-ring .kept .1 .1 .1 .0)
+    (λ c. c .before .before .before .before .before .print-ring .kept .1 .1 .1 .1 .0)
+    (λ c. c .before .before .before .before .before .print-ring .kept .1 .1 .1 .1 .1 .0) returns-3)

@@ -5,7 +5,7 @@ use Prim.Native.Nat.{_+_, _-_, _≤_}
 use native.Mathlib.Omega.{arith}
 use denote.Ref.{now}
 use lib.ListN.{length, getD}
-use Rattle.print_page.proofs.TallyLaws.{Counted, counted-none, counted-small, counted-store, counted-pass, counted-all}
+use Rattle.print_page.proofs.SlotCountLaws.{Counted, counted-none, counted-small, counted-store, counted-pass, counted-all}
 use Rattle.print_page.proofs.count_slots.Statement.{statement}
 use Rattle.print_page.proofs.count_slots.Tie as tie
 

@@ -1,16 +1,18 @@
--- Forward the limit's positive part, backward its negative part.
+-- Forward the limit's positive part, backward its negative part: what is handed over is the line of the step.
 use native.Mathlib.Omega.{arith}
 use mathlib.Core.Path.{refl, _≡_, sym, ap, ap₂, subst, _∙_}
 use Prim.Native.Nat.{_+_}
 use native.Mathlib.Numerals.{add-one}
+use borrow.Author.Needs.{needs}
 use mir.Syntax.{w16}
 use mir.Facts.{toZ-ofZ}
 use denote.Ref.{now}
 use Rattle.integers.specs.Parts.{up, dn}
 use Rattle.network.specs.Network.{Weights}
 use Rattle.network.specs.Table.{entry}
+use Rattle.limits.specs.LentTableLaws.{place-inside}
 use Rattle.forms.specs.Words.{text}
-use Rattle.print_bytes.specs.Writing.{Room, Written, boundLine}
+use Rattle.print_bytes.specs.Writing.{Room, Written, atMostLine, atLeastLine}
 use Rattle.print_page.specs.Page.{stepLine}
 use Rattle.print_page.specs.PageLaws.{step-forward, step-backward}
 use Rattle.print_page.proofs.put_step.Statement.{statement}
@@ -20,66 +22,57 @@ abbrev limits : tie.Start → Weights
 limits c = entry (c .args .w) (now (c .args .limits))
 
 entry-at-requires : tie.Need-entry-at-requires
-entry-at-requires c κs = c .before .pre .0
+entry-at-requires c κs =
+    let a = c .before .args in
+    let p = c .before .pre .0 in
+    omega (arith, place-inside (a .w) (a .a) (a .b) (p .0) (p .1), p .3)
 
 abbrev forward-start : tie.After-above → tie.Start
 forward-start c = c .before .before .before .before .before .before
 
 forward : (c : tie.After-above)
-    → (let s = forward-start c in
-    boundLine (text "(at-most ") (c .above .result) (s .args .a + 1) (s .args .b) ≡ stepLine (limits s) (s .args .a) (s .args .b))
+    → (let s = forward-start c in atMostLine (c .above .result) (s .args .a + 1) (s .args .b) ≡ stepLine (limits s) (s .args .a) (s .args .b))
 forward c =
     let s = forward-start c in
     let e = c .before .before .before .before .entry-at in
     let limit = c .above .ensures ∙ ap up (toZ-ofZ {w = w16} (record { sfits = e .ok }) ∙ e .ensures) in
-    ap₂ (λ k f. boundLine (text "(at-most ") k f (s .args .b)) limit (add-one (s .args .a))
+    ap₂ (λ k f. atMostLine k f (s .args .b)) limit (add-one (s .args .a))
     ∙ sym (step-forward (limits s) (s .args .a) (s .args .b) (c .before .before .before .if1 .taken))
 
 abbrev backward-start : tie.After-below → tie.Start
 backward-start c = c .before .before .before .before .before .before
 
 backward : (c : tie.After-below)
-    → (let s = backward-start c in
-    boundLine (text "(at-least ") (c .below .result) (s .args .b + 1) (s .args .a) ≡ stepLine (limits s) (s .args .a) (s .args .b))
+    → (let s = backward-start c in atLeastLine (c .below .result) (s .args .b + 1) (s .args .a) ≡ stepLine (limits s) (s .args .a) (s .args .b))
 backward c =
     let s = backward-start c in
     let e = c .before .before .before .before .entry-at in
     let limit = c .below .ensures ∙ ap dn (toZ-ofZ {w = w16} (record { sfits = e .ok }) ∙ e .ensures) in
-    ap₂ (λ k f. boundLine (text "(at-least ") k f (s .args .a)) limit (add-one (s .args .b))
+    ap₂ (λ k f. atLeastLine k f (s .args .a)) limit (add-one (s .args .b))
     ∙ sym (step-backward (limits s) (s .args .a) (s .args .b) (c .before .before .before .if1 .left))
 
 put-bound-requires : tie.Need-put-bound-requires
-unfolding text
-put-bound-requires c κs =
-    let s = forward-start c in
-    subst (Room (now (s .args .page)) (s .args .at)) (sym (forward c)) (s .pre .1)
-
-same-length : tie.Need-same-length
-same-length c = c .before .before .put-bound .kept .0
+unfolding atMostLine text
+put-bound-requires c κs = let s = forward-start c in subst (Room (now (s .args .page)) (s .args .at)) (sym (forward c)) (s .pre .1)
 
 returns : tie.Need-returns
-unfolding text
+unfolding atMostLine text
 returns c =
     let a = forward-start (c .before .before .before) .args in
     let put = c .before .before .put-bound in
     subst (λ l. Written (now (a .page)) (a .at) l (put .last .0) (put .result)) (forward (c .before .before .before)) (put .ensures)
 
 put-bound-requires-2 : tie.Need-put-bound-requires-2
-unfolding text
-put-bound-requires-2 c κs =
-    let s = backward-start c in
-    subst (Room (now (s .args .page)) (s .args .at)) (sym (backward c)) (s .pre .1)
-
-same-length-2 : tie.Need-same-length-2
-same-length-2 c = c .before .before .put-bound2 .kept .0
+unfolding atLeastLine text
+put-bound-requires-2 c κs = let s = backward-start c in subst (Room (now (s .args .page)) (s .args .at)) (sym (backward c)) (s .pre .1)
 
 returns-2 : tie.Need-returns-2
-unfolding text
+unfolding atLeastLine text
 returns-2 c =
     let a = backward-start (c .before .before .before) .args in
     let put = c .before .before .put-bound2 in
     subst (λ l. Written (now (a .page)) (a .at) l (put .last .0) (put .result)) (backward (c .before .before .before)) (put .ensures)
 
 pub put-step-spec : {M : Type 1} → statement M
-put-step-spec = tie.close (tie.spec entry-at-requires (λ c. refl) (λ c κs. tt) (λ c. omega arith) put-bound-requires same-length returns (λ c. refl)
-    (λ c κs. tt) (λ c. omega arith) put-bound-requires-2 same-length-2 returns-2)
+put-step-spec = tie.close (tie.spec entry-at-requires (λ c. refl) (λ c κs. tt) (λ c. omega arith) put-bound-requires (λ c. search needs) returns (λ c. refl)
+    (λ c κs. tt) (λ c. omega arith) put-bound-requires-2 (λ c. search needs) returns-2)

@@ -12,7 +12,7 @@ use Rattle.integers.specs.Parts.{up, dn}
 use Rattle.network.specs.Network.{Weights}
 use Rattle.network.specs.Table.{entry}
 use Rattle.sheet.specs.Sizes.{maxCount}
-use Rattle.print_page.specs.PageLaws.{Walked, walked-none, walked-next, walked-all}
+use Rattle.print_page.specs.PageLaws.{step-inside, Walked, walked-none, walked-next, walked-all}
 use Rattle.print_page.proofs.shortfall.Statement.{statement}
 use Rattle.print_page.proofs.shortfall.Tie as tie
 
@@ -75,8 +75,7 @@ entry-at-requires : tie.Need-entry-at-requires Inv-loop μ-loop
 entry-at-requires c κs =
     let s = c .before .before .before .before .before in
     let i = c .before .before .before .loop .i in
-    let f = s .pre in
-    (f .inside i (omega (arith, f .some)), f .inside (i + 1) (omega (arith, f .some)), f .boundaries, f .entries)
+    step-inside (s .pre) i (i + 1) (omega (arith, s .pre .some)) (omega (arith, s .pre .some))
 
 add-rise : tie.Need-add-rise Inv-loop μ-loop
 add-rise c =
@@ -112,8 +111,7 @@ cast-entry-at-4 c = omega (arith, c .shared-slice-known5 .given 0)
 entry-at-requires-2 : tie.Need-entry-at-requires-2 Inv-loop μ-loop
 entry-at-requires-2 c κs =
     let s = c .before .before .before .before .before in
-    let f = s .pre in
-    (f .inside (length (now (s .args .ring)) - 1) (omega (arith, f .some)), f .inside 0 (f .some), f .boundaries, f .entries)
+    step-inside (s .pre) (length (now (s .args .ring)) - 1) 0 (omega (arith, s .pre .some)) (s .pre .some)
 
 add-excess : tie.Need-add-excess Inv-loop μ-loop
 add-excess c =
