@@ -2,7 +2,7 @@
 # Where the work goes: instructions a sheet by stage, counted by callgrind as `instructions.sh` counts them.
 #     bench/stages.sh [CASE..]          the largest sheets and the one that is hard to narrow, where none is named
 #
-# Reading, the pass and planning are jobs of their own (the planner's pass as it is exported on its own), printing is a page less planning, and
+# Reading, the pass and planning are jobs of their own (the planner's pass as the library for tests has it), printing is a page less planning, and
 # limits are what their function takes. The rest of planning is seating and narrowing, or the ring. Of it, `seats` and `cuts` (the search
 # for least cuts) are what their functions take; the compiler leaves no function for the planner's seats, nor for what else narrowing does.
 set -euo pipefail
@@ -21,7 +21,7 @@ a_sheet() {
     echo $((($(count "$@" 11) - $(count "$@" 1)) / 10 / $("$bench" --sheets "$2")))
 }
 declare -A functions=(
-    [planner-limits]='limits::fill::fill_limits' [planner-seats]='' [planner-cuts]='narrowing::least_cuts'
+    [planner-limits]='limits::fill::fill_limits' [planner-seats]='' [planner-cuts]='plan_windows::least_cuts'
     [plain-limits]='plain::windows_inside plain::limits' [plain-seats]='plain::seats' [plain-cuts]='plain::Cuts::all_least'
 )
 declare -A took

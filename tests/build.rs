@@ -1,17 +1,21 @@
-//! Tells the tests where the library and the program are.
+//! Links the library by which the tests call the network, and tells the tests where the planner's library and the program are.
 //!
 //! The program is `../target/bin/wave`, brought up to date by `rt check wave`. Where `TUGROKT_WAVE` names a program, that one is
 //! run.
 
+#[path = "../bindings/staticlib.rs"]
+mod staticlib;
+
 use std::env;
 use std::path::{Path, PathBuf};
-use std::process::Command;
 
 fn main() {
     println!("cargo:rerun-if-changed=build.rs");
+    println!("cargo:rerun-if-changed=../bindings/staticlib.rs");
     println!("cargo:rerun-if-env-changed=TUGROKT_WAVE");
     println!("cargo:rustc-env=LIBRARY={}", env::var("DEP_TUGROKT_LIBRARY").unwrap());
     let root = Path::new(&env::var("CARGO_MANIFEST_DIR").unwrap()).join("..").canonicalize().unwrap();
+    staticlib::link(&root, "network_border");
     let program = env::var("TUGROKT_WAVE").map_or_else(|_| built(&root), PathBuf::from);
     println!("cargo:rustc-env=WAVE={}", program.display());
     println!("cargo:rustc-env=ROOT={}", root.display());
@@ -23,9 +27,6 @@ fn built(root: &Path) -> PathBuf {
     println!("cargo:rerun-if-changed={}", root.join("crates.txt").display());
     let program = root.join("target/bin/wave");
     println!("cargo:rerun-if-changed={}", program.display());
-    let run = Command::new("rt").args(["check", "wave"]).current_dir(root).output();
-    let run = run.unwrap_or_else(|e| panic!("rt check wave: {e}. Is the Rattle kit on this machine?"));
-    let said = String::from_utf8_lossy(&run.stdout).into_owned() + &String::from_utf8_lossy(&run.stderr);
-    assert!(run.status.success(), "rt check wave failed:\n{said}");
+    staticlib::rt(root, &["check", "wave"]);
     program
 }

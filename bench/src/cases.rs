@@ -1,7 +1,7 @@
 //! The sheets that are measured.
 
-use reference::random::{largest_sheet, paper_sheet, Random};
-use reference::sheet::{Sheet, Unit};
+use model::random::{largest_sheet, paper_sheet, Random};
+use model::sheet::{Sheet, Unit};
 
 pub struct Case {
     pub name: String,
@@ -10,7 +10,7 @@ pub struct Case {
     pub limits: Vec<Vec<i16>>,
 }
 
-/// Sheets as in 001, section 4, by their number of units, rules and slots; the largest sheets, loose, tight, and with no plan by
+/// Sheets as in Chabert and Demassey, section 4, by their number of units, rules and slots; the largest sheets, loose, tight, and with no plan by
 /// one unit; sheets whose narrowing has much to do; and the smallest.
 pub const NAMES: [&str; 13] = [
     "paper-10", "paper-16", "paper-24", "paper-32", "largest-loose", "largest-tight", "largest-none", "narrowing", "distinct",
@@ -31,7 +31,7 @@ pub fn make(name: &str) -> Case {
         "largest-loose" => largest(3),
         "largest-tight" => largest(0),
         "largest-none" => largest(0).into_iter().map(none_by_one).collect(),
-        "narrowing" => vec![reference::reading::read(NARROWING).expect("a sheet")],
+        "narrowing" => vec![model::reading::read(NARROWING).expect("a sheet")],
         "distinct" => (0..5).map(distinct).collect(),
         "chain-2" => vec![chain(2)],
         "chain-4" => vec![chain(4)],

@@ -66,8 +66,9 @@ impl Side for Plain {
 
 mod planner {
     use super::{black_box, Case, Job, Side};
-    use tugrokt::entry::{self, Counts, ListRooms, Lists, Outcome, Rooms};
-    use tugrokt::{MOST_RULES, MOST_SLOTS, MOST_UNITS};
+    use model::network::{self, Outcome};
+    use tugrokt::entry::{self, Counts, ListRooms, Lists, Rooms};
+    use tugrokt::{MAX_BOUNDARIES, MAX_CELLS, MAX_PAGE, MAX_RULES, MAX_UNITS};
 
     /// The planner, with rooms that are lent again and again.
     pub struct Planner {
@@ -85,13 +86,13 @@ mod planner {
 
     impl Planner {
         pub fn new() -> Planner {
-            let [u, r] = [MOST_UNITS, MOST_RULES];
+            let [u, r] = [MAX_UNITS, MAX_RULES];
             Planner {
                 lists: [u, u, r, r, r, r].map(|length| vec![0; length]),
-                table: vec![0; (MOST_SLOTS + 1) * (MOST_SLOTS + 1)],
+                table: vec![0; MAX_CELLS],
                 rooms: [u, u, u].map(|length| vec![0; length]),
-                ring: vec![0; MOST_SLOTS + 1],
-                page: vec![0; tugrokt::LONGEST_PAGE],
+                ring: vec![0; MAX_BOUNDARIES],
+                page: vec![0; MAX_PAGE],
             }
         }
 
@@ -105,7 +106,7 @@ mod planner {
 
         fn pass(&mut self, limits: &[i16], w: usize) -> Option<Outcome> {
             self.table[..limits.len()].copy_from_slice(limits);
-            entry::pass(&mut self.table, w)
+            network::pass(&mut self.table, w)
         }
 
         fn plan(&mut self, sheet: &plain::Sheet) -> usize {

@@ -1,4 +1,4 @@
-//! Plans the sheet of document 01 and prints each unit's slot and window, or the ring.
+//! Plans the first sheet of the README and prints each unit's slot and window, or the ring.
 //!
 //!     cargo run --release --example plan
 

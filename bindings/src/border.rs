@@ -43,8 +43,8 @@ extern "C" {
         high_length: usize,
         table: *mut i16,
         table_length: usize,
-        seats: *mut u16,
-        seats_length: usize,
+        plan: *mut u16,
+        plan_length: usize,
         earliest: *mut u16,
         earliest_length: usize,
         latest: *mut u16,
@@ -72,8 +72,8 @@ extern "C" {
         high_length: usize,
         table: *mut i16,
         table_length: usize,
-        seats: *mut u16,
-        seats_length: usize,
+        plan: *mut u16,
+        plan_length: usize,
         earliest: *mut u16,
         earliest_length: usize,
         latest: *mut u16,
@@ -85,9 +85,4 @@ extern "C" {
         place: *mut usize,
         length: *mut usize,
     ) -> usize;
-}
-
-extern "C" {
-    pub fn tugrokt_pass(t: *mut i16, t_length: usize, w: usize) -> usize;
-    pub fn tugrokt_cycle(d: *const i16, d_length: usize, w: usize, out: *mut u16, out_length: usize) -> usize;
 }

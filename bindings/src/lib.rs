@@ -18,13 +18,20 @@
 mod border;
 pub mod entry;
 
-/// The sheet's limits, and the lengths that refuse no sheet.
-pub const MOST_SLOTS: usize = 48;
-pub const MOST_UNITS: usize = 300;
-pub const MOST_RULES: usize = 60;
-pub const MOST_BYTES: usize = 16_000;
-/// No answer page is longer, as is proved.
-pub const LONGEST_PAGE: usize = 12_942;
+/// The sheet's sizes, as the planner's sources have them (`tests/tests/declarations.rs` holds them to these). Rooms and pages of such
+/// lengths refuse no sheet.
+pub const MAX_SLOTS: usize = 48;
+pub const MAX_UNITS: usize = 300;
+pub const MAX_RULES: usize = 60;
+/// The greatest count of a rule.
+pub const MAX_COUNT: usize = 300;
+/// The longest text of a sheet.
+pub const MAX_BYTES: usize = 16_000;
+pub const MAX_BOUNDARIES: usize = MAX_SLOTS + 1;
+/// The largest table.
+pub const MAX_CELLS: usize = MAX_BOUNDARIES * MAX_BOUNDARIES;
+/// The longest answer page, as is proved.
+pub const MAX_PAGE: usize = 12_942;
 
 /// A call that was refused: the number of the question that was answered no, and the line that it names.
 #[derive(Clone, Copy, Debug, PartialEq, Eq)]
@@ -114,8 +121,8 @@ impl Sheet {
 
     /// Reads a sheet from its text.
     pub fn read(text: &[u8]) -> Result<Sheet, Refusal> {
-        let units = || vec![0; MOST_UNITS];
-        let rules = || vec![0; MOST_RULES];
+        let units = || vec![0; MAX_UNITS];
+        let rules = || vec![0; MAX_RULES];
         let (mut first, mut last) = (units(), units());
         let (mut from, mut to, mut low, mut high) = (rules(), rules(), rules(), rules());
         let mut counts = entry::Counts::default();
@@ -159,7 +166,7 @@ impl Sheet {
     /// Plans the sheet and prints the answer page.
     pub fn page(&self) -> Result<Vec<u8>, Refusal> {
         let mut own = OwnRooms::new(self);
-        let mut page = vec![0; LONGEST_PAGE];
+        let mut page = vec![0; MAX_PAGE];
         let mut place = 0;
         let question = entry::print(self.lists(), own.lend(), &mut page, &mut place, &mut 0);
         if question != 0 {
@@ -182,7 +189,7 @@ struct OwnRooms {
 impl OwnRooms {
     fn new(sheet: &Sheet) -> OwnRooms {
         // A span that is no span is refused before any room is asked for.
-        let w = sheet.span.min(MOST_SLOTS) + 1;
+        let w = sheet.span.min(MAX_SLOTS) + 1;
         let units = vec![0; sheet.first.len()];
         OwnRooms {
             table: vec![0; w * w],

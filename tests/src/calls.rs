@@ -168,7 +168,7 @@ pub fn printing_fault(
         return refused_print_fault(&printed, refusal, lengths, before);
     }
     let sheet = lists.sheet();
-    let long = print(lists, lengths, before + tugrokt::LONGEST_PAGE + extra, before);
+    let long = print(lists, lengths, before + tugrokt::MAX_PAGE + extra, before);
     if long.reply != 0 {
         return Some(format!("refused by {}", long.reply));
     }

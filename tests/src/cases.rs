@@ -1,4 +1,4 @@
-//! Document 01's sheets P1 to P10, with what the document says of them.
+//! P1 to P10, with their answers (docs/RULES.md, "Sheets to try").
 
 use crate::sheet::Sheet;
 
@@ -61,7 +61,7 @@ pub fn all() -> Vec<Case> {
     ]
 }
 
-/// P2's page, byte for byte as document 01 prints it.
+/// P2's page, byte for byte as docs/RULES.md prints it.
 pub const P2_PAGE: &str = "(answer plan 2)
 (unit 1 (slot 1) (between 1 2))
 (unit 2 (slot 3) (between 3 4))

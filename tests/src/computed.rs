@@ -20,7 +20,7 @@ pub fn closure(sheet: &Sheet) -> Option<Vec<i64>> {
     Some(d)
 }
 
-/// The greatest size of a sum in the pass as document 01 describes it, up to the stop.
+/// The greatest size of a sum in the pass (docs/RULES.md, "The pass"), up to the stop.
 pub fn greatest_sum(sheet: &Sheet) -> i64 {
     let w = sheet.boundaries();
     let mut d = sheet.limits();

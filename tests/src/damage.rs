@@ -69,7 +69,7 @@ pub fn with_notes(r: &mut Random, sheet: &Sheet) -> Vec<u8> {
         }
     }
     let text = all.concat();
-    if text.len() > crate::reading::MOST_BYTES { sheet.text() } else { text }
+    if text.len() > crate::reading::MAX_BYTES { sheet.text() } else { text }
 }
 
 /// A text that reads.

@@ -1,14 +1,16 @@
-//! An independent model of the wave planner, written from document 01 alone, and generators of sheets and texts.
+//! A model of the wave planner, written from docs/RULES.md alone, and generators of sheets and texts.
 //!
-//! The model shares no code, no table and no algorithm with the planner. Small sheets are answered by enumeration of
-//! all plans (`enumerated`), large ones by shortest paths (`computed`); the two are held against each other. `calls` and
-//! `program` run the planner itself.
+//! The model shares no code and no table with the planner. Small sheets are answered by enumeration of all plans (`enumerated`), which
+//! shares no algorithm with it either. Large sheets are answered by shortest paths (`computed`): Floyd and Warshall's and Bellman and
+//! Ford's algorithms, as in the planner, so that half proves less by itself; the two halves are held against each other on small
+//! sheets. `calls`, `network` and `program` run the planner itself.
 
 pub mod calls;
 pub mod cases;
 pub mod computed;
 pub mod damage;
 pub mod enumerated;
+pub mod network;
 pub mod page;
 pub mod program;
 pub mod questions;

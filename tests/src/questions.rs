@@ -1,6 +1,6 @@
-//! The questions that planning and printing ask of lists and rooms, in document 01's order.
+//! The questions that planning and printing ask of lists and rooms, in their order (docs/RULES.md, "The order of the questions").
 
-use crate::sheet::{Rule, Sheet, Unit, MOST_COUNT, MOST_RULES, MOST_SLOTS, MOST_UNITS};
+use crate::sheet::{Rule, Sheet, Unit, MAX_COUNT, MAX_RULES, MAX_SLOTS, MAX_UNITS};
 
 /// The lists as they are handed over: any span, any lengths.
 #[derive(Clone, Debug, Default, PartialEq, Eq)]
@@ -67,7 +67,7 @@ pub fn lies_in_span(first: u16, last: u16, span: usize) -> bool {
 
 /// Question 8.
 pub fn is_count(low: u16, high: u16) -> bool {
-    low <= high && high <= MOST_COUNT
+    low <= high && high <= MAX_COUNT
 }
 
 /// The first question that is answered no, or 0. Question 14 is answered yes for every sheet that passes the others.
@@ -76,13 +76,13 @@ pub fn planning_refusal(lists: &Lists, rooms: &Lengths) -> usize {
     if lists.last.len() != n || lists.to.len() != k || lists.low.len() != k || lists.high.len() != k {
         return 13;
     }
-    if lists.span < 1 || lists.span > MOST_SLOTS {
+    if lists.span < 1 || lists.span > MAX_SLOTS {
         return 6;
     }
-    if n > MOST_UNITS {
+    if n > MAX_UNITS {
         return 9;
     }
-    if k > MOST_RULES {
+    if k > MAX_RULES {
         return 10;
     }
     let units_lie = (0..n).all(|i| lies_in_span(lists.first[i], lists.last[i], lists.span));

@@ -1,7 +1,7 @@
 //! Random numbers from a printed seed, and random sheets.
 
 use crate::enumerated::count;
-use crate::sheet::{Rule, Sheet, Unit, MOST_COUNT};
+use crate::sheet::{Rule, Sheet, Unit, MAX_COUNT};
 
 /// SplitMix64.
 #[derive(Clone, Debug)]
@@ -62,8 +62,8 @@ fn windows(r: &mut Random, span: usize, n: usize, widest: usize) -> Vec<Unit> {
 /// A rule whose count leaves a plan's count this much room below and above; a negative room shuts that plan out.
 fn rule_around(plan: &[u16], (from, to): (u16, u16), below: i64, above: i64) -> Rule {
     let c = count(plan, from as usize - 1, to as usize) as i64;
-    let low = (c - below).clamp(0, MOST_COUNT as i64);
-    let high = (c + above).clamp(low, MOST_COUNT as i64);
+    let low = (c - below).clamp(0, MAX_COUNT as i64);
+    let high = (c + above).clamp(low, MAX_COUNT as i64);
     Rule { from, to, low: low as u16, high: high as u16 }
 }
 
@@ -75,7 +75,7 @@ fn any_plan(r: &mut Random, units: &[Unit]) -> Vec<u16> {
 /// A rule with no regard to any plan; some lows lie above n.
 fn free_rule(r: &mut Random, stretch: (u16, u16), n: usize) -> Rule {
     let low = if r.chance(60) { 0 } else { r.below(n + 2) };
-    let high = if r.chance(10) { MOST_COUNT as usize } else { low + r.below(n + 2) };
+    let high = if r.chance(10) { MAX_COUNT as usize } else { low + r.below(n + 2) };
     Rule { from: stretch.0, to: stretch.1, low: low as u16, high: high as u16 }
 }
 
@@ -137,7 +137,7 @@ pub fn sheet_around(r: &mut Random, span: usize, n: usize, k: usize, widest: usi
     Sheet { span, units, rules }
 }
 
-/// A sheet as in 001, section 4: as many units and rules as slots, counts within one of an a priori plan's.
+/// A sheet as in Chabert and Demassey, section 4: as many units and rules as slots, counts within one of an a priori plan's.
 pub fn paper_sheet(r: &mut Random, n: usize) -> Sheet {
     let units = windows(r, n, n, n);
     let plan = any_plan(r, &units);

@@ -1,11 +1,11 @@
-//! A reader of sheets, straight from document 01: a line is split by hand, and each question is asked of it in turn.
+//! A reader of sheets, straight from docs/RULES.md: a line is split by hand, and each question is asked of it in turn.
 
 use crate::questions::{is_count, lies_in_span};
-use crate::sheet::{Rule, Sheet, Unit, MOST_RULES, MOST_SLOTS, MOST_UNITS};
+use crate::sheet::{Rule, Sheet, Unit, MAX_RULES, MAX_SLOTS, MAX_UNITS};
 
 /// The greatest length of a text (question 1), and the greatest depth of a note (question 11).
-pub const MOST_BYTES: usize = 16_000;
-pub const MOST_DEPTH: usize = 16;
+pub const MAX_BYTES: usize = 16_000;
+pub const MAX_DEPTH: usize = 16;
 
 #[derive(Clone, Copy, Debug, PartialEq, Eq)]
 pub struct Refusal {
@@ -67,7 +67,7 @@ fn note_closes(line: &[u8]) -> bool {
             b')' => depth -= 1,
             _ => (),
         }
-        if depth > MOST_DEPTH {
+        if depth > MAX_DEPTH {
             return false;
         }
         if depth == 0 {
@@ -115,14 +115,14 @@ impl Reader {
             Form::Sheet(digits) => {
                 let span = number(digits).ok_or(4usize)?;
                 ask(self.span.is_none(), 5)?;
-                ask((1..=MOST_SLOTS).contains(&(span as usize)), 6)?;
+                ask((1..=MAX_SLOTS).contains(&(span as usize)), 6)?;
                 self.span = Some(span as usize);
             }
             Form::Unit(digits) => {
                 let [first, last] = all_numbers(digits).ok_or(4usize)?;
                 let span = self.span.ok_or(5usize)?;
                 ask(lies_in_span(first, last, span), 7)?;
-                ask(self.units.len() < MOST_UNITS, 9)?;
+                ask(self.units.len() < MAX_UNITS, 9)?;
                 self.units.push(Unit { first, last });
             }
             Form::Rule(digits) => {
@@ -130,7 +130,7 @@ impl Reader {
                 let span = self.span.ok_or(5usize)?;
                 ask(lies_in_span(from, to, span), 7)?;
                 ask(is_count(low, high), 8)?;
-                ask(self.rules.len() < MOST_RULES, 10)?;
+                ask(self.rules.len() < MAX_RULES, 10)?;
                 self.rules.push(Rule { from, to, low, high });
             }
         }
@@ -140,7 +140,7 @@ impl Reader {
 
 /// The sheet, or the refusal, up to question 12.
 pub fn read(text: &[u8]) -> Result<Sheet, Refusal> {
-    if text.len() > MOST_BYTES {
+    if text.len() > MAX_BYTES {
         return Err(Refusal { number: 1, line: 0 });
     }
     let mut reader = Reader::default();

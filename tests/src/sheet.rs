@@ -1,10 +1,10 @@
-//! Sheets, the limits of steps between boundaries, and rings, as document 01 defines them.
+//! Sheets, the limits of steps between boundaries, and rings, as docs/RULES.md defines them.
 
-/// The sheet's limits (document 01, "Units, windows, rules").
-pub const MOST_SLOTS: usize = 48;
-pub const MOST_UNITS: usize = 300;
-pub const MOST_RULES: usize = 60;
-pub const MOST_COUNT: u16 = 300;
+/// The sheet's sizes (docs/RULES.md, "Units, windows, rules").
+pub const MAX_SLOTS: usize = 48;
+pub const MAX_UNITS: usize = 300;
+pub const MAX_RULES: usize = 60;
+pub const MAX_COUNT: u16 = 300;
 
 #[derive(Clone, Copy, Debug, PartialEq, Eq)]
 pub struct Unit {

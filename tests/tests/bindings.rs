@@ -4,8 +4,8 @@ use std::io::Write;
 use std::path::{Path, PathBuf};
 use std::process::{Command, Stdio};
 
-use reference::cases::{self, Says};
-use reference::{enumerated, page};
+use model::cases::{self, Says};
+use model::{enumerated, page};
 use tugrokt::{Answer, Refusal, Sheet};
 
 #[test]

@@ -3,9 +3,9 @@
 use std::fs;
 use std::path::Path;
 
-use reference::page;
-use reference::reading::{refusal_page, Refusal};
-use reference::sheet::{Sheet, Solved};
+use model::page;
+use model::reading::{refusal_page, Refusal};
+use model::sheet::{Sheet, Solved};
 use tugrokt::Answer;
 
 struct Example {
@@ -114,5 +114,5 @@ fn by_printing() {
 
 #[test]
 fn by_the_program() {
-    check(|text| reference::program::run(text, &[], None));
+    check(|text| model::program::run(text, &[], None));
 }

@@ -1,10 +1,10 @@
-//! The model's reader: document 01's sentences and their readings, one by one.
+//! The model's reader: the sentences of docs/RULES.md about sheets and questions, one by one.
 
-use reference::damage::{any_text, note_of_depth, valid};
-use reference::random::Random;
-use reference::reading::{read, read_into, refusal_page, Refusal};
-use reference::sheet::Sheet;
-use reference::{cases, effort, seed};
+use model::damage::{any_text, note_of_depth, valid};
+use model::random::Random;
+use model::reading::{read, read_into, refusal_page, Refusal};
+use model::sheet::Sheet;
+use model::{cases, effort, seed};
 
 /// The refusal's number and line; 0 and 0 for a sheet.
 fn reply(text: &str) -> (usize, usize) {

@@ -1,9 +1,9 @@
-//! The pass and the finder of negative cycles on random weights, through the border, against a plain implementation.
+//! The pass and the finder of negative cycles on random weights, through the library for tests, against a plain implementation.
 
-use reference::random::Random;
-use reference::tally::Tally;
-use reference::{effort, seed};
-use tugrokt::entry::{negative_cycle, pass, Outcome};
+use model::network::{negative_cycle, pass, Outcome};
+use model::random::Random;
+use model::tally::Tally;
+use model::{effort, seed};
 
 const FINISHED: &str = "finished";
 const STOPPED: &str = "stopped";
@@ -12,7 +12,7 @@ const OUT_OF_RANGE: &str = "out of range";
 /// What stands past the table, and must stay.
 const MARK: i16 = 12_345;
 
-/// The pass as document 01 has it, row after row; `None` with the reason where it does not finish.
+/// The pass (docs/RULES.md, "The pass"), row after row; `None` with the reason where it does not finish.
 fn plain_pass(weights: &[i16], w: usize) -> Result<Vec<i64>, Outcome> {
     let mut table: Vec<i64> = weights[..w * w].iter().map(|d| i64::from(*d)).collect();
     for m in 0..w {

@@ -1,11 +1,11 @@
 //! Planning from lists, through the border: reply and every place of every room against the model.
 
-use reference::calls::planning_fault;
-use reference::questions::{planning_refusal, Lengths, Lists};
-use reference::random::{any_sheet, largest_sheet, paper_sheet, sheet_up_to, small_sheet, Random};
-use reference::sheet::{Sheet, Solved, Unit};
-use reference::tally::Tally;
-use reference::{cases, computed, effort, enumerated, seed};
+use model::calls::planning_fault;
+use model::questions::{planning_refusal, Lengths, Lists};
+use model::random::{any_sheet, largest_sheet, paper_sheet, sheet_up_to, small_sheet, Random};
+use model::sheet::{Sheet, Solved, Unit};
+use model::tally::Tally;
+use model::{cases, computed, effort, enumerated, seed};
 
 const PLAN: &str = "with a plan";
 const NONE: &str = "with none";
@@ -123,7 +123,7 @@ fn sheets_of_all_sizes() {
     tally.report();
 }
 
-/// 001, section 4.
+/// Chabert and Demassey, section 4.
 #[test]
 fn sheets_of_the_source_paper() {
     let mut tally = Tally::new("planning sheets of the source paper", seed(103));

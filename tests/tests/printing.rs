@@ -1,11 +1,11 @@
 //! Printing, through the border: page, place and rooms against the model, and refusals by every question.
 
-use reference::calls::{print, printing_fault, refused_print_fault, Printed};
-use reference::questions::{planning_refusal, Lengths, Lists};
-use reference::random::{any_sheet, largest_sheet, small_sheet, Random};
-use reference::sheet::{Sheet, Solved};
-use reference::tally::Tally;
-use reference::{cases, computed, effort, enumerated, page, seed};
+use model::calls::{print, printing_fault, refused_print_fault, Printed};
+use model::questions::{planning_refusal, Lengths, Lists};
+use model::random::{any_sheet, largest_sheet, small_sheet, Random};
+use model::sheet::{Sheet, Solved};
+use model::tally::Tally;
+use model::{cases, computed, effort, enumerated, page, seed};
 
 /// Prints from some place on, counts the case, and fails where anything differs from the model.
 fn hold(tally: &mut Tally, r: &mut Random, sheet: &Sheet, solved: Option<&Solved>) {
@@ -121,9 +121,9 @@ fn a_running_place() {
     let mut whole = vec![0; 20_000];
     let mut place = 0;
     for sheet in &sheets {
-        let (lists, mut rooms) = (Lists::from(sheet), reference::calls::Rooms::marked(&Lengths::exact(sheet)));
+        let (lists, mut rooms) = (Lists::from(sheet), model::calls::Rooms::marked(&Lengths::exact(sheet)));
         let start = place;
-        let reply = tugrokt::entry::print(reference::calls::lent(&lists), rooms.lend(), &mut whole, &mut place, &mut 0);
+        let reply = tugrokt::entry::print(model::calls::lent(&lists), rooms.lend(), &mut whole, &mut place, &mut 0);
         assert_eq!(reply, 0);
         assert_eq!(page::fault(sheet, enumerated::solve(sheet).as_ref(), &whole[start..place]), None);
     }
@@ -139,6 +139,6 @@ fn the_longest_page() {
     let printed = print(&Lists::from(&sheet), &Lengths::exact(&sheet), 12_657, 0);
     assert_eq!(printed.reply, 0);
     assert_eq!(printed.place, printed.page.len());
-    assert!(printed.place <= tugrokt::LONGEST_PAGE);
+    assert!(printed.place <= tugrokt::MAX_PAGE);
     assert_eq!(page::fault(&sheet, computed::solve(&sheet).as_ref(), &printed.page), None);
 }

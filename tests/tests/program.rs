@@ -2,12 +2,12 @@
 
 use std::time::Duration;
 
-use reference::damage::{any_text, note_of_depth, valid, with_notes};
-use reference::program::{fault, output_fault, run};
-use reference::random::{any_sheet, largest_sheet, small_sheet, Random};
-use reference::reading::read;
-use reference::tally::Tally;
-use reference::{cases, effort, enumerated, page, seed};
+use model::damage::{any_text, note_of_depth, valid, with_notes};
+use model::program::{fault, output_fault, run};
+use model::random::{any_sheet, largest_sheet, small_sheet, Random};
+use model::reading::read;
+use model::tally::Tally;
+use model::{cases, effort, enumerated, page, seed};
 
 /// Runs the program on a text, counts the case, and fails where anything differs from the model.
 fn hold(tally: &mut Tally, text: &[u8]) {
@@ -32,7 +32,7 @@ fn document_cases() {
     assert_eq!(written(&text(3)), cases::P4_PAGE);
 }
 
-/// Document 01's "Run only" list.
+/// The sheets that docs/RULES.md, "Sheets to try", says are only run.
 #[test]
 fn cases_that_are_run() {
     let units = |n: usize| format!("(sheet 4)\n{}", "(unit (window 1 4))\n".repeat(n));

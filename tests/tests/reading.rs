@@ -1,11 +1,11 @@
 //! Reading, through the border: reply, line, counts and every place of every list against the model.
 
-use reference::calls::reading_fault;
-use reference::damage::{any_text, note_of_depth, valid};
-use reference::random::{largest_sheet, Random};
-use reference::reading::read_into;
-use reference::tally::Tally;
-use reference::{cases, effort, seed};
+use model::calls::reading_fault;
+use model::damage::{any_text, note_of_depth, valid};
+use model::random::{largest_sheet, Random};
+use model::reading::read_into;
+use model::tally::Tally;
+use model::{cases, effort, seed};
 
 const UNITS: [usize; 2] = [300; 2];
 const RULES: [usize; 4] = [60; 4];
@@ -163,7 +163,7 @@ fn long_sheets_read() {
     for i in 0..effort(200) {
         let mut r = Random::of_case(seed(202), i);
         let sheet = largest_sheet(&mut r, 1, 48);
-        let text = reference::damage::with_notes(&mut r, &sheet);
+        let text = model::damage::with_notes(&mut r, &sheet);
         assert_eq!(reading_fault(&text, UNITS, RULES), None, "seed {} case {i}", seed(202));
         let text = valid(&mut r);
         assert_eq!(reading_fault(&text, UNITS, RULES), None, "seed {} case {i}", seed(202));

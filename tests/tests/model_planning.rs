@@ -1,11 +1,11 @@
-//! The model itself: document 01's cases, its traps, and the model's two halves against each other.
+//! The model itself: P1 to P10, the shortcuts that fail, and the model's two halves against each other.
 
-use reference::cases::{self, Says};
-use reference::page::{self, Page};
-use reference::questions::{planning_refusal, Lengths, Lists};
-use reference::random::{any_sheet, largest_sheet, small_sheet, Random};
-use reference::sheet::{Sheet, Solved};
-use reference::{computed, effort, enumerated, seed};
+use model::cases::{self, Says};
+use model::page::{self, Page};
+use model::questions::{planning_refusal, Lengths, Lists};
+use model::random::{any_sheet, largest_sheet, small_sheet, Random};
+use model::sheet::{Sheet, Solved};
+use model::{computed, effort, enumerated, seed};
 
 fn windows(s: &Solved) -> Vec<(u16, u16)> {
     s.earliest.iter().copied().zip(s.latest.iter().copied()).collect()
@@ -214,7 +214,7 @@ fn the_largest_sheets_are_answered() {
     }
 }
 
-/// The questions in document 01's order, one fault each, and in pairs the one asked first.
+/// The questions in their order, one fault each, and in pairs the one asked first.
 #[test]
 fn planning_questions_keep_their_order() {
     let sheet = Sheet::new(3, &[(1, 3), (2, 2)], &[(1, 2, 0, 300)]);

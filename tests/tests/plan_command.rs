@@ -1,0 +1,139 @@
+//! The command `./plan`: its page, its status, and many calls at once.
+
+use std::fs::{self, File, Permissions};
+use std::os::unix::fs::PermissionsExt;
+use std::path::{Path, PathBuf};
+use std::process::{Child, Command, Output, Stdio};
+use std::sync::Once;
+
+use model::cases;
+
+/// The command, on a tree where there is nothing left to prove.
+fn plan() -> Command {
+    static BUILT: Once = Once::new();
+    let path = Path::new(env!("ROOT")).join("plan");
+    BUILT.call_once(|| drop(Command::new(&path).stdin(Stdio::null()).output().unwrap()));
+    let mut command = Command::new(path);
+    command.stdout(Stdio::piped()).stderr(Stdio::piped());
+    command
+}
+
+/// Starts the command on a text. It stands in a file, so that nothing has to feed a pipe.
+fn start(name: &str, text: &[u8]) -> Child {
+    let path = Path::new(env!("CARGO_TARGET_TMPDIR")).join(format!("{name}.sheet"));
+    fs::write(&path, text).unwrap();
+    plan().stdin(File::open(path).unwrap()).spawn().expect("the command starts")
+}
+
+fn end(child: Child) -> (i32, String, String) {
+    let Output { status, stdout, stderr } = child.wait_with_output().expect("the command ends");
+    (status.code().expect("no signal"), String::from_utf8(stdout).unwrap(), String::from_utf8(stderr).unwrap())
+}
+
+#[test]
+fn the_status_is_the_answer() {
+    let (p2, p4) = (cases::all()[1].sheet.text(), cases::all()[3].sheet.text());
+    assert_eq!(end(start("plan", &p2)), (0, cases::P2_PAGE.into(), String::new()));
+    assert_eq!(end(start("none", &p4)), (1, cases::P4_PAGE.into(), String::new()));
+    assert_eq!(end(start("refused", b"(sheet 49)\n")), (2, "(refused 6 (line 1))\n".into(), String::new()));
+    assert_eq!(end(start("empty", b"")), (2, "(refused 5 (line 0))\n".into(), String::new()));
+    // A byte 0 in the sheet is no trouble to the shell.
+    assert_eq!(end(start("zero", b"(sheet 4)\0\n")), (2, "(refused 2 (line 1))\n".into(), String::new()));
+}
+
+/// What cannot be read or written is said, and is no answer.
+#[test]
+fn reading_or_writing_fails() {
+    let folder = plan().stdin(File::open("/").unwrap()).spawn().unwrap();
+    let (status, page, said) = end(folder);
+    assert_eq!((status, page.as_str()), (3, ""));
+    assert!(said.contains("plan: the sheet could not be read"), "{said}");
+    for text in [cases::all()[1].sheet.text(), cases::all()[3].sheet.text(), b"(sheet 49)\n".to_vec()] {
+        let path = Path::new(env!("CARGO_TARGET_TMPDIR")).join("full.sheet");
+        fs::write(&path, text).unwrap();
+        let full = File::options().write(true).open("/dev/full").unwrap();
+        let (status, _, said) = end(plan().stdin(File::open(path).unwrap()).stdout(full).spawn().unwrap());
+        assert_eq!((status, said.as_str()), (3, "plan: the page could not be written\n"));
+    }
+    for closed in ["<&-", ">&-"] {
+        let words = ["-c", &format!("exec ./plan {closed}")];
+        let run = Command::new("bash").args(words).current_dir(env!("ROOT")).stdin(Stdio::null()).output().unwrap();
+        assert_eq!((run.status.code(), run.stdout.len()), (Some(3), 0), "{closed}");
+        assert!(String::from_utf8_lossy(&run.stderr).contains("is closed"), "{closed}");
+    }
+}
+
+/// On a built tree nothing is proved, and calls do not disturb each other.
+#[test]
+fn ten_at_once() {
+    let sheets: Vec<Vec<u8>> = cases::all().iter().map(|case| case.sheet.text()).collect();
+    let pages: Vec<(i32, String, String)> = sheets.iter().enumerate().map(|(i, text)| end(start(&format!("one{i}"), text))).collect();
+    let calls: Vec<Child> = sheets.iter().enumerate().map(|(i, text)| start(&format!("ten{i}"), text)).collect();
+    for (call, alone) in calls.into_iter().zip(pages) {
+        assert!(alone.2.is_empty(), "{}", alone.2);
+        assert_eq!(end(call), alone);
+    }
+}
+
+/// A small tree with the command and a kit whose `rt check wave` runs this script.
+fn tree(name: &str, check: &str) -> PathBuf {
+    let root = Path::new(env!("CARGO_TARGET_TMPDIR")).join(name);
+    let _ = fs::remove_dir_all(&root);
+    fs::create_dir_all(root.join("crates/low")).unwrap();
+    fs::create_dir_all(root.join("target/bin")).unwrap();
+    fs::copy(Path::new(env!("ROOT")).join("plan"), root.join("plan")).unwrap();
+    fs::write(root.join("crates.txt"), "# two crates\nlow:\nother: low\nwave: low io os libc\n").unwrap();
+    fs::create_dir(root.join("kit")).unwrap();
+    fs::write(root.join("kit/rt"), format!("#!/bin/sh\necho \"$*\" >>calls\n{check}")).unwrap();
+    fs::set_permissions(root.join("kit/rt"), Permissions::from_mode(0o755)).unwrap();
+    root
+}
+
+fn plan_in(root: &Path) -> Child {
+    let path = format!("{}:{}", root.join("kit").display(), std::env::var("PATH").unwrap());
+    let mut command = Command::new(root.join("plan"));
+    command.env("PATH", path).stdin(Stdio::null()).stdout(Stdio::piped()).stderr(Stdio::piped()).spawn().unwrap()
+}
+
+const PROVES: &str = r#"sleep 0.3
+echo 'logic=proved'
+echo 'rt: low proved (2 s)'
+echo 'rt: wave proved (3 s)'
+printf '#!/bin/sh\necho "(answer plan 0)"\n' >target/bin/wave
+chmod +x target/bin/wave
+"#;
+
+/// One of many calls builds the program and tells how far it is; the others wait for it. Only a newer source has it built again.
+#[test]
+fn one_call_builds() {
+    let root = tree("built", PROVES);
+    let calls: Vec<Child> = (0..6).map(|_| plan_in(&root)).collect();
+    let ends: Vec<(i32, String, String)> = calls.into_iter().map(end).collect();
+    assert!(ends.iter().all(|e| e.0 == 0 && e.1 == "(answer plan 0)\n"), "{ends:?}");
+    let told: Vec<&String> = ends.iter().map(|e| &e.2).filter(|said| !said.is_empty()).collect();
+    assert_eq!(told.len(), 1, "{told:?}");
+    assert!(told[0].ends_with("\nplan: 1 of 2: low proved (2 s)\nplan: 2 of 2: wave proved (3 s)\n"), "{}", told[0]);
+    let calls = || fs::read_to_string(root.join("calls")).unwrap();
+    assert_eq!(calls(), "check wave\n");
+    assert_eq!(end(plan_in(&root)).2, "");
+    assert_eq!(calls(), "check wave\n");
+    fs::write(root.join("crates/low/source"), "newer").unwrap();
+    assert_eq!(end(plan_in(&root)).0, 0);
+    assert_eq!(calls(), "check wave\ncheck wave\n");
+}
+
+/// Where the proof fails there is no page, not even of an older program, and what the kit said is shown.
+#[test]
+fn a_proof_fails() {
+    let root = tree("unproved", "echo 'rt: low NOT PROVED (exit 1, 2 s)'\nexit 1\n");
+    for _ in 0..2 {
+        let (status, page, said) = end(plan_in(&root));
+        assert_eq!((status, page.as_str()), (3, ""));
+        assert!(said.ends_with("rt: low NOT PROVED (exit 1, 2 s)\nplan: the program is not proved\n"), "{said}");
+        let program = root.join("target/bin/wave");
+        fs::write(&program, "#!/bin/sh\necho '(answer plan 0)'\n").unwrap();
+        fs::set_permissions(&program, Permissions::from_mode(0o755)).unwrap();
+        std::thread::sleep(std::time::Duration::from_millis(20));
+        fs::write(root.join("crates/low/source"), "newer").unwrap();
+    }
+}
