@@ -11,22 +11,23 @@ use Rattle.lists.specs.Lists.{howMany}
 use Rattle.network.specs.Network.{Weights}
 use Rattle.network.specs.Table.{tableOf}
 use Rattle.sheet.specs.Sizes.{maxUnits}
-use Rattle.sheet.specs.Sheet.{Slot, Window, Sheet, boundaries, insideOf, slotAfter, limit}
+use Rattle.slots.specs.Slots.{Slot, slotEnd, slotAfter, slotBefore}
+use Rattle.sheet.specs.Sheet.{Window, Sheet, boundaries, insideOf, limit}
 use Rattle.sheet.specs.Questions.{sheetOf, listsAgree, accepted}
 
 -- the limits of all steps, in front of what stands past them
 abbrev pub limitTable : Sheet → List ℤ → List ℤ
 limitTable s t = tableOf (boundaries s) (limit s) ++ drop (boundaries s * boundaries s) t
 
--- the units' windows, as first and last slots: at most `maxUnits`, each 1 ≤ first ≤ last, and last below w
+-- the units' windows, as first and last slots: at most `maxUnits`, each 1 ≤ first ≤ last, and last ends at one of w boundaries
 pub record WindowsFit (w : ℕ) (first last : List Slot) : Type 0 where
   pub paired : length last ≡ length first
   pub few : length first ≤ maxUnits
-  pub each : (j : ℕ) → j < length first → (1 ≤ getD first j 0) × (getD first j 0 ≤ getD last j 0) × (getD last j 0 < w)
+  pub each : (j : ℕ) → j < length first → (1 ≤ getD first j 0) × (getD first j 0 ≤ getD last j 0) × (slotEnd (getD last j 0) < w)
 
 -- minus the number of windows inside the slots b+1 to a; none is inside where a ≤ b
 unfoldable pub insideWeights : List Window → Weights
-insideWeights ws a b = negℤ (pos (howMany (insideOf (slotAfter b) a) ws))
+insideWeights ws a b = negℤ (pos (howMany (insideOf (slotAfter b) (slotBefore a)) ws))
 
 -- the window is exactly the slots f to t
 abbrev pub exactly : Slot → Slot → Window → Bool
@@ -34,7 +35,7 @@ exactly f t w = eqb (w .first) f && eqb (w .last) t
 
 -- minus the number of windows that are exactly the slots b+1 to a
 unfoldable pub exactWeights : List Window → Weights
-exactWeights ws a b = negℤ (pos (howMany (exactly (slotAfter b) a) ws))
+exactWeights ws a b = negℤ (pos (howMany (exactly (slotAfter b) (slotBefore a)) ws))
 
 -- n on every forward step, and the other steps as they are
 unfoldable pub withForward : ℕ → Weights → Weights

@@ -1,9 +1,10 @@
 ghost use mathlib.Core.Path.{_≡_};
 ghost use mathlib.Core.List.{_++_};
-ghost use Prim.Native.Nat.{_+_, _-_, _*_, _<_, _≤_};
+ghost use Prim.Native.Nat.{_+_, _*_, _<_, _≤_};
 ghost use lib.ListN.{length, drop};
 ghost use lib.IntN.{pos, negℤ};
 ghost use Rattle.network.specs.Table.{tableOf, entry};
+ghost use Rattle.slots.specs.Slots.{slotEnd, slotStart};
 ghost use Rattle.sheet.specs.Sizes.{maxUnits, maxCount};
 ghost use Rattle.sheet.specs.Questions.{sheetOf};
 ghost use Rattle.limits.specs.LimitTable.{withForward, tightenedAt, limitTable, Fillable};
@@ -32,7 +33,8 @@ pub fn fill_forward(n: usize, w: usize, t: &mut [i16])
 // A rule on exactly its stretch: its high on the step forward, its low on the step back.
 pub fn apply_rule(from: u16, to: u16, low: u16, high: u16, w: usize, t: &mut [i16])
     requires { ⌜ (1 ≤ from) × (from ≤ to) × (to < w) × (low ≤ maxCount) × (high ≤ maxCount) × (w * w ≤ length (now t)) ⌝ }
-    ensures { λ _. ⌜ now (t .exit) ≡ tightenedAt (to * w + (from - 1)) (negℤ (pos low)) (tightenedAt ((from - 1) * w + to) (pos high) (now (t .entry))) ⌝ }
+    ensures { λ _. ⌜ now (t .exit) ≡ tightenedAt (slotEnd to * w + slotStart from) (negℤ (pos low))
+        (tightenedAt (slotStart from * w + slotEnd to) (pos high) (now (t .entry))) ⌝ }
 {
     let ahead = forward_place(from, to, w);
     let forward = Limit { value: t[ahead] };

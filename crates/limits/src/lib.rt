@@ -1,7 +1,8 @@
 ghost use mathlib.Core.Path.{_≡_};
-ghost use Prim.Native.Nat.{_+_, _-_, _*_, _^_, _<_, _≤_};
-use sheet::Boundary;
-use sheet::Slot;
+ghost use Prim.Native.Nat.{_+_, _*_, _^_, _<_, _≤_};
+ghost use Rattle.slots.specs.Slots.{slotEnd, slotStart};
+use slots::Boundary;
+use slots::Slot;
 
 pub mod fill;
 pub mod inside;
@@ -17,20 +18,20 @@ pub fn place(from: Boundary, to: Boundary, w: usize) -> usize
 
 // The place of the step forward over the slots first to last.
 pub fn forward_place(first: u16, last: u16, w: usize) -> usize
-    requires { ⌜ (1 ≤ first) × (first ≤ last) × (last < w) × (w * w < 2 ^ 64) ⌝ }
-    ensures { λ r. ⌜ r ≡ (first - 1) * w + last ⌝ }
+    requires { ⌜ (1 ≤ first) × (first ≤ last) × (slotEnd last < w) × (w * w < 2 ^ 64) ⌝ }
+    ensures { λ r. ⌜ r ≡ slotStart first * w + slotEnd last ⌝ }
 {
     let end = Slot(last as usize).end();
-    let start = Slot(first as usize).end().before();
+    let start = Slot(first as usize).start();
     place(start, end, w)
 }
 
 // The place of the step back over the slots first to last.
 pub fn back_place(first: u16, last: u16, w: usize) -> usize
-    requires { ⌜ (1 ≤ first) × (first ≤ last) × (last < w) × (w * w < 2 ^ 64) ⌝ }
-    ensures { λ r. ⌜ r ≡ last * w + (first - 1) ⌝ }
+    requires { ⌜ (1 ≤ first) × (first ≤ last) × (slotEnd last < w) × (w * w < 2 ^ 64) ⌝ }
+    ensures { λ r. ⌜ r ≡ slotEnd last * w + slotStart first ⌝ }
 {
     let end = Slot(last as usize).end();
-    let start = Slot(first as usize).end().before();
+    let start = Slot(first as usize).start();
     place(end, start, w)
 }

@@ -7,6 +7,7 @@ use Prim.Native.Nat.{ℕ, suc, _-_, _*_, _≤_, _<_}
 use lib.ListN.{length, getD}
 use lib.IntN.{ℤ, pos, _+ℤ_}
 use lib.Signed.{_≤ℤ_}
+use Rattle.slots.specs.Slots.{Slot, Boundary, slotEnd, slotStart}
 use Rattle.network.specs.Network.{Weights, Potential}
 use Rattle.network.specs.Table.{maxBoundaries, entry}
 use Rattle.network_cuts.specs.Cut.{Admits, LeastCut}
@@ -41,36 +42,37 @@ pub record CutNetwork (w : ℕ) (d m : List ℤ) : Type 0 where
   pub small : (a b : ℕ) → a < w → b < w → Within 301 (entry w m a b)
 
 -- v cuts the window f..l
-abbrev pub Cuts : ℕ → ℕ → ℕ → ℕ → Type 0
-Cuts w f v l = (1 ≤ f) × (f ≤ v) × (v < l) × (l < w)
+abbrev pub Cuts : ℕ → Slot → Slot → Slot → Type 0
+Cuts w f v l = (1 ≤ f) × (f ≤ v) × (v < l) × (slotEnd l < w)
 
-abbrev pub SunkAt : ℕ → List ℤ → List ℤ → ℕ → ℕ → ℕ → List ℤ → Type 0
+abbrev pub SunkAt : ℕ → List ℤ → List ℤ → Slot → Slot → Slot → List ℤ → Type 0
 SunkAt w d m f v l z = Sunk (w - 1) (entry w d) (into w m) f v l (valueAt z)
 
 -- what the decider keeps: z, one number a boundary, is not yet too low
-pub record Sinking (w : ℕ) (d m : List ℤ) (f v l : ℕ) (z : List ℤ) : Type 0 where
+pub record Sinking (w : ℕ) (d m : List ℤ) (f v l : Slot) (z : List ℤ) : Type 0 where
   pub net : CutNetwork w d m
   pub cuts : Cuts w f v l
   pub long : length z ≡ w
   pub sunk : SunkAt w d m f v l z
 
-abbrev pub AdmitsAt : ℕ → List ℤ → List ℤ → ℕ → ℕ → ℕ → Type 0
+abbrev pub AdmitsAt : ℕ → List ℤ → List ℤ → Slot → Slot → Slot → Type 0
 AdmitsAt w d m f v l = Admits (w - 1) (entry w d) (into w m) f v l
 
-abbrev pub heightAt : ℕ → List ℤ → ℕ → List ℤ → ℕ
-heightAt w d f z = height (entry w d) (f - 1) (valueAt z) (suc (w - 1))
+abbrev pub heightAt : ℕ → List ℤ → Slot → List ℤ → ℕ
+heightAt w d f z = height (entry w d) (slotStart f) (valueAt z) (suc (w - 1))
 
 -- what lowering z to the arcs into the boundaries from h to k leaves: nothing was to be done, or z fell, or no potential keeps the arcs
-abbrev pub Settling : ℕ → List ℤ → List ℤ → ℕ → ℕ → ℕ → ℕ → ℕ → List ℤ → List ℤ → Settled → Type 0
-Settling w d m f v l h k z z′ Still = (z′ ≡ z) × ((a b : ℕ) → h ≤ b → b < k → v ≤ a → a < l → valueAt z b ≤ℤ (valueAt z a +ℤ into w m a b))
+abbrev pub Settling : ℕ → List ℤ → List ℤ → Slot → Slot → Slot → Boundary → Boundary → List ℤ → List ℤ → Settled → Type 0
+Settling w d m f v l h k z z′ Still =
+    (z′ ≡ z) × ((a b : Boundary) → h ≤ b → b < k → slotEnd v ≤ a → a < slotEnd l → valueAt z b ≤ℤ (valueAt z a +ℤ into w m a b))
 Settling w d m f v l h k z z′ Lower = Sinking w d m f v l z′ × (heightAt w d f z′ < heightAt w d f z)
 Settling w d m f v l h k z z′ Lost = AdmitsAt w d m f v l → ⊥
 
 -- no cut of the window f..l below g is admitted
-abbrev pub Barred : ℕ → List ℤ → List ℤ → ℕ → ℕ → ℕ → Type 0
-Barred w d m f l g = (u : ℕ) → f ≤ u → u < g → AdmitsAt w d m f u l → ⊥
+abbrev pub Barred : ℕ → List ℤ → List ℤ → Slot → Slot → Slot → Type 0
+Barred w d m f l g = (u : Slot) → f ≤ u → u < g → AdmitsAt w d m f u l → ⊥
 
-abbrev pub LeastCutAt : ℕ → List ℤ → List ℤ → ℕ → ℕ → ℕ → Type 0
+abbrev pub LeastCutAt : ℕ → List ℤ → List ℤ → Slot → Slot → Slot → Type 0
 LeastCutAt w d m f l v = LeastCut (w - 1) (entry w d) (into w m) f l v
 
 -- a sweep over boundaries says whether z fell

@@ -1,7 +1,10 @@
 use integers::less;
 use integers::lesser;
+use slots::Boundary;
+use slots::Slot;
 ghost use Prim.Native.Nat.{_+_, _<_, _≤_};
 ghost use lib.ListN.{length};
+ghost use Rattle.slots.specs.Slots.{slotEnd};
 ghost use Rattle.network_cuts.specs.Decider.{Modest, LeastSum, CutNetwork, Cuts, Sinking, AdmitsAt, Settling, Decides, Barred, LeastCutAt};
 
 // What lowering a potential to the arcs of a cut comes to: it keeps them, it fell, or no potential keeps them.
@@ -28,23 +31,27 @@ fn settle(
     d: &[i16],
     m: &[i16],
     w: usize,
-    f: usize,
-    v: usize,
-    l: usize,
-    b: usize,
+    f: Slot,
+    v: Slot,
+    l: Slot,
+    b: Boundary,
     z: &mut [i16],
 ) -> Settled
-    requires { ⌜ Sinking w (now d) (now m) f v l (now z) × (b < f) ⌝ }
-    ensures { λ r. ⌜ Settling w (now (d .entry)) (now (m .entry)) f v l b (b + 1) (now (z .entry)) (now (z .exit)) r ⌝ }
+    requires { ⌜ Sinking w (now d) (now m) (f .0) (v .0) (l .0) (now z) × (b .0 < slotEnd (f .0)) ⌝ }
+    ensures { λ r. ⌜ Settling w (now (d .entry)) (now (m .entry)) (f .0) (v .0) (l .0) (b .0) (b .0 + 1) (now (z .entry)) (now (z .exit)) r ⌝ }
 {
-    let row = b * w;
+    let into = b.0;
+    let row = into * w;
     let end = row + w;
-    let arcs = row + v;
-    let arcs_end = row + l;
-    let k = least_sum(&z[v..l], &m[arcs..arcs_end]);
-    if less(k, z[b]) {
+    let from = v.end().0;
+    let to = l.end().0;
+    let arcs = row + from;
+    let arcs_end = row + to;
+    let k = least_sum(&z[from..to], &m[arcs..arcs_end]);
+    if less(k, z[into]) {
         network::relax_row(z, &d[row..end], k);
-        if less(z[f - 1], 0) {
+        let before = f.start().0;
+        if less(z[before], 0) {
             return Settled::Lost;
         }
         return Settled::Lower;
@@ -53,13 +60,14 @@ fn settle(
 }
 
 // Settles every boundary before the window once.
-fn sweep(d: &[i16], m: &[i16], w: usize, f: usize, v: usize, l: usize, z: &mut [i16]) -> Settled
-    requires { ⌜ Sinking w (now d) (now m) f v l (now z) ⌝ }
-    ensures { λ r. ⌜ Settling w (now (d .entry)) (now (m .entry)) f v l 0 f (now (z .entry)) (now (z .exit)) r ⌝ }
+fn sweep(d: &[i16], m: &[i16], w: usize, f: Slot, v: Slot, l: Slot, z: &mut [i16]) -> Settled
+    requires { ⌜ Sinking w (now d) (now m) (f .0) (v .0) (l .0) (now z) ⌝ }
+    ensures { λ r. ⌜ Settling w (now (d .entry)) (now (m .entry)) (f .0) (v .0) (l .0) 0 (slotEnd (f .0)) (now (z .entry)) (now (z .exit)) r ⌝ }
 {
     let mut lower = false;
-    for b in 0..f {
-        let s = settle(d, m, w, f, v, l, b, z);
+    let end = f.end().0;
+    for b in 0..end {
+        let s = settle(d, m, w, f, v, l, Boundary(b), z);
         match s {
             Settled::Still => {}
             Settled::Lower => {
@@ -78,9 +86,9 @@ fn sweep(d: &[i16], m: &[i16], w: usize, f: usize, v: usize, l: usize, z: &mut [
 }
 
 // Lowers z until it keeps the arcs of the cut, or until no potential does.
-fn sink(d: &[i16], m: &[i16], w: usize, f: usize, v: usize, l: usize, z: &mut [i16]) -> bool
-    requires { ⌜ Sinking w (now d) (now m) f v l (now z) ⌝ }
-    ensures { λ r. ⌜ Decides r (AdmitsAt w (now (d .entry)) (now (m .entry)) f v l) ⌝ }
+fn sink(d: &[i16], m: &[i16], w: usize, f: Slot, v: Slot, l: Slot, z: &mut [i16]) -> bool
+    requires { ⌜ Sinking w (now d) (now m) (f .0) (v .0) (l .0) (now z) ⌝ }
+    ensures { λ r. ⌜ Decides r (AdmitsAt w (now (d .entry)) (now (m .entry)) (f .0) (v .0) (l .0)) ⌝ }
 {
     loop {
         let s = sweep(d, m, w, f, v, l, z);
@@ -97,12 +105,13 @@ fn sink(d: &[i16], m: &[i16], w: usize, f: usize, v: usize, l: usize, z: &mut [i
 }
 
 // Whether the network admits the cut of the window f..l at v. The potential starts as the highest that is 0 before the window.
-pub fn admits(d: &[i16], m: &[i16], w: usize, f: usize, v: usize, l: usize) -> bool
-    requires { ⌜ CutNetwork w (now d) (now m) × Cuts w f v l ⌝ }
-    ensures { λ r. ⌜ Decides r (AdmitsAt w (now (d .entry)) (now (m .entry)) f v l) ⌝ }
+pub fn admits(d: &[i16], m: &[i16], w: usize, f: Slot, v: Slot, l: Slot) -> bool
+    requires { ⌜ CutNetwork w (now d) (now m) × Cuts w (f .0) (v .0) (l .0) ⌝ }
+    ensures { λ r. ⌜ Decides r (AdmitsAt w (now (d .entry)) (now (m .entry)) (f .0) (v .0) (l .0)) ⌝ }
 {
     let mut z = [0i16; network::MAX_BOUNDARIES];
-    let row = (f - 1) * w;
+    let before = f.start().0;
+    let row = before * w;
     let end = row + w;
     network::copy_row(&d[row..end], &mut z);
     sink(d, m, w, f, v, l, &mut z[..w])
@@ -110,29 +119,21 @@ pub fn admits(d: &[i16], m: &[i16], w: usize, f: usize, v: usize, l: usize) -> b
 
 // The least admitted cut of the window f..l: `known` is an admitted one, and none below `low` is. Mostly `low` is the one, so it is tried
 // first; the rest is found by halving.
-pub fn least_cut(
-    d: &[i16],
-    m: &[i16],
-    w: usize,
-    f: usize,
-    l: usize,
-    low: usize,
-    known: usize,
-) -> usize
-    requires { ⌜ CutNetwork w (now d) (now m) × (1 ≤ f) × (f ≤ low) × (f ≤ known) × (known ≤ l) × (l < w) ⌝ }
-    requires { ⌜ AdmitsAt w (now d) (now m) f known l × Barred w (now d) (now m) f l low ⌝ }
-    ensures { λ r. ⌜ LeastCutAt w (now (d .entry)) (now (m .entry)) f l r ⌝ }
+pub fn least_cut(d: &[i16], m: &[i16], w: usize, f: Slot, l: Slot, low: Slot, known: Slot) -> Slot
+    requires { ⌜ CutNetwork w (now d) (now m) × (1 ≤ f .0) × (f .0 ≤ low .0) × (f .0 ≤ known .0) × (known .0 ≤ l .0) × (slotEnd (l .0) < w) ⌝ }
+    requires { ⌜ AdmitsAt w (now d) (now m) (f .0) (known .0) (l .0) × Barred w (now d) (now m) (f .0) (l .0) (low .0) ⌝ }
+    ensures { λ r. ⌜ LeastCutAt w (now (d .entry)) (now (m .entry)) (f .0) (l .0) (r .0) ⌝ }
 {
-    let mut from = low;
-    let mut to = known;
-    let mut middle = low;
+    let mut from = low.0;
+    let mut to = known.0;
+    let mut middle = low.0;
     while from < to {
-        if admits(d, m, w, f, middle, l) {
+        if admits(d, m, w, f, Slot(middle), l) {
             to = middle;
         } else {
             from = middle + 1;
         }
         middle = from + (to - from) / 2;
     }
-    to
+    Slot(to)
 }

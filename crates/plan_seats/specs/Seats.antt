@@ -6,6 +6,7 @@ use lib.ListN.{length, getD, replicate}
 use lib.IntN.{ℤ, pos}
 use lib.Signed.{_≤ℤ_}
 use Rattle.integers.specs.Parts.{up}
+use Rattle.slots.specs.Slots.{Slot, Boundary, slotBefore}
 use Rattle.network.specs.Network.{Weights}
 use Rattle.sheet.specs.Sizes.{maxSlots, maxUnits}
 use Rattle.sheet.specs.Sheet.{Sheet, top}
@@ -13,13 +14,13 @@ use Rattle.sheet.specs.Questions.{windowsOf}
 use Rattle.sheet.specs.Solved.{Solved}
 use Rattle.plans.specs.Seating.{at, byRank, seatSlots}
 
--- the number of seats by the end of slot b
-abbrev pub countAt : List ℤ → ℕ → ℕ
+-- the number of seats by boundary b
+abbrev pub countAt : List ℤ → Boundary → ℕ
 countAt counts b = up (getD counts b (pos 0))
 
 -- the counts rise from at least 0, boundary after boundary
 abbrev pub Rising : List ℤ → Type 0
-Rising counts = (b : ℕ) → suc b < length counts → (pos 0 ≤ℤ getD counts b (pos 0)) × (getD counts b (pos 0) ≤ℤ getD counts (suc b) (pos 0))
+Rising counts = (b : Boundary) → suc b < length counts → (pos 0 ≤ℤ getD counts b (pos 0)) × (getD counts b (pos 0) ≤ℤ getD counts (suc b) (pos 0))
 
 -- lists that seating can take, and a room that is long enough
 pub record Seatable (first last : List ℕ) (counts : List ℤ) (plan : List ℕ) : Type 0 where
@@ -34,9 +35,9 @@ pub record Seatable (first last : List ℕ) (counts : List ℤ) (plan : List ℕ
 abbrev pub seatOrder : List ℕ → List ℕ → List ℕ
 seatOrder last order = byRank (at last) (length last) (length last) order
 
--- the last slot
-abbrev pub lastSlot : List ℤ → ℕ
-lastSlot counts = length counts - 1
+-- the last slot: the one before the top boundary
+abbrev pub lastSlot : List ℤ → Slot
+lastSlot counts = slotBefore (length counts - 1)
 
 -- the units at the first k places of the order have seats
 abbrev pub Skipped : ℕ → List ℕ → List ℕ → Type 0
@@ -59,4 +60,4 @@ pub record RowOf (s : Sheet) (D : Weights) (first last : List ℕ) (counts : Lis
   pub solved : Solved s D
   pub units : s .units ≡ windowsOf first last
   pub slots : length counts ≡ suc (top s)
-  pub row : (b : ℕ) → b ≤ top s → getD counts b (pos 0) ≡ D 0 b
+  pub row : (b : Boundary) → b ≤ top s → getD counts b (pos 0) ≡ D 0 b

@@ -9,10 +9,11 @@ use lib.IntN.{ℤ, pos, negsuc, negℤ, _+ℤ_}
 use Rattle.lists.specs.Lists.{howMany}
 use Rattle.network.specs.Network.{Weights}
 use Rattle.network.specs.Table.{entry}
+use Rattle.slots.specs.Slots.{Boundary, slotAfter, slotBefore}
 use Rattle.sheet.specs.Sheet.{Window, Sheet, insideOf}
 
 -- the network seen from its end: boundary b is top - b, and every step goes the other way
-abbrev pub mirrored : ℕ → Weights → Weights
+abbrev pub mirrored : Boundary → Weights → Weights
 mirrored top d a b = d (top - b) (top - a)
 
 -- arcs one less than the steps back of d, listed by the boundary they lead into; the other entries are no arcs and stay
@@ -21,7 +22,7 @@ oneLess d b a = cond (ltb b a) (d a b +ℤ negsuc 0) (d b a)
 
 -- the weight of an added arc from a to b: minus the number of windows inside b+1 to a, the added one counted too
 abbrev pub addedArc : Sheet → Weights
-addedArc s a b = negℤ (pos (suc (howMany (insideOf (suc b) a) (s .units))))
+addedArc s a b = negℤ (pos (suc (howMany (insideOf (slotAfter b) (slotBefore a)) (s .units))))
 
 -- the entries of t are those of d
 abbrev pub HasEntries : ℕ → Weights → List ℤ → Type 0

@@ -7,7 +7,8 @@ use lib.ListN.{length, take, drop}
 use lib.IntN.{ℤ}
 use Rattle.network.specs.Table.{maxBoundaries, entry}
 use Rattle.sheet.specs.Sizes.{maxUnits}
-use Rattle.sheet.specs.Sheet.{Slot, Sheet, top, lawful, earliestSlots, latestSlots}
+use Rattle.slots.specs.Slots.{Slot}
+use Rattle.sheet.specs.Sheet.{Sheet, top, lawful, earliestSlots, latestSlots}
 use Rattle.sheet.specs.Questions.{windowsOf}
 use Rattle.sheet.specs.Solved.{Solved}
 

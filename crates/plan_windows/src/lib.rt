@@ -1,12 +1,14 @@
 use limits::inside::windows_inside;
 use network_cuts::admits;
 use network_cuts::least_cut;
+use slots::Slot;
 ghost use mathlib.Core.Path.{_≡_};
 ghost use Prim.Native.Nat.{ℕ, _+_, _-_, _*_, _<_, _≤_, max, min};
 ghost use mathlib.Core.Bool.{true, false};
 ghost use lib.ListN.{length, getD};
 ghost use Rattle.lists.specs.Values.{Filled};
 ghost use Rattle.network.specs.Table.{entry, maxBoundaries};
+ghost use Rattle.slots.specs.Slots.{slotEnd};
 ghost use Rattle.sheet.specs.Sheet.{Sheet};
 ghost use Rattle.sheet.specs.Questions.{windowsOf};
 ghost use Rattle.limits.specs.LimitTable.{WindowsFit, insideWeights};
@@ -106,18 +108,18 @@ fn last_marked(row: &[u16]) -> usize
 
 // A cut of every marked window that reaches to it. What the longest window admits, the others that open with it do too, so one try mostly
 // serves the whole row; where it fails, the answer is w, which no window reaches.
-fn common_cut(d: &[i16], m: &[i16], w: usize, f: usize, row: &[u16], floor: &[u16]) -> usize
-    requires { ⌜ CutNetwork w (now d) (now m) × (1 ≤ f) × (f < w) × (length (now row) ≡ w) × (w ≤ length (now floor))
-        × KnownRow w (now d) (now m) f (now row) ⌝ }
-    ensures { λ r. ⌜ CommonCut w (now (d .entry)) (now (m .entry)) f (now (row .entry)) r ⌝ }
+fn common_cut(d: &[i16], m: &[i16], w: usize, f: Slot, row: &[u16], floor: &[u16]) -> usize
+    requires { ⌜ CutNetwork w (now d) (now m) × (1 ≤ f .0) × (slotEnd (f .0) < w) × (length (now row) ≡ w) × (w ≤ length (now floor))
+        × KnownRow w (now d) (now m) (f .0) (now row) ⌝ }
+    ensures { λ r. ⌜ CommonCut w (now (d .entry)) (now (m .entry)) (f .0) (now (row .entry)) r ⌝ }
 {
     let l = last_marked(row);
-    let v = larger(f, floor[l]);
+    let v = larger(f.0, floor[l]);
     let known = row[l] as usize;
     if known <= v {
         return v;
     }
-    if admits(d, m, w, f, v, l) {
+    if admits(d, m, w, f, Slot(v), Slot(l)) {
         return v;
     }
     w
@@ -125,19 +127,20 @@ fn common_cut(d: &[i16], m: &[i16], w: usize, f: usize, row: &[u16], floor: &[u1
 
 // The least cuts of the windows that open in f, in the order in which they close: what is barred for one is barred for the next, and for
 // the window that opens later and closes in the same slot.
-fn cut_row(d: &[i16], m: &[i16], w: usize, f: usize, row: &mut [u16], floor: &mut [u16])
-    requires { ⌜ CutNetwork w (now d) (now m) × (1 ≤ f) × (f < w) × (length (now row) ≡ w) × (w ≤ length (now floor)) ⌝ }
-    requires { ⌜ KnownRow w (now d) (now m) f (now row) × Floor w (now d) (now m) f (now floor) ⌝ }
-    ensures { λ _. ⌜ CutRow w (now (d .entry)) (now (m .entry)) f w (now (row .entry)) (now (row .exit)) ⌝ }
-    ensures { λ _. ⌜ Floor w (now (d .entry)) (now (m .entry)) f (now (floor .exit)) ⌝ }
+fn cut_row(d: &[i16], m: &[i16], w: usize, f: Slot, row: &mut [u16], floor: &mut [u16])
+    requires { ⌜ CutNetwork w (now d) (now m) × (1 ≤ f .0) × (slotEnd (f .0) < w) × (length (now row) ≡ w) × (w ≤ length (now floor)) ⌝ }
+    requires { ⌜ KnownRow w (now d) (now m) (f .0) (now row) × Floor w (now d) (now m) (f .0) (now floor) ⌝ }
+    ensures { λ _. ⌜ CutRow w (now (d .entry)) (now (m .entry)) (f .0) w (now (row .entry)) (now (row .exit)) ⌝ }
+    ensures { λ _. ⌜ Floor w (now (d .entry)) (now (m .entry)) (f .0) (now (floor .exit)) ⌝ }
 {
     let common = common_cut(d, m, w, f, row, floor);
-    let mut low = f;
-    for l in f..w {
+    let first = f.0;
+    let mut low = first;
+    for l in first..w {
         low = larger(low, floor[l]);
         let known = row[l] as usize;
         if 0 < known {
-            low = least_cut(d, m, w, f, l, low, smaller(known, common));
+            low = least_cut(d, m, w, f, Slot(l), Slot(low), Slot(smaller(known, common))).0;
             row[l] = low as u16;
         }
         floor[l] = low as u16;
@@ -166,7 +169,7 @@ fn cut_windows(d: &[i16], m: &[i16], w: usize, marks: &mut [u16])
     for f in 1..w {
         let from = f * w;
         let to = from + w;
-        cut_row(d, m, w, f, &mut marks[from..to], &mut floor);
+        cut_row(d, m, w, Slot(f), &mut marks[from..to], &mut floor);
     }
 }
 

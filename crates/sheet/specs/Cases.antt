@@ -6,7 +6,8 @@ use lib.Dec.{T}
 use lib.IntN.{pos}
 use Rattle.lists.specs.Lists.{fromTo}
 use Rattle.network.specs.Network.{isNegativeCycle}
-use Rattle.sheet.specs.Sheet.{Window, Rule, Sheet, Slot, Boundary, top, atMost, atLeast, limit, isRing, ringSum, shortfall}
+use Rattle.slots.specs.Slots.{Slot, Boundary}
+use Rattle.sheet.specs.Sheet.{Window, Rule, Sheet, top, atMost, atLeast, limit, isRing, ringSum, shortfall}
 use Rattle.sheet.specs.Sheet.{lawful, lawfulPlans, leastIn, greatestIn, earliest, latest, earliestSlots, latestSlots, soonest, fair, printedPlans}
 
 -- `w 1 4`: window 1-4

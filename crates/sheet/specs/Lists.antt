@@ -2,7 +2,8 @@
 use mathlib.Core.Bool.{Bool}
 use mathlib.Core.List.{List}
 use Prim.Native.Nat.{ℕ}
-use Rattle.sheet.specs.Sheet.{Slot, Sheet}
+use Rattle.slots.specs.Slots.{Slot}
+use Rattle.sheet.specs.Sheet.{Sheet}
 use Rattle.sheet.specs.Questions.{sheetOf, listsAgree}
 
 pub record Lists : Type 0 where

@@ -7,7 +7,8 @@ use lib.ListN.{length}
 use Rattle.lists.specs.Lists.{within, every}
 use Rattle.questions.specs.Questions.{Question, ask}
 use Rattle.sheet.specs.Sizes.{maxSlots, maxUnits, maxRules, maxCount}
-use Rattle.sheet.specs.Sheet.{Slot, Window, Rule, Sheet, top}
+use Rattle.slots.specs.Slots.{Slot, slotBefore}
+use Rattle.sheet.specs.Sheet.{Window, Rule, Sheet, top}
 
 abbrev pub windowsOf : List Slot → List Slot → List Window
 windowsOf [] ls = []
@@ -43,12 +44,12 @@ spanFits s = isSpan (s .span)
 abbrev pub rising : ℕ → ℕ → ℕ → ℕ → Bool
 rising least most first last = leb least first && (leb first last && leb last most)
 
--- 7: is 1 ≤ first ≤ last ≤ span? A window may reach to the top boundary, a rule's stretch to the span.
+-- 7: is 1 ≤ first ≤ last ≤ span? A window may reach to the slot before the top boundary, a rule's stretch to the span.
 abbrev pub isStretch : ℕ → Slot → Slot → Bool
 isStretch bound first last = rising 1 bound first last
 
 unfoldable pub windowsFit : Sheet → Bool
-windowsFit s = every (λ w. isStretch (top s) (w .first) (w .last)) (s .units)
+windowsFit s = every (λ w. isStretch (slotBefore (top s)) (w .first) (w .last)) (s .units)
 
 unfoldable pub stretchesFit : Sheet → Bool
 stretchesFit s = every (λ r. isStretch (s .span) (r .from) (r .to)) (s .rules)

@@ -7,21 +7,10 @@ use Prim.Native.Nat.{ℕ, suc}
 use lib.Dec.{leb, ltb, eqb}
 use lib.ListN.{length, getD}
 use lib.IntN.{ℤ, pos, negℤ}
+use Rattle.slots.specs.Slots.{Slot, Boundary, slotAfter, slotBefore}
 use Rattle.lists.specs.Lists.{run, fromTo, within, every, keep, howMany, joined, smallest, largest, least, greatest}
 use Rattle.network.specs.Network.{around, isNegativeCycle}
 use Rattle.sheet.specs.Sizes.{topOf}
-
--- ---- slots and boundaries are counted apart: slots run 1 to span, boundaries 0 to top, and boundary b is the end of slot b
-
-abbrev pub Slot : Type 0
-Slot = ℕ
-
-abbrev pub Boundary : Type 0
-Boundary = ℕ
-
--- the one step between them
-abbrev pub slotAfter : Boundary → Slot
-slotAfter b = suc b
 
 -- ---- a sheet
 
@@ -111,7 +100,7 @@ latestSlots s = map (latest s) (unitPlaces s)
 
 -- by the end of every slot no lawful plan has more deliveries
 unfoldable pub soonest : Sheet → List Slot → Bool
-soonest s plan = every (λ b. eqb (countIn 1 b plan) (greatestIn s 1 b)) (fromTo 1 (top s))
+soonest s plan = every (λ t. eqb (countIn 1 t plan) (greatestIn s 1 t)) (fromTo 1 (slotBefore (top s)))
 
 abbrev pub noWindow : Window
 noWindow = record { first = 0; last = 0 }
@@ -162,7 +151,7 @@ atLeast s f t = largest (howMany (insideOf f t) (s .units)) (map (λ r. r .low) 
 -- the limit of the step from boundary a to boundary b
 unfoldable pub limit : Sheet → Boundary → Boundary → ℤ
 limit s a b =
-    cond (ltb a b) (pos (atMost s (slotAfter a) b)) (cond (ltb b a) (negℤ (pos (atLeast s (slotAfter b) a))) (pos 0))
+    cond (ltb a b) (pos (atMost s (slotAfter a) (slotBefore b))) (cond (ltb b a) (negℤ (pos (atLeast s (slotAfter b) (slotBefore a)))) (pos 0))
 
 -- ---- rings (the field's negative cycles) of the sheet's limits
 

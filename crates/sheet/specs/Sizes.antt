@@ -2,6 +2,7 @@
 -- `boundaries-max` ties to the slots.
 use Prim.Native.Nat.{ℕ, _+_, _*_}
 use mathlib.Core.Path.{_≡_, refl}
+use Rattle.slots.specs.Slots.{Slot, Boundary, slotEnd}
 use Rattle.network.specs.Table.{maxBoundaries}
 
 abbrev pub maxSlots : ℕ
@@ -25,11 +26,11 @@ maxBytes = 16000
 abbrev pub maxCells : ℕ
 maxCells = maxBoundaries * maxBoundaries
 
--- the top boundary of a span, and how many boundaries it has: the one place where the two are counted from the slots
-abbrev pub topOf : ℕ → ℕ
-topOf span = span
+-- the top boundary of a span, which is the end of its last slot, and how many boundaries it has: the one place where the two are counted from the slots
+abbrev pub topOf : Slot → Boundary
+topOf span = slotEnd span
 
-abbrev pub boundariesOf : ℕ → ℕ
+abbrev pub boundariesOf : Slot → ℕ
 boundariesOf span = topOf span + 1
 
 -- the network's constant is the number of boundaries of the longest span

@@ -1,33 +1,9 @@
 ghost use mathlib.Core.Path.{_≡_};
-ghost use Prim.Native.Nat.{_+_, _-_, _<_, _≤_};
+ghost use Prim.Native.Nat.{_≤_};
 ghost use Rattle.sheet.specs.Sizes.{maxSlots, boundariesOf};
 ghost use Rattle.sheet.specs.Questions.{isSpan, rising};
 
-// Slots run 1 to span, boundaries 0 to top; boundary b is the end of slot b.
-pub struct Slot(pub usize);
-
-pub struct Boundary(pub usize);
-
-impl Slot {
-    // The one step between the two.
-    pub fn end(self) -> Boundary
-        ensures { λ r. ⌜ r .0 ≡ self .0 ⌝ }
-    {
-        Boundary(self.0)
-    }
-}
-
-impl Boundary {
-    // The boundary before this one.
-    pub fn before(self) -> Boundary
-        requires { ⌜ 0 < self .0 ⌝ }
-        ensures { λ r. ⌜ r .0 ≡ self .0 - 1 ⌝ }
-    {
-        Boundary(self.0 - 1)
-    }
-}
-
-// The number of boundaries of a span: the one step from the one to the other. The compiler reads no contracts; the branch tells it how many there are at
+// The number of boundaries of a span, as counted from its slots. The compiler reads no contracts; the branch tells it how many there are at
 // most, so that it makes short loops over them.
 pub fn boundaries(span: usize) -> usize
     requires { ⌜ span ≤ maxSlots ⌝ }

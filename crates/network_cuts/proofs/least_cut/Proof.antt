@@ -10,10 +10,10 @@ use Rattle.network_cuts.proofs.least_cut.Statement.{statement}
 use Rattle.network_cuts.proofs.least_cut.Tie as tie
 
 abbrev Inv-loop : tie.InvT-loop
-Inv-loop d m w f l low known from₀ to₀ middle₀ from to middle = Search w d m f l known from to middle
+Inv-loop d m w f l from₀ to₀ middle₀ from to middle = Search w d m (f .0) (l .0) to₀ from to middle
 
 abbrev μ-loop : tie.MeasureT-loop
-μ-loop d m w f l low known from₀ to₀ middle₀ from to middle = to - from
+μ-loop d m w f l from₀ to₀ middle₀ from to middle = to - from
 
 admits-requires : tie.Need-admits-requires Inv-loop μ-loop
 admits-requires c κs =
@@ -23,14 +23,14 @@ admits-requires c κs =
 
 -- either answer moves one end
 next : (c : tie.Joined1 Inv-loop μ-loop) → let a = c .before .before .before .before .args in
-    Search (a .w) (a .d .now) (a .m .now) (a .f) (a .l) (a .known) (c .if1 .from) (c .if1 .to) (c .if1 .from + (c .if1 .to - c .if1 .from) / 2)
+    Search (a .w) (a .d .now) (a .m .now) (a .f .0) (a .l .0) (a .known .0) (c .if1 .from) (c .if1 .to) (c .if1 .from + (c .if1 .to - c .if1 .from) / 2)
     × (c .if1 .to - c .if1 .from < c .before .before .before .loop .to - c .before .before .before .loop .from)
 next c =
     let a = c .before .before .before .before .args in
     let l = c .before .before .before .loop in
     let s = l .inv in
     let h = c .before .before .loop-test .taken in
-    let decided : Bool → Type 0 = λ t. Decides t (AdmitsAt (a .w) (a .d .now) (a .m .now) (a .f) (l .middle) (a .l)) in
+    let decided : Bool → Type 0 = λ t. Decides t (AdmitsAt (a .w) (a .d .now) (a .m .now) (a .f .0) (l .middle) (a .l .0)) in
     ⊎-elim (λ w. rw (w .1, w .2) (
       search-yes s h (omega arith) (omega (arith, s .after)) (subst decided (w .0 .taken) (c .before .admits .ensures)),
       omega (arith, s .after, s .before),

@@ -31,7 +31,7 @@ returns c =
     let st = at .before .before .before in
     let a = st .args in
     let e = c .before .before .larger .ensures in
-    common-known (a .w) (a .d .now) (a .m .now) (a .f) (a .row .now) (at .last-marked .result) (c .before .before .larger .result) (place at)
+    common-known (a .w) (a .d .now) (a .m .now) (a .f .0) (a .row .now) (at .last-marked .result) (c .before .before .larger .result) (place at)
     (at .last-marked .ensures) (st .pre .5) (omega (arith, e)) (c .if1 .taken)
 
 admits-requires : tie.Need-admits-requires
@@ -50,8 +50,8 @@ returns-2 c =
     let a = st .args in
     let v = c .before .before .before .before .larger in
     let r = at .last-marked .result in
-    let decided : Bool → Type 0 = λ t. Decides t (AdmitsAt (a .w) (a .d .now) (a .m .now) (a .f) (v .result) r) in
-    common-last (a .w) (a .d .now) (a .m .now) (a .f) (a .row .now) r (v .result) (at .last-marked .ensures) (omega (arith, v .ensures))
+    let decided : Bool → Type 0 = λ t. Decides t (AdmitsAt (a .w) (a .d .now) (a .m .now) (a .f .0) (v .result) r) in
+    common-last (a .w) (a .d .now) (a .m .now) (a .f .0) (a .row .now) r (v .result) (at .last-marked .ensures) (omega (arith, v .ensures))
     (λ _. subst decided (c .if2 .taken) (c .before .admits .ensures))
 
 returns-3 : tie.Need-returns-3
@@ -59,7 +59,7 @@ returns-3 c =
     let at = c .before .before .before .before .before .before in
     let st = at .before .before .before in
     let a = st .args in
-    common-none (a .w) (a .d .now) (a .m .now) (a .f) (a .row .now) (st .pre .2)
+    common-none (a .w) (a .d .now) (a .m .now) (a .f .0) (a .row .now) (st .pre .2)
 
 pub common-cut-spec : {M : Type 1} → statement M
 common-cut-spec = tie.close (tie.spec (λ c κs. search needs) (λ c. omega (arith, place c, c .before .before .before .pre .0 .most))

@@ -11,10 +11,10 @@ use Rattle.plan_windows.proofs.cut_row.Statement.{statement}
 use Rattle.plan_windows.proofs.cut_row.Tie as tie
 
 abbrev Inv-loop : tie.InvT-loop
-Inv-loop d m w f row₀ floor₀ common low₀ l₀ row floor low l = Cutting w d m f row₀ row floor low l × (length floor ≡ length floor₀)
+Inv-loop d m w f row₀ floor₀ common first low₀ l₀ row floor low l = Cutting w d m (f .0) row₀ row floor low l × (length floor ≡ length floor₀)
 
 abbrev μ-loop : tie.MeasureT-loop
-μ-loop d m w f row₀ floor₀ common low₀ l₀ row floor low l = w - l
+μ-loop d m w f row₀ floor₀ common first low₀ l₀ row floor low l = w - l
 
 -- the function's entry, from the loop
 abbrev start : tie.At-loop Inv-loop μ-loop → tie.Start Inv-loop μ-loop
@@ -29,7 +29,7 @@ loop-holds : tie.Need-loop-holds Inv-loop μ-loop
 loop-holds c =
     let st = c .before .before .before .before .before in
     let a = st .args in (
-      cutting-none (a .w) (a .d .now) (a .m .now) (a .f) (a .row .now) (a .floor .now) (st .pre .0 .3) (st .pre .0 .4) (st .pre .0 .2) (st .pre .1 .0)
+      cutting-none (a .w) (a .d .now) (a .m .now) (a .f .0) (a .row .now) (a .floor .now) (st .pre .0 .3) (st .pre .0 .4) (st .pre .0 .2) (st .pre .1 .0)
           (st .pre .1 .1),
       refl,
     )
@@ -54,7 +54,7 @@ least-cut-requires c κs =
     let e = c .before .before .before .larger .ensures in
     let r = i .rest (l .l) (omega arith) in
     let marked : 0 < getD (a .row .now) (l .l) 0 = omega (arith, c .before .if1 .taken) in
-    let known = common-smaller (a .w) (a .d .now) (a .m .now) (a .f) (a .row .now) (l .l) (getD (a .row .now) (l .l) 0)
+    let known = common-smaller (a .w) (a .d .now) (a .m .now) (a .f .0) (a .row .now) (l .l) (getD (a .row .now) (l .l) 0)
     (at .before .common-cut .result) h marked (st .pre .1 .0 (l .l) h marked) (at .before .common-cut .ensures) in
     let s : c .smaller .result ≡ min (getD (a .row .now) (l .l) 0) (at .before .common-cut .result) = rw (sym r) (c .smaller .ensures) in
     let k = known .inside in (
@@ -66,12 +66,12 @@ least-cut-requires c κs =
 moved : (c : tie.Joined1 Inv-loop μ-loop) →
     let a = start (c .before .before .before .before .before) .args in
     let l = c .before .before .before .before .before .loop in
-    Cutting (a .w) (a .d .now) (a .m .now) (a .f) (a .row .now) (c .if1 .row) (set (l .floor) (l .l) (c .if1 .low)) (c .if1 .low) (l .l + 1)
+    Cutting (a .w) (a .d .now) (a .m .now) (a .f .0) (a .row .now) (c .if1 .row) (set (l .floor) (l .l) (c .if1 .low)) (c .if1 .low) (l .l + 1)
 moved c =
     let at = c .before .before .before .before .before in
     let l = at .loop in
     let h = c .before .before .before .before .loop-test .taken in
-    ⊎-elim (λ w. rw (w .3, w .4) (cutting-mark (l .inv .0) h (w .2 .result) (w .0 .taken) (w .2 .ensures)))
+    ⊎-elim (λ w. rw (w .3, w .4) (cutting-mark (l .inv .0) h (w .2 .result .0) (w .0 .taken) (w .2 .ensures)))
     (λ w. rw (w .1, w .2, c .before .before .larger .ensures) (cutting-skip (l .inv .0) h (omega (arith, w .0 .left))))
     (c .if1 .came)
 
@@ -96,6 +96,7 @@ cut-row-spec = tie.close (tie.spec Inv-loop μ-loop common-cut-requires loop-hol
     (λ c. omega (arith, c .slice-known4 .given (c .before .before .before .before .loop .l))) (λ c κs. tt) least-cut-requires
     (λ c. omega (arith, c .least-cut .ensures .inside, inside (c .before .before .before .before .before .before)))
     (λ c. omega (arith, inside (c .before .before .before .before .before .before))) (λ c. inside (c .before .before .before .before .before .before) .2)
-    (λ c. omega (arith, moved (c .before) .level, inside (c .before .before .before .before .before))) (λ c. omega (arith, inside (c .before .before .before .before .before)))
+    (λ c. omega (arith, moved (c .before) .level, inside (c .before .before .before .before .before)))
+    (λ c. omega (arith, inside (c .before .before .before .before .before)))
     (λ c. inside (c .before .before .before .before .before) .3) (λ c. omega (arith, inside (c .before .before .before .before .before)))
     (λ c. omega (arith, inside (c .before .before .before .before .before))) loop-again same-length (λ c. c .before .loop .inv .1) returns)
