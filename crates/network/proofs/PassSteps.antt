@@ -8,13 +8,14 @@ use Prim.Native.Nat.{ℕ, suc, _+_, _-_, _*_, _≤_, _<_}
 use native.Mathlib.Omega.{arith}
 use native.Mathlib.Numerals.{add-one}
 use native.Mathlib.Decide.{decLe}
-use lib.Dec.{T}
+use lib.Dec.{T, leb, ltb, ltb→lt}
 use lib.ListN.{length, getD, take, drop, length-take, replicate, List·getD-append}
 use lib.IntN.{ℤ, pos, negsuc, _+ℤ_}
 use lib.Signed.{leZ, ltZ}
-use Rattle.integers.specs.Parts.{ints, minℤ, min≤l}
+use borrow.Author.Tests.{lt-ltb, le-leb}
+use Rattle.integers.specs.Parts.{minℤ}
 use Rattle.lists.specs.Lists.{run, joined}
-use Rattle.lists.specs.Members.{every-at}
+use Rattle.lists.specs.Members.{and-left, and-right, every-at}
 use Rattle.lists.specs.Slices.{part-at, part-length, back, back-length}
 use Rattle.lists.specs.Values.{listOf, length-listOf, listOf-at, listOf-is, values-are}
 use Rattle.lists.specs.Values.{Filled, filled-old, filled-new, filled-part, front-rest, front-past, front-part}
@@ -22,7 +23,7 @@ use Rattle.network.specs.Closure.{step}
 use Rattle.network.specs.Table.{maxBoundaries, entry, middle, sumInRange, rowInRange}
 use Rattle.network.specs.Table.{Passed, finished, stopped, outOfRange, afterRows, passFrom, outcomeOf, cleared, After}
 use Rattle.network.specs.TableLaws.{length-rows, rows-snoc, drop-middle}
-use Rattle.network.specs.RowStep.{leastOf, greatestOf, relaxedAt, relaxed, SumsInRange, Loaded, Ran}
+use Rattle.network.specs.RowStep.{leastOf, greatestOf, relaxedAt, relaxed, fallsIn, SumsInRange, Loaded, Ran}
 use Rattle.network.specs.declared.Outcome.{Outcome}
 use Rattle.network.specs.declared.Outcome.the-variants.{Finished}
 use Rattle.network.specs.RowStepLaws.{ends-ask-all}
@@ -99,25 +100,27 @@ module _ {am : ℤ} {mid old : List ℤ} {w a : ℕ} {outcome : Outcome} {row : 
   new-at : a < e → getD (back b (e - b) ys row) a (pos 0) ≡ relaxedAt am mid old a
   new-at = filled-new (relaxedAt am mid old) e old (back b (e - b) ys row) stretch-form a (pos 0)
 
-  pub cols-again : ltZ (getD (back b (e - b) ys row) a (pos 0)) (pos 0) ≡ false → ColsInv am mid old w a outcome (back b (e - b) ys row) e
-  cols-again f = record {
-    at-most = he;
-    none = v .none;
-    wide = v .wide;
-    long = cols-long;
-    form = stretch-form;
-    fine = λ h. ap (λ (x : ℤ). ltZ x (pos 0)) (sym (new-at h)) ∙ f;
-  }
+  -- what the look at the diagonal tells, in the stretch that holds it and in the others
+  module _ {r : Bool} (look : r ≡ fallsIn b e a (back b (e - b) ys row)) where
+    pub cols-again : r ≡ false → ColsInv am mid old w a outcome (back b (e - b) ys row) e
+    cols-again f = record {
+      at-most = he;
+      none = v .none;
+      wide = v .wide;
+      long = cols-long;
+      form = stretch-form;
+      fine = λ h. elim (decLe b a) [
+        | no l ↦ v .fine (omega arith)
+        | yes l ↦ ap (λ (x : ℤ). ltZ x (pos 0)) (sym (new-at h)) ∙ (rw (le-leb b a l, lt-ltb a e h) at (sym look ∙ f))
+      ];
+    }
 
-  -- an entry below 0 is one of the new values, or an old one that the new value is not above
-  pub cols-low : ltZ (getD (back b (e - b) ys row) a (pos 0)) (pos 0) ≡ true → ltZ (relaxedAt am mid old a) (pos 0) ≡ true
-  cols-low f = elim (decLe e a) [
-    | no h ↦ ap (λ (x : ℤ). ltZ x (pos 0)) (sym (new-at (omega arith))) ∙ f
-    | yes h ↦
-        let q = filled-old (relaxedAt am mid old) e old (back b (e - b) ys row) stretch-form a (pos 0) h in
-        let l = min≤l (getD old a (pos 0)) (am +ℤ getD mid a (pos 0)) in
-        omega (ints, f, q)
-  ]
+    pub cols-low : r ≡ true → ltZ (relaxedAt am mid old a) (pos 0) ≡ true
+    cols-low f =
+        let low = ltZ (getD (back b (e - b) ys row) a (pos 0)) (pos 0) in
+        let t = and-right (leb b a) (ltb a e && low) (sym look ∙ f) in
+        let h = ltb→lt a e (subst T (sym (and-left (ltb a e) low t)) tt) in
+        ap (λ (x : ℤ). ltZ x (pos 0)) (sym (new-at h)) ∙ and-right (ltb a e) low t
 
 -- ---- the new row
 abbrev pub newRow : ℕ → ℕ → List ℤ → ℕ → List ℤ

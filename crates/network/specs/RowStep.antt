@@ -1,10 +1,12 @@
 -- One row of the pass: its extremes, its step, and what the loops leave where the pass does not finish. Definitions only.
 use mathlib.Core.Path.{_≡_}
+use mathlib.Core.Bool.{Bool, _&&_}
 use mathlib.Core.List.{List, [], _∷_, _++_}
 use Prim.Native.Nat.{ℕ, _*_, _<_}
-use lib.Dec.{T}
+use lib.Dec.{T, leb, ltb}
 use lib.ListN.{length, getD, drop}
 use lib.IntN.{ℤ, pos, _+ℤ_}
+use lib.Signed.{ltZ}
 use Rattle.integers.specs.Parts.{minℤ, maxℤ}
 use Rattle.lists.specs.Values.{listOf}
 use Rattle.network.specs.Table.{sumInRange, Passed, finished, outcomeOf}
@@ -38,6 +40,14 @@ relaxedAt am mid row b = minℤ (getD row b (pos 0)) (am +ℤ getD mid b (pos 0)
 
 abbrev pub relaxed : ℤ → List ℤ → List ℤ → List ℤ
 relaxed am mid row = listOf (length row) (relaxedAt am mid row)
+
+-- a row is taken in stretches of this many columns
+abbrev pub stretch : ℕ
+stretch = 32
+
+-- the diagonal entry of row a lies in the stretch from b to e, and is below 0
+abbrev pub fallsIn : ℕ → ℕ → ℕ → List ℤ → Bool
+fallsIn b e a row = leb b a && (ltb a e && ltZ (getD row a (pos 0)) (pos 0))
 
 -- what the loops of the pass leave: the table of a pass that finishes; past the table nothing changes
 pub record Ran (w : ℕ) (t : List ℤ) (p : Passed) (r : Outcome) (u : List ℤ) : Type 0 where

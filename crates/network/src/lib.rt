@@ -6,10 +6,13 @@ ghost use lib.ListN.{length, take, drop};
 ghost use lib.IntN.{ℤ, pos, negsuc, _+ℤ_};
 ghost use lib.Signed.{leZ};
 ghost use Rattle.network.specs.Table.{maxBoundaries, entry, passFrom, passOf, After, cleared};
-ghost use Rattle.network.specs.RowStep.{leastOf, greatestOf, relaxed, SumsInRange, Loaded, Ran};
+ghost use Rattle.network.specs.RowStep.{leastOf, greatestOf, stretch, relaxed, fallsIn, SumsInRange, Loaded, Ran};
 
 // The largest number of boundaries, as sheets have them (sheet/specs/Sizes.antt ties the two).
 pub const MAX_BOUNDARIES: usize = 49;
+
+// The row step takes this many columns at a time, whole vectors of the machine; the last stretch of a row is shorter.
+const STRETCH: usize = 32;
 
 // How a pass over the middle boundaries ends.
 pub enum Outcome {
@@ -73,20 +76,20 @@ fn sums_fit(ends: Extremes, am: i16) -> bool
     true
 }
 
-// How many stretches of 64 columns a row has. It is one here, and the compiler sees that: the row step becomes one loop of vectors.
+// How many stretches a row has. Two are enough, and the count is a test and no division: so the compiler sees that a second stretch is not empty.
 fn stretches(w: usize) -> usize
-    requires { ⌜ w ≤ maxBoundaries ⌝ }
-    ensures { λ r. ⌜ (w ≤ r * 64) × (r * 64 < w + 64) ⌝ }
+    requires { ⌜ (0 < w) × (w ≤ maxBoundaries) ⌝ }
+    ensures { λ r. ⌜ (w ≤ r * stretch) × (r * stretch < w + stretch) ⌝ }
 {
-    (w + 63) / 64
+    if STRETCH < w { 2 } else { 1 }
 }
 
 // Where the stretch that starts at b ends.
 fn stretch_end(b: usize, w: usize) -> usize
     requires { ⌜ b < w ⌝ }
-    ensures { λ r. ⌜ r ≡ min (b + 64) w ⌝ }
+    ensures { λ r. ⌜ r ≡ min (b + stretch) w ⌝ }
 {
-    if w - b < 64 { w } else { b + 64 }
+    if w - b < STRETCH { w } else { b + STRETCH }
 }
 
 // The row step: each entry becomes the smaller of itself and the sum over the middle boundary. Every entry is stored, so that no branch is left.
@@ -97,6 +100,17 @@ pub fn relax_row(row: &mut [i16], mid: &[i16], am: i16)
     for b in 0..row.len() {
         row[b] = integers::lesser(row[b], am + mid[b]);
     }
+}
+
+// Whether the diagonal entry of row a lies in the stretch from b to e, and is below 0.
+fn falls(row: &[i16], a: usize, b: usize, e: usize) -> bool
+    requires { ⌜ a < length (now row) ⌝ }
+    ensures { λ r. ⌜ r ≡ fallsIn b e a (now (row .entry)) ⌝ }
+{
+    if a < b {
+        return false;
+    }
+    a < e && integers::less(row[a], 0)
 }
 
 // Entry (a, b) of a table with w numbers a row.
@@ -137,10 +151,10 @@ fn run_middles(t: &mut [i16], w: usize, from: usize, to: usize) -> Outcome
             }
             let n = stretches(w);
             for k in 0..n {
-                let b = k * 64;
+                let b = k * STRETCH;
                 let e = stretch_end(b, w);
                 relax_row(&mut row[b..e], &mid[b..e], am);
-                if integers::less(row[a], 0) {
+                if falls(row, a, b, e) {
                     outcome = Outcome::Stopped;
                     break 'pass;
                 }
@@ -150,7 +164,7 @@ fn run_middles(t: &mut [i16], w: usize, from: usize, to: usize) -> Outcome
     outcome
 }
 
-// The compiler reads no contracts. This tells it how many boundaries there are at most, and so that a row is one stretch.
+// The compiler reads no contracts. This tells it how many boundaries there are at most, and so that a row's second stretch is its last.
 fn capped(w: usize) -> usize
     requires { ⌜ w ≤ maxBoundaries ⌝ }
     ensures { λ r. ⌜ r ≡ w ⌝ }

@@ -7,7 +7,6 @@ use mathlib.Core.Bool.{true, false}
 use mathlib.Core.List.{List}
 use lib.ListN.{length, getD, take, drop}
 use lib.IntN.{ℤ, pos}
-use lib.Signed.{ltZ}
 use mir.Syntax.{w16}
 use mir.Val.{SFits, toZ, ofZ}
 use mir.Facts.{toZ-ofZ}
@@ -15,7 +14,7 @@ use borrow.Author.Needs.{needs}
 use Rattle.lists.specs.Slices.{back, back-length, back-past, part-length}
 use Rattle.network.specs.Table.{maxBoundaries, rowInRange, Passed, finished, stopped, outOfRange, afterRows, passFrom, outcomeOf}
 use Rattle.network.specs.TableLaws.{row-inside}
-use Rattle.network.specs.RowStep.{Ran}
+use Rattle.network.specs.RowStep.{stretch, Ran}
 use Rattle.network.specs.declared.Outcome.{Outcome}
 use Rattle.network.specs.declared.Outcome.the-variants.{Stopped, OutOfRange}
 use Rattle.network.proofs.PassSteps.{MidIs, mid-is, RowIs, RowOver, row-asked, stretch-in-range, row-is, row-done, row-low}
@@ -26,7 +25,7 @@ use Rattle.network.proofs.run_middles.Statement.{statement}
 use Rattle.network.proofs.run_middles.Tie as tie
 
 abbrev Inv-loop2 : tie.InvT-loop2
-Inv-loop2 w from to outcome₀ mid m ends a start end row₀ am n k₀ outcome row k = ColsInv (toZ w16 am) mid row₀ w a outcome row (min (k * 64) w)
+Inv-loop2 w from to outcome₀ mid m ends a start end row₀ am n k₀ outcome row k = ColsInv (toZ w16 am) mid row₀ w a outcome row (min (k * stretch) w)
 
 abbrev μ-loop2 : tie.MeasureT-loop2
 μ-loop2 w from to outcome₀ mid m ends a start end row₀ am n k₀ outcome row k = n - k
@@ -187,7 +186,7 @@ abbrev stretchRow : InStretch → InRow
 stretchRow c = fineRow (fineOf c)
 
 abbrev first : InStretch → ℕ
-first c = c .before .before .loop2 .k * 64
+first c = c .before .before .loop2 .k * stretch
 
 abbrev stop : InStretch → ℕ
 stop c = c .stretch-end .result
@@ -228,17 +227,12 @@ stepped-long c =
     let s = stretch-here (stretchOf c) in
     cols-long (cols-here (stretchOf c)) (stop (stretchOf c)) (s .0) (s .1) (c .relax-row .ensures)
 
--- ---- its diagonal entry compared with 0
-abbrev Compared : Type 0
-Compared = tie.After-less Inv-loop2 μ-loop2 Inv-loop μ-loop Inv-pass μ-pass
+-- ---- its diagonal entry looked at, where it lies in the stretch
+abbrev Looked : Type 0
+Looked = tie.After-falls Inv-loop2 μ-loop2 Inv-loop μ-loop Inv-pass μ-pass
 
-abbrev relaxedOf : Compared → Relaxed
+abbrev relaxedOf : Looked → Relaxed
 relaxedOf c = c .before .before .before
-
-low-here : (c : Compared) → c .less .result ≡ ltZ (getD (stepped (relaxedOf c)) (rowAt (relaxedRow (relaxedOf c))) (pos 0)) (pos 0)
-low-here c =
-    let f : SFits w16 (getD (stepped (relaxedOf c)) (rowAt (relaxedRow (relaxedOf c))) (pos 0)) = search needs in
-    simp (toZ-ofZ f) at (c .less .ensures)
 
 -- ---- the needs
 pass-holds : tie.Need-pass-holds Inv-loop2 μ-loop2 Inv-loop μ-loop Inv-pass μ-pass
@@ -256,7 +250,7 @@ loop2-holds c =
     let r = fineRow c in
     let m = middleOf r in
     let o = r .before .loop in
-    let e : 0 ≡ min (0 * 64) (width m) = omega arith in
+    let e : 0 ≡ min (0 * stretch) (width m) = omega arith in
     subst (λ (b : ℕ). ColsInv (am r) (copy m) (part r) (width m) (rowAt r) (o .outcome) (part r) b) e (cols-start (o .inv .none) (row-here r .long))
 
 relax-row-requires : tie.Need-relax-row-requires Inv-loop2 μ-loop2 Inv-loop μ-loop Inv-pass μ-pass
@@ -278,9 +272,9 @@ loop2-again c =
     let m = middleOf r in
     let q = at .before .before .loop2 in
     let s = stretch-here at in
-    let n : stop at ≡ min ((q .k + 1) * 64) (width m) = omega (arith, at .stretch-end .ensures) in
+    let n : stop at ≡ min ((q .k + 1) * stretch) (width m) = omega (arith, at .stretch-end .ensures) in
     subst (λ (b : ℕ). ColsInv (am r) (copy m) (part r) (width m) (rowAt r) (q .outcome) (stepped x) b) n
-    (cols-again (cols-here at) (stop at) (s .0) (s .1) (x .relax-row .ensures) (sym (low-here (c .before)) ∙ c .if2 .left))
+    (cols-again (cols-here at) (stop at) (s .0) (s .1) (x .relax-row .ensures) (c .before .falls .ensures) (c .if2 .left))
 
 loop-again : tie.Need-loop-again Inv-loop2 μ-loop2 Inv-loop μ-loop Inv-pass μ-pass
 loop-again c =
@@ -288,7 +282,7 @@ loop-again c =
     let r = fineRow f in
     let s = over (f .before .before) in
     let q = c .before .before .loop2 in
-    let hb : width (middleOf r) ≤ min (q .k * 64) (width (middleOf r)) = omega (arith, c .before .loop2-test .left, f .stretches .ensures) in
+    let hb : width (middleOf r) ≤ min (q .k * stretch) (width (middleOf r)) = omega (arith, c .before .loop2-test .left, f .stretches .ensures) in
     rows-again (r .before .loop .inv) (r .loop-test .taken) (size r) (q .inv .none) (row-room r .1) (omega (arith, row-room r))
     (row-done s (q .inv) hb) (fine-here f) (row-low s false (q .inv .fine (omega (arith, r .loop-test .taken, hb))))
 
@@ -309,7 +303,7 @@ returns-3 c =
     let at = stretchOf x in
     let r = stretchRow at in
     let s = stretch-here at in
-    let low = cols-low (cols-here at) (stop at) (s .0) (s .1) (x .relax-row .ensures) (sym (low-here (c .before .before)) ∙ c .before .if2 .taken) in
+    let low = cols-low (cols-here at) (stop at) (s .0) (s .1) (x .relax-row .ensures) (c .before .before .falls .ensures) (c .before .if2 .taken) in
     broken r (stepped x) (stepped-long x) stopped Stopped (λ x e. let z : _≡_ {A = ℕ} 0 1 = cc in omega arith)
     (rows-low (r .before .loop .inv) (r .loop-test .taken) (fine-here (fineOf at)) (row-low (over (fineOf at .before .before)) true low)) refl
 
@@ -318,15 +312,15 @@ run-middles-spec = tie.close (tie.spec Inv-loop2 μ-loop2 Inv-loop μ-loop Inv-p
     (λ c. sym (c .before .before .before .pass .inv .room)) load-row-requires (λ c. rows-start (turn (c .before) .pass .inv .none))
     (λ c. omega (arith, row-room c)) (λ c. omega (arith, row-room c)) (λ c. omega (arith, row-room c)) (λ c. omega arith) (λ c. omega arith)
     (λ c. row-room c .0) (λ c. omega (arith, middle-below (middleOf (c .before)), row-room (c .before)))
-    (λ c. omega (arith, middle-below (middleOf (c .before)), row-here (c .before) .long)) (λ c κs. tt) (λ c κs. row-room (askedRow (c .before)) .2)
+    (λ c. omega (arith, middle-below (middleOf (c .before)), row-here (c .before) .long)) (λ c κs. tt)
+    (λ c κs. let r = askedRow (c .before) in (omega (arith, r .loop-test .taken), row-room r .2))
     loop2-holds (λ c. omega (arith, c .loop2-test .taken, c .before .before .stretches .ensures, row-room (fineRow (c .before .before)) .2))
     (λ c κs. omega (arith, c .loop2-test .taken, c .before .before .stretches .ensures))
     (λ c. omega (arith, stretch-here c)) (λ c. omega (arith, stretch-here c)) (λ c. omega (arith, stretch-here c))
     (λ c. omega (arith, stretch-here c, cols-here c .long))
     (λ c. omega (arith, stretch-here (c .before))) (λ c. omega (arith, stretch-here (c .before))) (λ c. omega (arith, stretch-here (c .before .before)))
     (λ c. omega (arith, stretch-here (c .before .before), copy-room (middleOf (stretchRow (c .before .before))))) relax-row-requires
-    (λ c. let r = relaxedRow (c .before) in omega (arith, r .loop-test .taken, row-room r))
-    (λ c. omega (arith, stepped-long (c .before), relaxedRow (c .before) .loop-test .taken)) (λ c κs. tt)
+    (λ c κs. let x : Relaxed = c .before .before in omega (arith, stepped-long x, relaxedRow x .loop-test .taken))
     (λ c. omega (arith, stretch-here (stretchOf (relaxedOf (c .before)))))
     (λ c. omega (arith, stretchOf (relaxedOf (c .before)) .before .loop2-test .taken)) loop2-again
     (λ c. let r = fineRow (c .before .before .before) in omega (arith, r .loop-test .taken, row-room r))
