@@ -83,9 +83,6 @@ module _ {A : Type 0} (g : ℕ → A) where
 
   -- ---- a list that is filled
   module _ (i : ℕ) (t₀ t : List A) (f : Filled g i t₀ t) where
-    pub filled-length : i ≤ length t₀ → length t ≡ length t₀
-    filled-length = front-length (listOf i g) i (length-listOf i) t₀ t f
-
     pub filled-old : (j : ℕ) (d : A) → i ≤ j → getD t j d ≡ getD t₀ j d
     filled-old = front-old (listOf i g) i (length-listOf i) t₀ t f
 

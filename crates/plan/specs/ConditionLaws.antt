@@ -1,7 +1,7 @@
 -- What a call's conclusion says of its reply and its rooms, ready to be read as the user's conditions.
 -- Key idea: the pass over the limits either finishes, and the table it leaves is solved, or stops, and no plan is lawful.
 -- There is no third way without a refusal.
-use mathlib.Core.Path.{_≡_, refl, subst}
+use mathlib.Core.Path.{_≡_, refl, ap, subst}
 use mathlib.Core.Logic.{_⊎_, inl, inr, ⊎-elim}
 use mathlib.Core.List.{List}
 use Prim.Native.Nat.{ℕ}
@@ -10,7 +10,7 @@ use lib.Dec.{T}
 use lib.ListN.{length}
 use lib.IntN.{ℤ}
 use Rattle.network.specs.Table.{Passed, finished, stopped, outOfRange, entry}
-use Rattle.questions.specs.Questions.{Verdict, no, allYes, refusalBy}
+use Rattle.questions.specs.Questions.{Verdict, no, allYes}
 use Rattle.sheet.specs.Sheet.{Sheet, boundaries, lawful, isRing}
 use Rattle.sheet.specs.Solved.{Solved}
 use Rattle.sheet.specs.QuestionLaws.{accepted-valid}
@@ -18,32 +18,32 @@ use Rattle.sheet.specs.Lists.{Lists, given}
 use Rattle.plan_ask.specs.Questions.{Rooms, places, passed, inRange, refusal}
 use Rattle.plan_solve.specs.Planning.{refused, planned, ringed, byPass, concluding, conclusion, Settled}
 use Rattle.plan_solve.specs.PlanningLaws.{no-refusal, in-range, passed-size, passed-solved, stopped-unlawful}
-use Rattle.plan_solve.specs.declared.Answer.{Answer}
-use Rattle.plan_solve.specs.declared.Answer.the-variants.{Refused, Plan, None}
+use Rattle.plan_solve.specs.Reply as says
+use Rattle.plan_solve.specs.Reply.{refusalOf}
 
 -- the call left a plan
-pub record Planned (s : Sheet) (before : Rooms) (reply : Answer) (after : Rooms) : Type 0 where
+pub record Planned (s : Sheet) (before : Rooms) (reply : says.Reply) (after : Rooms) : Type 0 where
   pub table : List ℤ
   pub size : length table ≡ places s
   pub solved : Solved s (entry (boundaries s) table)
-  pub is : reply ≡ Plan
+  pub is : reply ≡ says.plan
   pub left : after ≡ planned s table before
 
 -- the call left a ring
-pub record Ringed (s : Sheet) (before : Rooms) (reply : Answer) (after : Rooms) : Type 0 where
+pub record Ringed (s : Sheet) (before : Rooms) (reply : says.Reply) (after : Rooms) : Type 0 where
   pub unlawful : (x : List ℕ) → T (lawful s x) → ⊥
   pub ring : List ℕ
   pub closed : T (isRing s ring)
-  pub is : reply ≡ None (length ring)
+  pub is : reply ≡ says.none (length ring)
   pub left : after ≡ ringed s ring before
 
-module _ (l : Lists) (before : Rooms) (reply : Answer) (after : Rooms) (call : Settled (conclusion l before) (given l) before reply after) where
+module _ (l : Lists) (before : Rooms) (reply : says.Reply) (after : Rooms) (call : Settled (conclusion l before) (given l) before reply after) where
   by-verdict : (v : Verdict) → refusal l before ≡ v → Settled (concluding v (passed (given l))) (given l) before reply after
   unfolding conclusion
   by-verdict v e = subst (λ (x : Verdict). Settled (concluding x (passed (given l))) (given l) before reply after) e call
 
   -- ---- refused
-  pub call-refused : (q n : ℕ) → refusal l before ≡ no q n → (reply ≡ Refused (refusalBy q n)) × (after ≡ refused (given l) q before)
+  pub call-refused : (q n : ℕ) → refusal l before ≡ no q n → (reply ≡ says.refused q n) × (after ≡ refused (given l) q before)
   call-refused q n e = by-verdict (no q n) e
 
   -- ---- not refused
@@ -61,15 +61,22 @@ module _ (l : Lists) (before : Rooms) (reply : Answer) (after : Rooms) (call : S
     pub call-answered : Planned (given l) before reply after ⊎ Ringed (given l) before reply after
     call-answered = by-pass (passed (given l)) refl (in-range l before asked)
 
-  -- ---- the reply is a plan
-  pub call-planned : reply ≡ Plan → Planned (given l) before reply after
-  call-planned f = go (refusal l before) refl
+  -- ---- the reply is a plan, or none
+  not-refused : refusalOf reply ≡ allYes → refusal l before ≡ allYes
+  not-refused f = go (refusal l before) refl
     where
-      go : (v : Verdict) → refusal l before ≡ v → Planned (given l) before reply after
-      go (no q n) e =
-          let r = call-refused q n e .0 in
-          let z : _≡_ {A = ℕ} 0 1 = cc in
-          absurd (omega arith)
-      go allYes e =
-          ⊎-elim (λ (p : Planned (given l) before reply after). p)
-          (λ (r : Ringed (given l) before reply after). let z : _≡_ {A = ℕ} 0 1 = cc in absurd (omega arith)) (call-answered e)
+      go : (v : Verdict) → refusal l before ≡ v → refusal l before ≡ allYes
+      go (no q n) e = let r = ap refusalOf (call-refused q n e .0) in let z : _≡_ {A = ℕ} 0 1 = cc in absurd (omega arith)
+      go allYes e = e
+
+  pub call-planned : reply ≡ says.plan → Planned (given l) before reply after
+  call-planned f =
+      ⊎-elim (λ (p : Planned (given l) before reply after). p)
+      (λ (r : Ringed (given l) before reply after). let e = r .is in let z : _≡_ {A = ℕ} 0 1 = cc in absurd (omega arith))
+      (call-answered (not-refused (ap refusalOf f)))
+
+  pub call-ringed : (k : ℕ) → reply ≡ says.none k → Ringed (given l) before reply after
+  call-ringed k f =
+      ⊎-elim (λ (p : Planned (given l) before reply after). let e = p .is in let z : _≡_ {A = ℕ} 0 1 = cc in absurd (omega arith))
+      (λ (r : Ringed (given l) before reply after). r)
+      (call-answered (not-refused (ap refusalOf f)))

@@ -1,5 +1,6 @@
 -- The user's three conditions, of planning from lists, in the words of lawful plans alone.
--- `call` is what the entry `plan` ensures of every call: `Settled`, in Planning.antt. `before` and `after` are the rooms lent, `s` the sheet in the lists.
+-- `call` is what the entry `plan` ensures of every call: `Settled`, in Planning.antt. `reply` is what its answer says (`replyOf`, in Reply.antt), `before` and
+-- `after` are the rooms lent, `s` the sheet in the lists.
 use mathlib.Core.Path.{_≡_, refl, sym, ap, _∙_, subst}
 use mathlib.Core.Logic.{⊎-elim, _↔_}
 use mathlib.Core.Bool.{Bool, false, cond}
@@ -11,12 +12,13 @@ use lib.ListN.{length, getD, take, drop, List·getD-append}
 use lib.Seq.{take-at}
 use lib.IntN.{ℤ, pos, negℤ}
 use lib.Signed.{_≤ℤ_}
-use Rattle.integers.specs.Parts.{ints, neg}
+use Rattle.integers.specs.Parts.{up, dn, ints, neg, nonneg}
 use Rattle.network.specs.NetworkLaws.{cycle-infeasible}
 use Rattle.network.specs.Table.{entry, cleared}
 use Rattle.network.specs.TableLaws.{row-inside}
 use Rattle.lists.specs.Values.{values-at, length-values}
 use Rattle.questions.specs.Questions.{Verdict, no, allYes}
+use Rattle.slots.specs.Slots.{Slot, Boundary, slotBefore, slotAfter}
 use Rattle.sheet.specs.Sheet.{Sheet, top, boundaries, limit, isRing, unitPlaces, lawful, fair, countIn, leastIn}
 use Rattle.sheet.specs.Sheet.{earliest, latest, earliestSlots, latestSlots, printedPlan}
 use Rattle.sheet.specs.PotentialLaws.{lawful-feasible}
@@ -25,17 +27,17 @@ use Rattle.plans.specs.PrintedLaws.{Printed, some-printed}
 use Rattle.plans.specs.CountLaws.{solved-plan, range, greatest-entry, least-entry}
 use Rattle.plan_ask.specs.Questions.{Rooms, lent, places, refusal}
 use Rattle.sheet.specs.Lists.{Lists, given}
-use Rattle.plan_solve.specs.Planning.{conclusion, Settled, refusalOf}
-use Rattle.plan.specs.ConditionLaws.{Planned, Ringed, call-refused, call-answered, call-planned}
-use Rattle.plan_solve.specs.declared.Answer.{Answer}
-use Rattle.plan_solve.specs.declared.Answer.the-variants.{Plan, None}
+use Rattle.plan_solve.specs.Planning.{conclusion, Settled}
+use Rattle.plan_solve.specs.Reply as says
+use Rattle.plan_solve.specs.Reply.{refusalOf}
+use Rattle.plan.specs.ConditionLaws.{Planned, Ringed, call-refused, call-answered, call-planned, call-ringed}
 
 -- A ring contradicts: where the sheet's limits have one, no plan is lawful.
 pub ring-contradicts : (s : Sheet) (ring : List ℕ) → T (isRing s ring) → (x : List ℕ) → T (lawful s x) → ⊥
 unfolding isRing
 ring-contradicts s ring h x l = cycle-infeasible (limit s) (top s) (λ b. pos (countIn 1 b x)) (lawful-feasible s x l (top s)) ring h
 
-module _ (l : Lists) (before : Rooms) (reply : Answer) (after : Rooms) (call : Settled (conclusion l before) (given l) before reply after) where
+module _ (l : Lists) (before : Rooms) (reply : says.Reply) (after : Rooms) (call : Settled (conclusion l before) (given l) before reply after) where
   abbrev pub s : Sheet
   s = given l
 
@@ -59,7 +61,7 @@ module _ (l : Lists) (before : Rooms) (reply : Answer) (after : Rooms) (call : S
       (ap (λ (b : Bool). cond b (cleared (places s) (before .table)) (before .table)) f)
 
   -- ---- 2. Plan or ring. A sheet that is not refused gets a plan exactly when some assignment meets all windows and all rules;
-  pub plan-exactly-when-lawful : refusal l before ≡ allYes → (reply ≡ Plan) ↔ ((x : List ℕ) × T (lawful s x))
+  pub plan-exactly-when-lawful : refusal l before ≡ allYes → (reply ≡ says.plan) ↔ ((x : List ℕ) × T (lawful s x))
   plan-exactly-when-lawful e = (
     (λ f. let p = call-planned l before reply after call f in solved-plan s (entry (boundaries s) (p .table)) (p .solved)),
     (λ x. ⊎-elim (λ (p : Planned s before reply after). p .is) (λ (r : Ringed s before reply after). absurd (r .unlawful (x .0) (x .1)))
@@ -67,16 +69,24 @@ module _ (l : Lists) (before : Rooms) (reply : Answer) (after : Rooms) (call : S
   )
 
   -- else it says none, and a ring of the sheet's own limits stands at the front of its room.
+  pub ring-at : (k : ℕ) → reply ≡ says.none k → T (isRing s (take k (after .ring)))
+  ring-at k f =
+      let r = call-ringed l before reply after call k f in
+      let n = length (r .ring) in
+      let is : reply ≡ says.none n = r .is in
+      let size : k ≡ n = cc in
+      let front : take k (after .ring) ≡ r .ring =
+      ap (λ i. take i (after .ring)) size ∙ ap (λ (a : Rooms). take n (a .ring)) (r .left) ∙ take-at (r .ring) (drop n (before .ring)) n refl in
+      subst (λ c. T (isRing s c)) (sym front) (r .closed)
+
   pub ring-otherwise : refusal l before ≡ allYes → ((x : List ℕ) → T (lawful s x) → ⊥)
-      → (ring : List ℕ) × T (isRing s ring) × (reply ≡ None (length ring)) × (take (length ring) (after .ring) ≡ ring)
+      → (k : ℕ) × (reply ≡ says.none k) × T (isRing s (take k (after .ring)))
   ring-otherwise e f =
       ⊎-elim (λ (p : Planned s before reply after). let x = solved-plan s (entry (boundaries s) (p .table)) (p .solved) in absurd (f (x .0) (x .1)))
-      (λ (r : Ringed s before reply after).
-      let k = length (r .ring) in
-      (r .ring, r .closed, r .is, ap (λ (a : Rooms). take k (a .ring)) (r .left) ∙ take-at (r .ring) (drop k (before .ring)) k refl))
+      (λ (r : Ringed s before reply after). (length (r .ring), r .is, ring-at (length (r .ring)) (r .is)))
       (call-answered l before reply after call e)
 
-  module _ (planned? : reply ≡ Plan) where
+  module _ (planned? : reply ≡ says.plan) where
     P : Planned s before reply after
     P = call-planned l before reply after call planned?
 
@@ -122,26 +132,32 @@ module _ (l : Lists) (before : Rooms) (reply : Answer) (after : Rooms) (call : S
         (omega (arith, P .size, row-inside a (boundaries s) (omega arith)))
 
     -- For every stretch, a whole number is the count of some lawful plan exactly when it is from the least to the greatest.
-    pub counts : (a b : ℕ) → a < b → b ≤ top s → (k : ℕ)
-        → ((x : List ℕ) × T (lawful s x) × (countIn (suc a) b x ≡ k))
-        ↔ ((negℤ (entry (boundaries s) (after .table) b a) ≤ℤ pos k) × (pos k ≤ℤ entry (boundaries s) (after .table) a b))
+    pub counts : (a b : Boundary) → a < b → b ≤ top s → (k : ℤ)
+        → ((x : List ℕ) × T (lawful s x) × (pos (countIn (slotAfter a) (slotBefore b) x) ≡ k))
+        ↔ ((negℤ (entry (boundaries s) (after .table) b a) ≤ℤ k) × (k ≤ℤ entry (boundaries s) (after .table) a b))
     counts a b h hb k =
         let D = entry (boundaries s) (P .table) in
-        let r = range s D (P .solved) a b h hb k in
+        let r = range s D (P .solved) a b h hb (up k) in
         let g = greatest-entry s D (P .solved) a b h hb in
         let m = least-entry s D (P .solved) a b h hb in
         let eg = entry-at a b (omega arith) hb in
         let em = entry-at b a hb (omega arith) in
         let nl = neg (pos (leastIn s (suc a) b)) in
         let ne = neg (entry (boundaries s) (after .table) b a) in (
-          (λ x. let q = r .0 x in (omega (ints, q .0, em, m, nl, ne), omega (ints, q .1, eg, g))),
-          (λ q. r .1 (omega (ints, q .0, em, m, nl, ne), omega (ints, q .1, eg, g))),
+          (λ x.
+              let whole : dn k ≡ 0 = sym (ap dn (x .2)) in
+              let q = r .0 (x .0, x .1, ap up (x .2)) in
+              (omega (ints, whole, q .0, em, m, nl, ne), omega (ints, whole, q .1, eg, g))),
+          (λ q.
+              let whole : dn k ≡ 0 = nonneg {a = k} (omega (ints, q .0, em, m, nl, ne)) in
+              let x = r .1 (omega (ints, whole, q .0, em, m, nl, ne), omega (ints, whole, q .1, eg, g)) in
+              (x .0, x .1, omega (ints, whole, x .2))),
         )
 
     printed : Printed s (printedPlan s)
     printed = some-printed s (entry (boundaries s) (P .table)) (P .solved)
 
-    plan-at : take (length (s .units)) (after .plan) ≡ printedPlan s
+    pub plan-at : take (length (s .units)) (after .plan) ≡ printedPlan s
     plan-at =
         ap (λ (r : Rooms). take (length (s .units)) (r .plan)) (P .left)
         ∙ take-at (printedPlan s) (drop (length (s .units)) (before .plan)) (length (s .units)) (lawful-iff s (printedPlan s) .0 (printed .legal) .seated .size)
@@ -154,6 +170,7 @@ module _ (l : Lists) (before : Rooms) (reply : Answer) (after : Rooms) (call : S
     plan-fair = subst (λ (x : List ℕ). T (fair s x)) (sym plan-at) (printed .order)
 
     -- and by the end of each slot no lawful plan has more deliveries.
-    pub plan-soonest : (x : List ℕ) → T (lawful s x) → (b : ℕ) → 1 ≤ b → b ≤ top s → countIn 1 b x ≤ countIn 1 b (take (length (s .units)) (after .plan))
-    plan-soonest x k b h hb =
-        omega (arith, greatestIn-bound s x k 1 b, printed .early b h hb, ap (countIn 1 b) plan-at)
+    pub plan-soonest : (x : List ℕ) → T (lawful s x) → (t : Slot) → 1 ≤ t → t ≤ slotBefore (top s)
+        → countIn 1 t x ≤ countIn 1 t (take (length (s .units)) (after .plan))
+    plan-soonest x k t h ht =
+        omega (arith, greatestIn-bound s x k 1 t, printed .early t h ht, ap (countIn 1 t) plan-at)

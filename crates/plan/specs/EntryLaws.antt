@@ -6,15 +6,14 @@ use mathlib.Core.List.{List}
 use Prim.Native.Nat.{ℕ}
 use lib.Dec.{T, eqb}
 use Rattle.network.specs.Table.{Passed, finished, stopped, outOfRange, cleared}
-use Rattle.questions.specs.Questions.{Question, Verdict, no, allYes, firstNo, andThen, refusalBy}
+use Rattle.questions.specs.Questions.{Question, Verdict, no, allYes, firstNo, andThen}
 use Rattle.questions.specs.FirstNoLaws.{first-then, yes-every, every-yes, first-passes}
 use Rattle.sheet.specs.Lists.{Lists, given}
 use Rattle.plan_ask.specs.Questions.{Rooms, lent, places, passed, askedOfPass, refusal}
 use Rattle.plan_ask.specs.Asking.{lengthsOf, askedFirst, Solvable}
 use Rattle.plan_solve.specs.Planning.{Conclusion, byPass, concluding, conclusion, Settled}
 use Rattle.plan_solve.specs.PlanningLaws.{asked-yes, yes-asked}
-use Rattle.plan_solve.specs.declared.Answer.{Answer}
-use Rattle.plan_solve.specs.declared.Answer.the-variants.{Refused}
+use Rattle.plan_solve.specs.Reply as says
 
 module _ (l : Lists) (before : Rooms) where
   abbrev first : List Question
@@ -30,9 +29,9 @@ module _ (l : Lists) (before : Rooms) where
   unchanged true h = absurd h
   unchanged false h = refl
 
-  pub entry-refused : (q n : ℕ) → no q n ≡ firstNo first → Settled (conclusion l before) (given l) before (Refused (refusalBy q n)) before
+  pub entry-refused : (q n : ℕ) → no q n ≡ firstNo first → Settled (conclusion l before) (given l) before (says.refused q n) before
   entry-refused q n h =
-      subst (λ (c : Conclusion). Settled c (given l) before (Refused (refusalBy q n)) before) (sym (concludes (no q n) h))
+      subst (λ (c : Conclusion). Settled c (given l) before (says.refused q n) before) (sym (concludes (no q n) h))
       (refl, unchanged (eqb q 14) (first-passes (λ k m. not (eqb k 14)) first tt q n (sym h)))
 
   -- ---- asked of the pass
@@ -53,6 +52,6 @@ module _ (l : Lists) (before : Rooms) where
   pub concludes-solvable : Solvable l before → conclusion l before ≡ byPass (passed (given l))
   concludes-solvable y = concludes-solved (sym (every-yes first (yes-asked l before y)))
 
-  pub entry-solved : allYes ≡ firstNo first → (reply : Answer) (after : Rooms) → Settled (byPass (passed (given l))) (given l) before reply after
+  pub entry-solved : allYes ≡ firstNo first → (reply : says.Reply) (after : Rooms) → Settled (byPass (passed (given l))) (given l) before reply after
       → Settled (conclusion l before) (given l) before reply after
   entry-solved h reply after = subst (λ (c : Conclusion). Settled c (given l) before reply after) (sym (concludes-solved h))

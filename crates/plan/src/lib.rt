@@ -1,6 +1,7 @@
 ghost use Rattle.sheet.specs.Lists.{listed, given};
 ghost use Rattle.plan_ask.specs.Questions.{lent};
 ghost use Rattle.plan_solve.specs.Planning.{conclusion, Settled};
+ghost use Rattle.plan_solve.specs.Reply.{replyOf};
 use questions::Checked;
 
 // Plans from lists. The questions come first; then the sheet gets a plan, or none and a ring.
@@ -21,7 +22,7 @@ pub fn plan(
     ensures { λ r.
         let l = listed span (now (first .entry)) (now (last .entry)) (now (from .entry)) (now (to .entry)) (now (low .entry)) (now (high .entry)) in
         let before = lent (now (table .entry)) (now (plan .entry)) (now (earliest .entry)) (now (latest .entry)) (now (ring .entry)) in
-        ⌜ Settled (conclusion l before) (given l) before r
+        ⌜ Settled (conclusion l before) (given l) before (replyOf r)
         (lent (now (table .exit)) (now (plan .exit)) (now (earliest .exit)) (now (latest .exit)) (now (ring .exit))) ⌝ }
 {
     let rooms = plan_ask::lengths_of(table, plan, earliest, latest, ring);

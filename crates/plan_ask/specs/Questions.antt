@@ -7,7 +7,8 @@ use lib.ListN.{length}
 use lib.IntN.{ℤ}
 use Rattle.network.specs.Table.{Passed, finished, stopped, outOfRange, tableOf, passOf}
 use Rattle.questions.specs.Questions.{Question, ask, Verdict, firstNo}
-use Rattle.sheet.specs.Sheet.{Sheet, Slot, limit, boundaries}
+use Rattle.slots.specs.Slots.{Slot}
+use Rattle.sheet.specs.Sheet.{Sheet, limit, boundaries}
 use Rattle.sheet.specs.Lists.{Lists, given, agree}
 use Rattle.sheet.specs.Questions.{sheetQuestions}
 

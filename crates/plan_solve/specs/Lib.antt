@@ -1,3 +1,4 @@
+pub mod Reply
 pub mod Planning
 pub mod PlanningLaws
 pub mod Deciding

@@ -7,23 +7,11 @@ use lib.Dec.{T, eqb}
 use lib.ListN.{length, drop}
 use lib.IntN.{ℤ}
 use Rattle.network.specs.Table.{Passed, finished, stopped, outOfRange, cleared}
-use Rattle.questions.specs.Questions.{Verdict, no, allYes, refusalBy}
+use Rattle.questions.specs.Questions.{Verdict, no, allYes}
 use Rattle.sheet.specs.Sheet.{Sheet, printedPlan, earliestSlots, latestSlots, isRing}
 use Rattle.sheet.specs.Lists.{Lists, given}
 use Rattle.plan_ask.specs.Questions.{Rooms, places, passed, refusal}
-use Rattle.plan_solve.specs.declared.Answer.{Answer}
-use Rattle.plan_solve.specs.declared.Answer.the-variants.{Refused, Plan, None}
-
--- the refusal of a reply, by number and line, or none; and the ring's length, 0 where there is none
-abbrev pub refusalOf : Answer → Verdict
-refusalOf (Refused f) = no (f .number) (f .line)
-refusalOf Plan = allYes
-refusalOf (None k) = allYes
-
-abbrev pub ringLength : Answer → ℕ
-ringLength (Refused f) = 0
-ringLength Plan = 0
-ringLength (None k) = k
+use Rattle.plan_solve.specs.Reply as says
 
 -- refused: nothing is changed, but 14 leaves the table's places 0
 abbrev pub refused : Sheet → ℕ → Rooms → Rooms
@@ -79,7 +67,7 @@ unfoldable pub conclusion : Lists → Rooms → Conclusion
 conclusion l r = concluding (refusal l r) (passed (given l))
 
 -- The reply and the rooms after the call follow from the conclusion. The ring is the one freedom: it may be any ring of the sheet's own limits.
-abbrev pub Settled : Conclusion → Sheet → Rooms → Answer → Rooms → Type 0
-Settled (refuse q n) s before reply after = (reply ≡ Refused (refusalBy q n)) × (after ≡ refused s q before)
-Settled (plan t) s before reply after = (reply ≡ Plan) × (after ≡ planned s t before)
-Settled none s before reply after = (c : List ℕ) × T (isRing s c) × (reply ≡ None (length c)) × (after ≡ ringed s c before)
+abbrev pub Settled : Conclusion → Sheet → Rooms → says.Reply → Rooms → Type 0
+Settled (refuse q n) s before reply after = (reply ≡ says.refused q n) × (after ≡ refused s q before)
+Settled (plan t) s before reply after = (reply ≡ says.plan) × (after ≡ planned s t before)
+Settled none s before reply after = (c : List ℕ) × T (isRing s c) × (reply ≡ says.none (length c)) × (after ≡ ringed s c before)

@@ -13,7 +13,6 @@ use Rattle.lists.specs.Members.{left, right}
 use Rattle.network.specs.Table.{Passed, finished, stopped, outOfRange, entry, outcomeOf, cleared}
 use Rattle.network.specs.declared.Outcome.{Outcome}
 use Rattle.network.specs.declared.Outcome.the-variants.{Finished, Stopped, OutOfRange}
-use Rattle.questions.specs.Questions.{refusalBy}
 use Rattle.sheet.specs.Sizes.{boundariesOf}
 use Rattle.sheet.specs.Sheet.{Sheet, printedPlan, earliestSlots, latestSlots, isRing, boundaries}
 use Rattle.limits.specs.LimitTable.{Fillable}
@@ -30,7 +29,7 @@ use Rattle.plan_solve.specs.DecidingLaws.{boundaries-counted}
 use Rattle.plan_ask.specs.Asking.{Solvable}
 use Rattle.plan_solve.specs.Filling.{Ready, PlanFilled}
 use Rattle.plan_solve.specs.FillingLaws.{solved-front}
-use Rattle.plan_solve.specs.declared.Answer.the-variants.{Refused, Plan, None}
+use Rattle.plan_solve.specs.Reply as says
 
 -- ---- which pass had the outcome
 is-finished : (p : Passed) → Finished ≡ outcomeOf p → (t : List ℤ) × (p ≡ finished t)
@@ -57,17 +56,17 @@ rooms-same : (t t′ : List ℤ) (p p′ e e′ l l′ r : List ℕ) → t ≡ t
 rooms-same t t′ p p′ e e′ l l′ r a b c d = rw (a, b, c, d)
 
 module _ (s : Sheet) (before : Rooms) (table : List ℤ) where
-  left-out-of-range : Decided s (before .table) OutOfRange table → Settled (byPass (passed s)) s before (Refused (refusalBy 14 0)) (withTable before table)
+  left-out-of-range : Decided s (before .table) OutOfRange table → Settled (byPass (passed s)) s before (says.refused 14 0) (withTable before table)
   left-out-of-range d =
       let e = is-out-of-range (passed s) (d .outcome) in
-      subst (λ (p : Passed). Settled (byPass p) s before (Refused (refusalBy 14 0)) (withTable before table)) (sym e)
+      subst (λ (p : Passed). Settled (byPass p) s before (says.refused 14 0) (withTable before table)) (sym e)
       (refl, ap (withTable before) (d .table ∙ ap (λ (p : Passed). tableLeft s p (before .table)) e))
 
   -- a ring at the front of its room, and the table cleared
   left-ring : Decided s (before .table) Stopped table → (c : List ℕ) → T (isRing s c) → (after : Rooms) → after ≡ ringed s c before
-      → Settled (byPass (passed s)) s before (None (length c)) after
+      → Settled (byPass (passed s)) s before (says.none (length c)) after
   left-ring d c h after e =
-      subst (λ (p : Passed). Settled (byPass p) s before (None (length c)) after) (sym (is-stopped (passed s) (d .outcome))) (c, h, refl, e)
+      subst (λ (p : Passed). Settled (byPass p) s before (says.none (length c)) after) (sym (is-stopped (passed s) (d .outcome))) (c, h, refl, e)
 
   module _ (ok : T (accepted s)) (d : Decided s (before .table) Finished table) (room : places s ≤ length (before .table)) where
     t : List ℤ
@@ -108,9 +107,9 @@ module _ (s : Sheet) (before : Rooms) (table : List ℤ) where
         → plan ≡ printedPlan s ++ drop (length (s .units)) (before .plan)
         → earliest ≡ earliestSlots s ++ drop (length (s .units)) (before .earliest)
         → latest ≡ latestSlots s ++ drop (length (s .units)) (before .latest)
-        → Settled (byPass (passed s)) s before Plan (lent table plan earliest latest (before .ring))
+        → Settled (byPass (passed s)) s before says.plan (lent table plan earliest latest (before .ring))
     left-plan plan earliest latest p e l =
-        subst (λ (x : Passed). Settled (byPass x) s before Plan (lent table plan earliest latest (before .ring))) (sym is-t)
+        subst (λ (x : Passed). Settled (byPass x) s before says.plan (lent table plan earliest latest (before .ring))) (sym is-t)
         (refl, rooms-same table _ plan _ earliest _ latest _ (before .ring) table-is p e l)
 
 -- ---- the same, of a call's lists and rooms
@@ -164,7 +163,7 @@ module _ (l : Lists) (before : Rooms) (S : Solvable l before) where
 
   module _ (r : Outcome) (table : List ℤ) (d : Decided (given l) (before .table) r table) where
     pub range-left : r ≡ OutOfRange
-        → Settled (byPass (passed (given l))) (given l) before (Refused (refusalBy 14 0))
+        → Settled (byPass (passed (given l))) (given l) before (says.refused 14 0)
         (lent table (before .plan) (before .earliest) (before .latest) (before .ring))
     range-left e = left-out-of-range (given l) before table (subst (λ (o : Outcome). Decided (given l) (before .table) o table) e d)
 
@@ -185,12 +184,12 @@ module _ (l : Lists) (before : Rooms) (S : Solvable l before) where
           (record { agree = S .lists; ok = S .sheet; fits = omega (arith, holds .table, n, ap length table-cleared) }, holds .ring, halted)
 
       pub ring-left : (k : ℕ) (zeros : List ℤ) (ring : List ℕ) → RingFound (given l) table (before .ring) k zeros ring
-          → Settled (byPass (passed (given l))) (given l) before (None k) (lent zeros (before .plan) (before .earliest) (before .latest) ring)
+          → Settled (byPass (passed (given l))) (given l) before (says.none k) (lent zeros (before .plan) (before .earliest) (before .latest) ring)
       ring-left k zeros ring R =
           let n = places (given l) in
           let z : zeros ≡ cleared n (before .table) = R .zeros ∙ ap (cleared n) table-cleared ∙ cleared-twice n (before .table) in
           let after = lent zeros (before .plan) (before .earliest) (before .latest) ring in
-          subst (λ (n : ℕ). Settled (byPass (passed (given l))) (given l) before (None n) after) (sym (R .size))
+          subst (λ (n : ℕ). Settled (byPass (passed (given l))) (given l) before (says.none n) after) (sym (R .size))
           (left-ring (given l) before table D (R .ring) (R .closed) after
           (ap₂ (λ (t : List ℤ) (c : List ℕ). lent t (before .plan) (before .earliest) (before .latest) c) z (R .front)))
 
@@ -208,6 +207,6 @@ module _ (l : Lists) (before : Rooms) (S : Solvable l before) where
       plan-rooms = (omega (arith, units-length, holds .plan), omega (arith, units-length, holds .earliest), omega (arith, units-length, holds .latest))
 
       pub plan-left : (plan earliest latest : List ℕ) → PlanFilled (given l) (before .plan) (before .earliest) (before .latest) plan earliest latest
-          → Settled (byPass (passed (given l))) (given l) before Plan (lent table plan earliest latest (before .ring))
+          → Settled (byPass (passed (given l))) (given l) before says.plan (lent table plan earliest latest (before .ring))
       plan-left plan earliest latest f =
           left-plan (given l) before table (S .sheet) F (holds .table) plan earliest latest (f .seats) (f .early) (f .late)

@@ -10,6 +10,7 @@ ghost use Rattle.sheet.specs.Lists.{listed};
 ghost use Rattle.plan_ask.specs.Questions.{lent, passed};
 ghost use Rattle.plan_ask.specs.Asking.{Solvable};
 ghost use Rattle.plan_solve.specs.Planning.{byPass, Settled};
+ghost use Rattle.plan_solve.specs.Reply.{replyOf};
 ghost use Rattle.plan_solve.specs.Deciding.{Decided, RingFound};
 ghost use Rattle.plan_solve.specs.Filling.{Ready, PlanFilled};
 use questions::Refusal;
@@ -115,7 +116,7 @@ pub fn solve(
     ensures { λ r.
         let s = sheetOf span (now (first .entry)) (now (last .entry)) (now (from .entry)) (now (to .entry)) (now (low .entry)) (now (high .entry)) in
         ⌜ Settled (byPass (passed s)) s
-        (lent (now (table .entry)) (now (plan .entry)) (now (earliest .entry)) (now (latest .entry)) (now (ring .entry))) r
+        (lent (now (table .entry)) (now (plan .entry)) (now (earliest .entry)) (now (latest .entry)) (now (ring .entry))) (replyOf r)
         (lent (now (table .exit)) (now (plan .exit)) (now (earliest .exit)) (now (latest .exit)) (now (ring .exit))) ⌝ }
 {
     let outcome = decide(span, first, last, from, to, low, high, table);

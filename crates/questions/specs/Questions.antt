@@ -5,7 +5,6 @@ use mathlib.Core.List.{List, [], _∷_}
 use Prim.Native.Nat.{ℕ}
 use lib.Dec.{T}
 use Rattle.lists.specs.Lists.{every}
-use Rattle.questions.specs.declared.Refusal.{Refusal}
 use Rattle.questions.specs.declared.Checked.{Checked}
 use Rattle.questions.specs.declared.Checked.the-variants.{No, Yes}
 
@@ -40,10 +39,6 @@ numberOf allYes = 0
 -- every answer is yes
 abbrev pub AllYes : List Question → Type 0
 AllYes qs = T (every (λ q. q .yes) qs)
-
--- a refusal by this number at this line
-abbrev pub refusalBy : ℕ → ℕ → Refusal
-refusalBy q n = record { number = q; line = n }
 
 -- the code's reply as a verdict
 abbrev pub verdictOf : Checked → Verdict

@@ -15,8 +15,8 @@ use Rattle.questions.specs.FirstNoLaws.{firstNo-append}
 use Rattle.sheet.specs.Sizes.{maxUnits, maxRules, maxBytes}
 use Rattle.sheet.specs.declared.Sheet.{Sheet}
 use Rattle.lists.specs.Members.{and-left, and-right}
-use Rattle.read_ask.specs.Reading.{sheetIn, ListRooms, listsFit, passQuestions, questions, Answer, refused, read, concluded, reading}
-use Rattle.read_ask.specs.Steps.{windowNumbers, ruleNumbers, unitStream, ruleStream, passAnswer, KeptNumbers}
+use Rattle.read_ask.specs.Reading.{sheetIn, ListRooms, listsFit, passQuestions, questions, Reply, refused, read, concluded, reading}
+use Rattle.read_ask.specs.Steps.{windowNumbers, ruleNumbers, unitStream, ruleStream, passReply, KeptNumbers}
 use Rattle.read.specs.Rooms.{sizesOf, leaves, roomsAfter}
 use Rattle.read.specs.Spread.{strided, filled, Filling}
 use Rattle.read.proofs.SpreadLaws.{stream-column, rooms-same}
@@ -34,22 +34,22 @@ module _ (t : List ℕ) (sizes : ListRooms ℕ) where
     unfolding questions firstNo
     all-asked = rw (le-leb (length t) maxBytes h) (firstNo-append (passQuestions t) (ask 12 0 fit ∷ []))
 
-    call-answer : Verdict → Answer
+    call-answer : Verdict → Reply
     call-answer v = concluded (andThen v (cond fit allYes (no 12 0))) (sheetIn t)
 
     is-answer : reading t sizes ≡ call-answer (firstNo (passQuestions t))
     unfolding reading call-answer
     is-answer = ap (λ (v : Verdict). concluded v (sheetIn t)) all-asked
 
-    pub answer-no : (q n : ℕ) → refused q n ≡ passAnswer t → refused q n ≡ reading t sizes
-    unfolding passAnswer call-answer
+    pub answer-no : (q n : ℕ) → refused q n ≡ passReply t → refused q n ≡ reading t sizes
+    unfolding passReply call-answer
     answer-no q n e = go (firstNo (passQuestions t)) e ∙ sym is-answer
       where
         go : (v : Verdict) → refused q n ≡ concluded v (sheetIn t) → refused q n ≡ call-answer v
         go (no q′ n′) e = e
         go allYes e = let z : _≡_ {A = ℕ} 0 1 = cc in absurd (omega arith)
 
-    module _ (p u r : ℕ) (e : read p u r ≡ passAnswer t) where
+    module _ (p u r : ℕ) (e : read p u r ≡ passReply t) where
       record PassYes : Type 0 where
         verdict : firstNo (passQuestions t) ≡ allYes
         span : p ≡ sheetIn t .span
@@ -57,7 +57,7 @@ module _ (t : List ℕ) (sizes : ListRooms ℕ) where
         rules : r ≡ length (sheetIn t .rules)
 
       passed : PassYes
-      unfolding passAnswer
+      unfolding passReply
       passed = go (firstNo (passQuestions t)) refl e
         where
           go : (v : Verdict) → firstNo (passQuestions t) ≡ v → read p u r ≡ concluded v (sheetIn t) → PassYes
@@ -72,14 +72,14 @@ module _ (t : List ℕ) (sizes : ListRooms ℕ) where
       answer-rooms k = sym (is-answer ∙ ap call-answer (passed .verdict) ∙ ap (λ (b : Bool). concluded (cond b allYes (no 12 0)) (sheetIn t)) (fit-is ∙ k))
 
       pub answer-read : listsFit u r sizes ≡ true → read p u r ≡ reading t sizes
-      unfolding call-answer passAnswer
+      unfolding call-answer passReply
       answer-read k =
           e ∙ ap (λ (v : Verdict). concluded v (sheetIn t)) (passed .verdict)
           ∙ sym (is-answer ∙ ap call-answer (passed .verdict) ∙ ap (λ (b : Bool). concluded (cond b allYes (no 12 0)) (sheetIn t)) (fit-is ∙ k))
 
 -- a refusal leaves the rooms
 pub rooms-kept : (t : List ℕ) (m : ListRooms (List ℕ)) (q n : ℕ) → refused q n ≡ reading t (sizesOf m) → m ≡ roomsAfter t m
-rooms-kept t m q n e = ap (λ (a : Answer). leaves a (sheetIn t) m) e
+rooms-kept t m q n e = ap (λ (a : Reply). leaves a (sheetIn t) m) e
 
 -- rooms that question 12 finds long enough, and arrays that hold what was kept
 pub fills : (s : Sheet) (t units units′ rules rules′ : List ℕ) (sizes : ListRooms ℕ) → 2 * maxUnits ≤ length units → 4 * maxRules ≤ length rules
@@ -103,13 +103,13 @@ fills s t units units′ rules rules′ sizes u r k f =
 
 -- what was filled in is what the sheet's lists are
 pub rooms-filled : (s : Sheet) (t units units′ rules rules′ : List ℕ) (m : ListRooms (List ℕ)) → 2 * maxUnits ≤ length units → 4 * maxRules ≤ length rules
-    → length t ≤ maxBytes → read (s .span) (s .units) (s .rules) ≡ passAnswer t → listsFit (s .units) (s .rules) (sizesOf m) ≡ true
+    → length t ≤ maxBytes → read (s .span) (s .units) (s .rules) ≡ passReply t → listsFit (s .units) (s .rules) (sizesOf m) ≡ true
     → KeptNumbers s t units units′ rules rules′ → filled s units′ rules′ m ≡ roomsAfter t m
 unfolding unitStream ruleStream
 rooms-filled s t units units′ rules rules′ m u r h e f k =
     rooms-same (unit-room 0 (omega arith) (m .first)) (unit-room 1 (omega arith) (m .last))
     (rule-room 0 (omega arith) (m .from)) (rule-room 1 (omega arith) (m .to)) (rule-room 2 (omega arith) (m .low)) (rule-room 3 (omega arith) (m .high))
-    ∙ ap (λ (a : Answer). leaves a (sheetIn t) m) (answer-read t (sizesOf m) h (s .span) (s .units) (s .rules) e f)
+    ∙ ap (λ (a : Reply). leaves a (sheetIn t) m) (answer-read t (sizesOf m) h (s .span) (s .units) (s .rules) e f)
   where
     g : PassYes t (sizesOf m) h (s .span) (s .units) (s .rules) e
     g = passed t (sizesOf m) h (s .span) (s .units) (s .rules) e

@@ -4,13 +4,13 @@ use mathlib.Core.List.{List, map}
 use lib.ListN.{length}
 use Rattle.lists.specs.Lists.{onFront}
 use Rattle.sheet.specs.Sheet.{Sheet}
-use Rattle.read_ask.specs.Reading.{sheetIn, ListRooms, rooms, Answer, refused, read, reading}
+use Rattle.read_ask.specs.Reading.{sheetIn, ListRooms, rooms, Reply, refused, read, reading}
 
 abbrev pub sizesOf : ListRooms (List ℕ) → ListRooms ℕ
 sizesOf m = rooms (length (m .first)) (length (m .last)) (length (m .from)) (length (m .to)) (length (m .low)) (length (m .high))
 
 -- a refusal changes nothing
-abbrev pub leaves : Answer → Sheet → ListRooms (List ℕ) → ListRooms (List ℕ)
+abbrev pub leaves : Reply → Sheet → ListRooms (List ℕ) → ListRooms (List ℕ)
 leaves (refused q n) s m = m
 leaves (read p u r) s m =
     rooms (onFront (map (λ w. w .first) (s .units)) (m .first)) (onFront (map (λ w. w .last) (s .units)) (m .last))

@@ -4,7 +4,7 @@ ghost use Prim.Native.Nat.{_≤_};
 ghost use lib.Dec.{leb};
 ghost use lib.ListN.{length};
 ghost use Rattle.lists.specs.Lists.{onFront};
-ghost use Rattle.read_ask.specs.Reading.{answerOf, reading, rooms, listsFit};
+ghost use Rattle.read_ask.specs.Reading.{replyOf, reading, rooms, listsFit};
 ghost use Rattle.read.specs.Rooms.{sizesOf, roomsAfter};
 ghost use Rattle.read.specs.Spread.{strided, Reach, Filling, filled};
 use questions::Refusal;
@@ -98,7 +98,7 @@ pub fn read(
     low: &mut [u16],
     high: &mut [u16],
 ) -> Reading
-    ensures { λ r. ⌜ answerOf r
+    ensures { λ r. ⌜ replyOf r
         ≡ reading (now (text .entry))
         (sizesOf (rooms (now (first .entry)) (now (last .entry)) (now (from .entry)) (now (to .entry)) (now (low .entry)) (now (high .entry)))) ⌝ }
     ensures { λ _. ⌜ rooms (now (first .exit)) (now (last .exit)) (now (from .exit)) (now (to .exit)) (now (low .exit)) (now (high .exit))

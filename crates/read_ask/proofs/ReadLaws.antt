@@ -28,7 +28,7 @@ use Rattle.read_line.specs.declared.Line.{Line}
 use Rattle.read_line.specs.declared.Line.the-variants as Line
 use Rattle.read_ask.specs.Reading.{contents, isSheet, hasSheet, spanElse, spanIn, windowOf, unitsIn, ruleOf, rulesIn, sheetIn, isForm}
 use Rattle.read_ask.specs.Reading.{inOrder, spanAllowed, inSpan, countFits, questionsOf, lineQuestions, passQuestions, refused, read, concluded}
-use Rattle.read_ask.specs.Steps.{counted, stepOf, windowNumbers, ruleNumbers, unitStream, ruleStream, unitPart, rulePart, passAnswer}
+use Rattle.read_ask.specs.Steps.{counted, stepOf, windowNumbers, ruleNumbers, unitStream, ruleStream, unitPart, rulePart, passReply}
 use Rattle.read_ask.specs.SpanLaws.{joined-append, stream-length, hasSheet-more, hasSheet-same, spanIn-same, spanIn-first}
 use Rattle.read_ask.specs.declared.Step.{Step}
 use Rattle.read_ask.specs.declared.Step.the-variants.{No, On}
@@ -301,8 +301,8 @@ module _ (t : List ℕ) (at n : ℕ) (s : Sheet) (units₀ units rules₀ rules 
         (firstNo (rest next)))
         (ap (stepOf s) (sym k) ∙ q) (line-verdict s (i .before) (i .counts) n here (rest next)))
 
-    pub asking-no : (q : ℕ) → stepOf s line ≡ No q → refused q n ≡ passAnswer t
-    unfolding passAnswer
+    pub asking-no : (q : ℕ) → stepOf s line ≡ No q → refused q n ≡ passReply t
+    unfolding passReply
     asking-no q r =
         let v : firstNo (lineQuestions 1 [] (lines t)) ≡ no q n = all-left ∙ verdict (No q) r in
         let last = ask 5 0 (hasSheet (contents (lines t))) ∷ [] in
@@ -342,12 +342,12 @@ module _ (t : List ℕ) (at n : ℕ) (s : Sheet) (units₀ units rules₀ rules 
         first-then (lineQuestions 1 [] (lines t)) (ask 5 0 (hasSheet (contents (lines t))) ∷ []) allYes all-asked
         ∙ ap (λ (b : Bool). cond b allYes (no 5 0)) (ap hasSheet all-before ∙ i .counts .sheeted ∙ ap not e)
 
-    pub asking-none : s .span ≡ 0 → refused 5 0 ≡ passAnswer t
-    unfolding passAnswer
+    pub asking-none : s .span ≡ 0 → refused 5 0 ≡ passReply t
+    unfolding passReply
     asking-none e = sym (ap (λ (x : Verdict). concluded x (sheetIn t)) (last-asked true (eq-eqb (s .span) 0 e)))
 
-    pub asking-sheet : (s .span ≡ 0 → ⊥) → read (s .span) (s .units) (s .rules) ≡ passAnswer t
-    unfolding passAnswer sheetIn
+    pub asking-sheet : (s .span ≡ 0 → ⊥) → read (s .span) (s .units) (s .rules) ≡ passReply t
+    unfolding passReply sheetIn
     asking-sheet e =
         let c = i .counts in
         let b = all-before in

@@ -171,18 +171,18 @@ questions text sizes =
 -- ---- the answer
 
 -- a refusal by this question at this line, or a sheet with this span and so many units and rules
-pub data Answer : Type 0 where
-  refused : (number line : ℕ) → Answer
-  read : (span units rules : ℕ) → Answer
+pub data Reply : Type 0 where
+  refused : (number line : ℕ) → Reply
+  read : (span units rules : ℕ) → Reply
 
 -- the number and the values for each case of the reply
-abbrev pub answerOf : Reading → Answer
-answerOf (Reading.Refused f) = refused (f .number) (f .line)
-answerOf (Reading.Sheet s) = read (s .span) (s .units) (s .rules)
+abbrev pub replyOf : Reading → Reply
+replyOf (Reading.Refused f) = refused (f .number) (f .line)
+replyOf (Reading.Sheet s) = read (s .span) (s .units) (s .rules)
 
-abbrev pub concluded : Verdict → Sheet → Answer
+abbrev pub concluded : Verdict → Sheet → Reply
 concluded (no q n) s = refused q n
 concluded allYes s = read (s .span) (length (s .units)) (length (s .rules))
 
-unfoldable pub reading : List ℕ → ListRooms ℕ → Answer
+unfoldable pub reading : List ℕ → ListRooms ℕ → Reply
 reading text sizes = concluded (firstNo (questions text sizes)) (sheetIn text)

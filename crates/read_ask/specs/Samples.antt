@@ -11,7 +11,7 @@ use Rattle.forms.specs.Lines.{lines}
 use Rattle.read_line.specs.Content.{isNote, noteMatched, contentOf}
 use Rattle.read_ask.specs.Reading.{contents, hasSheet, spanIn, unitsIn, rulesIn, sheetIn, lineQuestions, ListRooms, rooms, roomsForAll, questions}
 use Rattle.questions.specs.Questions.{firstNo}
-use Rattle.read_ask.specs.Reading.{Answer, refused, read, reading}
+use Rattle.read_ask.specs.Reading.{Reply, refused, read, reading}
 
 -- ---- lines
 
@@ -45,10 +45,10 @@ tab = 9
 pub record Sample : Type 0 where
   pub text : List ℕ
   pub sizes : ListRooms ℕ
-  pub answer : Answer
+  pub answer : Reply
 
 -- with rooms that are long enough
-abbrev sample : List (List ℕ) → Answer → Sample
+abbrev sample : List (List ℕ) → Reply → Sample
 sample ls a = record { text = joined ls; sizes = roomsForAll; answer = a }
 
 abbrev shownSheet : List (List ℕ)

@@ -13,7 +13,7 @@ use Rattle.sheet.specs.Questions.{isSpan, isStretch, isCount}
 use Rattle.sheet.specs.declared.Sheet.{Sheet}
 use Rattle.read_line.specs.declared.Line.{Line}
 use Rattle.read_line.specs.declared.Line.the-variants as Line
-use Rattle.read_ask.specs.Reading.{sheetIn, passQuestions, Answer, concluded}
+use Rattle.read_ask.specs.Reading.{sheetIn, passQuestions, Reply, concluded}
 use Rattle.read_ask.specs.declared.Step.{Step}
 use Rattle.read_ask.specs.declared.Step.the-variants.{No, On}
 use Rattle.read_ask.specs.declared.Reading.{Reading}
@@ -74,8 +74,8 @@ keptBy (On s) array at xs = sets array at xs
 
 -- ---- the pass over the text: all questions but 1 and 12, and what the arrays then hold
 
-unfoldable pub passAnswer : List ℕ → Answer
-passAnswer text = concluded (firstNo (passQuestions text)) (sheetIn text)
+unfoldable pub passReply : List ℕ → Reply
+passReply text = concluded (firstNo (passQuestions text)) (sheetIn text)
 
 -- of a sheet that was read: its numbers stand at the front of the arrays
 pub record KeptNumbers (s : Sheet) (text units units′ rules rules′ : List ℕ) : Type 0 where

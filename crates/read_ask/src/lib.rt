@@ -4,8 +4,8 @@ ghost use Prim.Native.Nat.{_*_, _≤_};
 ghost use lib.ListN.{length};
 ghost use Rattle.sheet.specs.Sizes.{maxUnits, maxRules};
 ghost use Rattle.sheet.specs.Questions.{isStretch, isCount};
-ghost use Rattle.read_ask.specs.Reading.{answerOf};
-ghost use Rattle.read_ask.specs.Steps.{stepOf, unitPart, rulePart, keptBy, passAnswer, Kept};
+ghost use Rattle.read_ask.specs.Reading.{replyOf};
+ghost use Rattle.read_ask.specs.Steps.{stepOf, unitPart, rulePart, keptBy, passReply, Kept};
 use questions::Refusal;
 use read_line::Line;
 use sheet::Sheet;
@@ -129,7 +129,7 @@ fn line_step(s: Sheet, line: Line, units: &mut [u16], rules: &mut [u16]) -> Step
 // The pass over the text: every question but 1 and 12. The numbers of units and rules go into the arrays.
 pub fn ask_text(text: &[u8], units: &mut [u16], rules: &mut [u16]) -> Reading
     requires { ⌜ (2 * maxUnits ≤ length (now units)) × (4 * maxRules ≤ length (now rules)) ⌝ }
-    ensures { λ r. ⌜ answerOf r ≡ passAnswer (now (text .entry)) ⌝ }
+    ensures { λ r. ⌜ replyOf r ≡ passReply (now (text .entry)) ⌝ }
     ensures { λ r. ⌜ Kept r (now (text .entry)) (now (units .entry)) (now (units .exit)) (now (rules .entry)) (now (rules .exit)) ⌝ }
 {
     let grid = read_form::grid_table();

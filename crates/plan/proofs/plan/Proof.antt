@@ -6,6 +6,7 @@ use Rattle.sheet.specs.Lists.{Lists, listed}
 use Rattle.plan_ask.specs.Questions.{Rooms, lent}
 use Rattle.plan_ask.specs.Asking.{lengthsOf, askedFirst}
 use Rattle.plan_ask.specs.declared.Lengths.{Lengths}
+use Rattle.plan_solve.specs.Reply.{replyOf}
 use Rattle.plan.specs.EntryLaws.{entry-refused, entry-solvable, entry-solved}
 use Rattle.plan.proofs.plan.Statement.{statement}
 use Rattle.plan.proofs.plan.Tie as tie
@@ -51,7 +52,7 @@ returns-2 c =
     let r = c .before .before .before .before .before .before .before .before .before in
     let p : tie.After-enum-told = r .before .before .before .before .before .before in
     let s = start (p .before .before) in
-    entry-solved (lists s) (before s) (answered p) (r .solve .result) _ (r .solve .ensures)
+    entry-solved (lists s) (before s) (answered p) (replyOf (r .solve .result)) _ (r .solve .ensures)
 
 pub plan-spec : {M : Type 1} → statement M
 plan-spec = tie.close (tie.spec (λ c κs. search needs) (λ c κs. search needs) (λ c. search needs) (λ c. search needs) solve-requires

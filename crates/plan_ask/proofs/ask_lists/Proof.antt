@@ -10,7 +10,7 @@ use borrow.Author.Needs.{needs}
 use borrow.Author.Tests.{le-leb, lt-leb}
 use Rattle.questions.specs.Questions.{Verdict, firstNo}
 use Rattle.questions.specs.FirstNoLaws.{no-here, yes-here, every-yes}
-use Rattle.sheet.specs.Sizes.{maxSlots}
+use Rattle.sheet.specs.Sizes.{maxSlots, maxUnits}
 use Rattle.sheet.specs.QuestionLaws.{Agree}
 use Rattle.sheet.specs.Lists.{Lists, listed, given, agree}
 use Rattle.plan_ask.specs.Asking.{fitLengths, lengthsFit, askedFirst}
@@ -56,7 +56,8 @@ past-span c = past-lists (c .before .before) ∙ yes-here _ 6 0 _ (asks-span (li
 past-units : (c : tie.Else3) → left 0 (s₂ (c .before)) ≡ left 3 (s₂ (c .before))
 past-units c =
     let p = c .before in
-    past-span p ∙ yes-here _ 9 0 _ (asks-units (lists (s₂ p)) (agreed (p .before .before)) ∙ le-leb _ _ (c .if3 .left))
+    let few = le-leb (length (lists (s₂ p) .first)) maxUnits (omega (arith, c .if3 .left)) in
+    past-span p ∙ yes-here _ 9 0 _ (asks-units (lists (s₂ p)) (agreed (p .before .before)) ∙ few)
 
 past-rules : (c : tie.Else4) → left 0 (s₄ c) ≡ left 4 (s₄ c)
 past-rules c =

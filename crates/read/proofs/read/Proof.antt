@@ -6,8 +6,8 @@ use lib.Dec.{lit≤}
 use lib.ListN.{length, replicate}
 use borrow.Author.Tests.{not-true, not-false}
 use Rattle.sheet.specs.Sizes.{maxUnits, maxRules, maxBytes}
-use Rattle.read_ask.specs.Reading.{rooms, listsFit, read, answerOf}
-use Rattle.read_ask.specs.Steps.{passAnswer, Kept, KeptNumbers}
+use Rattle.read_ask.specs.Reading.{rooms, listsFit, read, replyOf}
+use Rattle.read_ask.specs.Steps.{passReply, Kept, KeptNumbers}
 use Rattle.read.specs.Rooms.{sizesOf}
 use Rattle.read_ask.specs.declared.Reading.{Reading}
 use Rattle.read.proofs.ReadingLaws.{answer-long, answer-no, answer-rooms, answer-read, rooms-kept, fills, rooms-filled}
@@ -36,8 +36,8 @@ short c = c .if1 .left
 
 -- of a sheet that the pass found: its numbers, and what the arrays hold
 answered : (c : tie.After-known-told2) → let s = c .before .asked2 .given .0 .0 in
-    read (s .span) (s .units) (s .rules) ≡ passAnswer (start (told-short c) .args .text .now)
-answered c = sym (ap answerOf (c .before .asked2 .given .1)) ∙ c .before .before .before .before .before .ask-text .ensures .0
+    read (s .span) (s .units) (s .rules) ≡ passReply (start (told-short c) .args .text .now)
+answered c = sym (ap replyOf (c .before .asked2 .given .1)) ∙ c .before .before .before .before .before .ask-text .ensures .0
 
 kept : (c : tie.After-known-told2) → let k = c .before .before .before .before .before .ask-text in
     KeptNumbers (c .before .asked2 .given .0 .0) (start (told-short c) .args .text .now) (replicate (2 * maxUnits) 0) (k .last .1 .0)
@@ -77,7 +77,7 @@ returns-3 c =
     let a = start (c .before .before .before .before .before .before .before .before) .args in
     let m = rooms (a .first .now) (a .last .now) (a .from .now) (a .to .now) (a .low .now) (a .high .now) in
     let e = answer-no (a .text .now) (sizesOf m) (short (c .before .before .before .before .before .before .before .before)) _ _
-    (sym (ap answerOf (c .before .asked .given .1)) ∙ c .before .before .before .before .before .ask-text .ensures .0) in
+    (sym (ap replyOf (c .before .asked .given .1)) ∙ c .before .before .before .before .before .ask-text .ensures .0) in
     (e, rooms-kept (a .text .now) m _ _ e)
 
 returns-4 : tie.Need-returns-4

@@ -6,7 +6,7 @@ use native.Mathlib.Omega.{arith}
 use lib.ListN.{length}
 use Rattle.sheet.specs.declared.Sheet.{Sheet}
 use Rattle.read_ask.specs.Reading.{refused}
-use Rattle.read_ask.specs.Steps.{passAnswer, keptBy, unitPart, rulePart}
+use Rattle.read_ask.specs.Steps.{passReply, keptBy, unitPart, rulePart}
 use Rattle.read_ask.specs.declared.Step.{Step}
 use Rattle.read_ask.specs.declared.Step.the-variants.{No, On}
 use Rattle.read_ask.proofs.ReadLaws.{Asking, asking-start, asking-no, asking-on, asking-none, asking-sheet}
@@ -48,7 +48,7 @@ line-step-requires c κs =
 
 -- what the line's step means, where it was made
 refuses : (c : tie.After-slice-known4 Inv-loop μ-loop) (q : ℕ) → c .before .before .before .before .line-step .result ≡ No q
-    → refused q (at-head c .loop .n) ≡ passAnswer (start (at-head c) .args .text .now)
+    → refused q (at-head c .loop .n) ≡ passReply (start (at-head c) .args .text .now)
 refuses c q e =
     let l = at-head c .loop in
     let f = c .before .before .before .before .before .before .before .line-at in

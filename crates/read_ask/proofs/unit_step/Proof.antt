@@ -5,6 +5,7 @@ use mathlib.Core.Bool.{true}
 use native.Mathlib.Omega.{arith}
 use lib.ListN.{length-set}
 use borrow.Author.Tests.{not-true, not-false, eq-eqb, ne-eqb, lt-ltb, le-ltb}
+use Rattle.sheet.specs.Sizes.{maxUnits}
 use Rattle.sheet.specs.Questions.{isStretch}
 use Rattle.read_ask.specs.Steps.{stepOf}
 use Rattle.read_ask.proofs.StepLaws.{two-set}
@@ -19,7 +20,7 @@ returns-3 : tie.Need-returns-3
 unfolding stepOf
 returns-3 c =
     let a = c .before .before .before .before .before .before .args in (
-      simp (ne-eqb _ _ (c .before .before .before .if1 .left), stretch (c .before), lt-ltb _ _ (c .if3 .taken)),
+      simp (ne-eqb _ _ (c .before .before .before .if1 .left), stretch (c .before), lt-ltb (a .s .units) maxUnits (omega (arith, c .if3 .taken))),
       two-set (a .units .now) (2 * a .s .units) (a .first) (a .last),
     )
 
