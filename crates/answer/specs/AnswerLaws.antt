@@ -14,10 +14,9 @@ use Rattle.lists.specs.Members.{within-iff}
 use Rattle.network.specs.Table.{Passed, finished, stopped, outOfRange}
 use Rattle.sheet.specs.Sheet.{Sheet, isRing}
 use Rattle.sheet.specs.declared.Sheet.{Sheet as Read}
-use Rattle.questions.specs.Questions.{Verdict, no, allYes, firstNo, refusalBy}
-use Rattle.questions.specs.declared.Refusal.{Refusal}
+use Rattle.questions.specs.Questions.{Verdict, no, allYes, firstNo}
 use Rattle.sheet.specs.Sizes.{maxBytes}
-use Rattle.read_ask.specs.Reading.{ListRooms, roomsForAll, Answer, refused, read, reading, questions, concluded, sheetIn}
+use Rattle.read_ask.specs.Reading.{ListRooms, roomsForAll, refused, read, reading, questions, concluded, sheetIn}
 use Rattle.read_ask.specs.AcceptedLaws.{reading-accepts}
 use Rattle.read_ask.specs.RefusalLaws.{reading-refusals}
 use Rattle.read.specs.Rooms.{sizesOf, leaves, roomsAfter}
@@ -26,17 +25,16 @@ use Rattle.plan_ask.specs.Questions.{Rooms as Lent, passed}
 use Rattle.plan_solve.specs.Planning.{byPass, Settled}
 use Rattle.plan_ask.specs.Asking.{Solvable}
 use Rattle.plan.specs.EntryLaws.{concludes-solvable}
-use Rattle.plan_solve.specs.declared.Answer.{Answer as Planned}
+use Rattle.plan_solve.specs.Reply as planning
 use Rattle.forms.specs.Words.{text}
 use Rattle.forms.specs.Forms.{refusedForm}
 use Rattle.forms.specs.DecimalLaws.{line-short}
 use Rattle.print_bytes.specs.Writing.{withBytes, Written, refusedLine}
 use Rattle.print_page.specs.Page.{maxPage}
 use Rattle.print_page.specs.PageBounds.{plan-short, none-short}
-use Rattle.print.specs.Printing.{planBytes, ringBytes, holds, placeAfter, Asked, Shown, Printing}
+use Rattle.print.specs.Printing.{planBytes, ringBytes, holds, Asked, Shown, Printing}
 use Rattle.print.specs.OwnLaws.{ownRooms, own-fit}
-use Rattle.print.specs.declared.Printed.{Printed}
-use Rattle.print.specs.declared.Printed.the-variants.{Refused, Plan, None}
+use Rattle.print.specs.Reply as says
 use Rattle.answer.specs.Answer.{maxRefusal, ByPass, AnswerToSheet, ByReading, AnswerTo, Answered}
 use Rattle.answer.specs.Fronts.{fronts, Held}
 use Rattle.answer.specs.FrontsLaws.{held, front-sheet}
@@ -53,34 +51,34 @@ held-solvable t m h = record { lists = h .lists; sheet = h .sheet; rooms = own-f
 -- ---- what printing a sheet comes to, where every question before the pass is answered yes and the page is long enough
 
 module _ (l : Lists) (before : Lent) (y : Solvable l before) (page : List ℕ) (long : maxPage ≤ length page)
-    (reply : Printed) (after : Lent) (left : List ℕ) (call : Printing l before page 0 reply after left) where
+    (reply : says.Reply) (after : Lent) (left : List ℕ) (call : Printing l before page 0 reply after left) where
   abbrev s : Sheet
   s = given l
 
   abbrev Ended : Passed → Type 0
-  Ended (finished t) = (reply ≡ Plan (0 + length (planBytes s))) × (left ≡ withBytes page 0 (planBytes s))
+  Ended (finished t) = (reply ≡ says.plan (0 + length (planBytes s))) × (left ≡ withBytes page 0 (planBytes s))
   Ended stopped =
-      (ring : List ℕ) × T (isRing s ring) × (reply ≡ None (length ring) (0 + length (ringBytes s ring))) × (left ≡ withBytes page 0 (ringBytes s ring))
-  Ended outOfRange = (reply ≡ Refused (refusalBy 14 0)) × (left ≡ page)
+      (ring : List ℕ) × T (isRing s ring) × (reply ≡ says.none (length ring) (0 + length (ringBytes s ring))) × (left ≡ withBytes page 0 (ringBytes s ring))
+  Ended outOfRange = (reply ≡ says.refused 14 0) × (left ≡ page)
 
-  page-holds : (says : ℕ → Printed) (bytes : List ℕ) (planned : Lent) → length bytes ≤ maxPage
-      → Asked (holds page 0 bytes) says bytes before planned page 0 reply after left → (reply ≡ says (0 + length bytes)) × (left ≡ withBytes page 0 bytes)
-  page-holds says bytes planned short o =
-      let f : Asked true says bytes before planned page 0 reply after left =
-      subst (λ b. Asked b says bytes before planned page 0 reply after left) (le-leb (0 + length bytes) (length page) (omega arith)) o in
+  page-holds : (told : ℕ → says.Reply) (bytes : List ℕ) (planned : Lent) → length bytes ≤ maxPage
+      → Asked (holds page 0 bytes) told bytes before planned page 0 reply after left → (reply ≡ told (0 + length bytes)) × (left ≡ withBytes page 0 bytes)
+  page-holds told bytes planned short o =
+      let f : Asked true told bytes before planned page 0 reply after left =
+      subst (λ b. Asked b told bytes before planned page 0 reply after left) (le-leb (0 + length bytes) (length page) (omega arith)) o in
       (f .replied, f .shown)
 
-  ended : (p : Passed) (a : Planned) (planned : Lent) → Settled (byPass p) s before a planned → Shown a s before planned page 0 reply after left → Ended p
+  ended : (p : Passed) (a : planning.Reply) (planned : Lent) → Settled (byPass p) s before a planned → Shown a s before planned page 0 reply after left → Ended p
   unfolding planBytes ringBytes
   ended (finished t) a planned c o =
-      page-holds Plan (planBytes s) planned (plan-short s (y .sheet)) (subst (λ x. Shown x s before planned page 0 reply after left) (c .0) o)
+      page-holds says.plan (planBytes s) planned (plan-short s (y .sheet)) (subst (λ x. Shown x s before planned page 0 reply after left) (c .0) o)
   ended stopped a planned c o =
       let ring = c .0 in
       let found : take (length ring) (planned .ring) ≡ ring =
       ap (λ (r : Lent). take (length ring) (r .ring)) (c .3) ∙ take-at ring (drop (length ring) (before .ring)) (length ring) refl in
       let shown = subst (λ x. Shown x s before planned page 0 reply after left) (c .2) o in
-      let p = page-holds (None (length ring)) (ringBytes s ring) planned (none-short s (y .sheet) ring (c .1))
-      (subst (λ r. Asked (holds page 0 (ringBytes s r)) (None (length ring)) (ringBytes s r) before planned page 0 reply after left) found shown) in
+      let p = page-holds (says.none (length ring)) (ringBytes s ring) planned (none-short s (y .sheet) ring (c .1))
+      (subst (λ r. Asked (holds page 0 (ringBytes s r)) (says.none (length ring)) (ringBytes s r) before planned page 0 reply after left) found shown) in
       (ring, c .1, p .0, p .1)
   ended outOfRange a planned c o =
       let shown = subst (λ x. Shown x s before planned page 0 reply after left) (c .0) o in
@@ -92,30 +90,38 @@ module _ (l : Lists) (before : Lent) (y : Solvable l before) (page : List ℕ) (
       (subst (λ v. Settled v s before (call .answer) (call .planned)) (concludes-solvable l before y) (call .call)) (call .shown)
 
   -- a refusal is by 14, leaves the page, and its line is the answer
-  pub print-refused : (f : Refusal) → reply ≡ Refused f → (f ≡ refusalBy 14 0) × (left ≡ page) × AnswerToSheet s (refusedLine (f .number) (f .line))
-  print-refused f e = go (passed s) ends
+  pub print-refused : (q n : ℕ) → reply ≡ says.refused q n → (q ≡ 14) × (n ≡ 0) × (left ≡ page) × AnswerToSheet s (refusedLine q n)
+  print-refused q n e = go (passed s) ends
     where
-      go : (p : Passed) → Ended p → (f ≡ refusalBy 14 0) × (left ≡ page) × ByPass p s (refusedLine (f .number) (f .line))
-      go (finished t) h = let q : reply ≡ Plan (0 + length (planBytes s)) = h .0 in let z : _≡_ {A = ℕ} 0 1 = cc in absurd (omega arith)
-      go stopped h = let q : reply ≡ None (length (h .0)) (0 + length (ringBytes s (h .0))) = h .2 in let z : _≡_ {A = ℕ} 0 1 = cc in absurd (omega arith)
+      go : (p : Passed) → Ended p → (q ≡ 14) × (n ≡ 0) × (left ≡ page) × ByPass p s (refusedLine q n)
+      go (finished t) h = let f : reply ≡ says.plan (0 + length (planBytes s)) = h .0 in let z : _≡_ {A = ℕ} 0 1 = cc in absurd (omega arith)
+      go stopped h = let f : reply ≡ says.none (length (h .0)) (0 + length (ringBytes s (h .0))) = h .2 in let z : _≡_ {A = ℕ} 0 1 = cc in absurd (omega arith)
       go outOfRange h =
-          let q : reply ≡ Refused (refusalBy 14 0) = h .0 in
-          let is14 : f ≡ refusalBy 14 0 = cc in
-          (is14, h .1, ap (λ (g : Refusal). refusedLine (g .number) (g .line)) is14)
+          let f : reply ≡ says.refused 14 0 = h .0 in
+          let number : q ≡ 14 = cc in
+          let line : n ≡ 0 = cc in
+          (number, line, h .1, ap₂ refusedLine number line)
 
   -- else it says the place just past the answer
-  answered : (next : ℕ) (p : Passed) → Ended p → (reply ≡ Refused (refusalBy 14 0) → ⊥) → ((r : Printed) → reply ≡ r → placeAfter 0 r ≡ next) → Answered (ByPass p s) page left next
-  answered next (finished t) h other place =
-      record { bytes = planBytes s; answers = refl; written = record { filled = h .1; moved = sym (place _ (h .0)) } }
-  answered next stopped h other place =
-      record { bytes = ringBytes s (h .0); answers = (h .0, h .1, refl); written = record { filled = h .3; moved = sym (place _ (h .2)) } }
-  answered next outOfRange h other place = absurd (other (h .0))
+  pub print-plan : (next : ℕ) → reply ≡ says.plan next → Answered (AnswerToSheet s) page left next
+  print-plan next e = go (passed s) ends
+    where
+      go : (p : Passed) → Ended p → Answered (ByPass p s) page left next
+      go (finished t) h =
+          let f : reply ≡ says.plan (0 + length (planBytes s)) = h .0 in
+          record { bytes = planBytes s; answers = refl; written = record { filled = h .1; moved = cc } }
+      go stopped h = let f : reply ≡ says.none (length (h .0)) (0 + length (ringBytes s (h .0))) = h .2 in let z : _≡_ {A = ℕ} 0 1 = cc in absurd (omega arith)
+      go outOfRange h = let f : reply ≡ says.refused 14 0 = h .0 in let z : _≡_ {A = ℕ} 0 1 = cc in absurd (omega arith)
 
-  pub print-plan : (next : ℕ) → reply ≡ Plan next → Answered (AnswerToSheet s) page left next
-  print-plan next e = answered next (passed s) ends (λ q. let z : _≡_ {A = ℕ} 0 1 = cc in omega arith) (λ r q. ap (placeAfter 0) (sym q ∙ e))
-
-  pub print-none : (k next : ℕ) → reply ≡ None k next → Answered (AnswerToSheet s) page left next
-  print-none k next e = answered next (passed s) ends (λ q. let z : _≡_ {A = ℕ} 0 1 = cc in omega arith) (λ r q. ap (placeAfter 0) (sym q ∙ e))
+  pub print-none : (k next : ℕ) → reply ≡ says.none k next → Answered (AnswerToSheet s) page left next
+  print-none k next e = go (passed s) ends
+    where
+      go : (p : Passed) → Ended p → Answered (ByPass p s) page left next
+      go (finished t) h = let f : reply ≡ says.plan (0 + length (planBytes s)) = h .0 in let z : _≡_ {A = ℕ} 0 1 = cc in absurd (omega arith)
+      go stopped h =
+          let f : reply ≡ says.none (length (h .0)) (0 + length (ringBytes s (h .0))) = h .2 in
+          record { bytes = ringBytes s (h .0); answers = (h .0, h .1, refl); written = record { filled = h .3; moved = cc } }
+      go outOfRange h = let f : reply ≡ says.refused 14 0 = h .0 in let z : _≡_ {A = ℕ} 0 1 = cc in absurd (omega arith)
 
 -- the refusal's line, onto the page that printing left
 pub refusal-answered : {Answer : List ℕ → Type 0} {page left after : List ℕ} {next : ℕ} (bytes : List ℕ) → Answer bytes → left ≡ page

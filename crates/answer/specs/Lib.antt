@@ -3,3 +3,4 @@ pub mod Fronts
 pub mod FrontsLaws
 pub mod AnswerLaws
 pub mod AnswerConditions
+pub mod FirstBytesLaws

@@ -1,6 +1,6 @@
 -- From planning in arrays of the call's own to what the call leaves.
 -- Key idea: the own arrays say how the pass over the sheet's limits ended, and that alone decides what planning would reply and leave in the rooms lent.
-use mathlib.Core.Path.{_≡_, refl, sym, ap, _∙_, subst}
+use mathlib.Core.Path.{_≡_, refl, sym, ap, ap₂, _∙_, subst}
 use mathlib.Core.Bool.{Bool, true, false}
 use mathlib.Core.List.{List, []}
 use Prim.Native.Nat.{ℕ, _*_, _≤_}
@@ -11,8 +11,7 @@ use lib.Seq.{take-at}
 use lib.IntN.{ℤ}
 use Rattle.network.specs.Table.{Passed, finished, stopped, outOfRange, cleared, entry}
 use Rattle.sheet.specs.Sizes.{boundariesOf}
-use Rattle.questions.specs.Questions.{no, allYes, firstNo, refusalBy}
-use Rattle.questions.specs.declared.Refusal.{Refusal}
+use Rattle.questions.specs.Questions.{no, allYes, firstNo}
 use Rattle.sheet.specs.Sheet.{Sheet, printedPlan, earliestSlots, latestSlots, isRing}
 use Rattle.limits.specs.LimitTable.{limitTable}
 use Rattle.sheet.specs.Questions.{accepted}
@@ -21,63 +20,61 @@ use Rattle.plan_ask.specs.Asking.{lengthsOf, askedFirst}
 use Rattle.sheet.specs.Lists.{Lists, given}
 use Rattle.plan_ask.specs.Questions.{Rooms, lent, places, passed}
 use Rattle.plan_solve.specs.Planning.{planned, ringed, refused, byPass, Settled}
-use Rattle.plan_solve.specs.declared.Answer.{Answer}
-use Rattle.plan_solve.specs.declared.Answer.the-variants as planning
+use Rattle.plan_solve.specs.Reply as planning
 use Rattle.print_page.specs.Page.{tablePage, nonePage}
 use Rattle.print.specs.Printing.{ringBytes, holds, Asked, PrintingOf, Printing}
 use Rattle.lists.specs.Lists.{onFront}
 use Rattle.print.specs.BytesLaws.{boundaries-span, table-size, seats-size, firsts-size, lasts-size, plan-bytes, ring-bytes}
-use Rattle.print.specs.declared.Printed.{Printed}
-use Rattle.print.specs.declared.Printed.the-variants.{Refused, Plan, None}
+use Rattle.print.specs.Reply as says
 
 -- ---- how the pass ended, from what planning replied
 -- two of its replies are never the same
-differ : {a b : Answer} → a ≡ b → {A : Type 0} → ((a ≡ b) → _≡_ {A = ℕ} 0 1) → A
+differ : {a b : planning.Reply} → a ≡ b → {A : Type 0} → ((a ≡ b) → _≡_ {A = ℕ} 0 1) → A
 differ e f = absurd (let z = f e in omega arith)
 
 module _ (s : Sheet) (own after : Rooms) where
-  pub refused-left : (f : Refusal) → Settled (byPass (passed s)) s own (planning.Refused f) after → (f ≡ refusalBy 14 0) × (passed s ≡ outOfRange)
-  refused-left f = go (passed s)
+  pub refused-left : (q n : ℕ) → Settled (byPass (passed s)) s own (planning.refused q n) after → (q ≡ 14) × (n ≡ 0) × (passed s ≡ outOfRange)
+  refused-left q n = go (passed s)
     where
-      go : (p : Passed) → Settled (byPass p) s own (planning.Refused f) after → (f ≡ refusalBy 14 0) × (p ≡ outOfRange)
+      go : (p : Passed) → Settled (byPass p) s own (planning.refused q n) after → (q ≡ 14) × (n ≡ 0) × (p ≡ outOfRange)
       go (finished t) h = differ (h .0) (λ e. cc)
       go stopped h = differ (h .2) (λ e. cc)
-      go outOfRange h = let e : planning.Refused f ≡ planning.Refused (refusalBy 14 0) = h .0 in (cc, refl)
+      go outOfRange h = let e : planning.refused q n ≡ planning.refused 14 0 = h .0 in (cc, cc, refl)
 
-  pub plan-left : Settled (byPass (passed s)) s own planning.Plan after → (t : List ℤ) × (passed s ≡ finished t) × (after ≡ planned s t own)
+  pub plan-left : Settled (byPass (passed s)) s own planning.plan after → (t : List ℤ) × (passed s ≡ finished t) × (after ≡ planned s t own)
   plan-left = go (passed s)
     where
-      go : (p : Passed) → Settled (byPass p) s own planning.Plan after → (t : List ℤ) × (p ≡ finished t) × (after ≡ planned s t own)
+      go : (p : Passed) → Settled (byPass p) s own planning.plan after → (t : List ℤ) × (p ≡ finished t) × (after ≡ planned s t own)
       go (finished t) h = (t, refl, h .1)
       go stopped h = differ (h .2) (λ e. cc)
       go outOfRange h = differ (h .0) (λ e. cc)
 
-  pub none-left : (k : ℕ) → Settled (byPass (passed s)) s own (planning.None k) after
+  pub none-left : (k : ℕ) → Settled (byPass (passed s)) s own (planning.none k) after
       → (c : List ℕ) × T (isRing s c) × (k ≡ length c) × (passed s ≡ stopped) × (after ≡ ringed s c own)
   none-left k = go (passed s)
     where
-      go : (p : Passed) → Settled (byPass p) s own (planning.None k) after
+      go : (p : Passed) → Settled (byPass p) s own (planning.none k) after
           → (c : List ℕ) × T (isRing s c) × (k ≡ length c) × (p ≡ stopped) × (after ≡ ringed s c own)
       go (finished t) h = differ (h .0) (λ e. cc)
-      go stopped h = let e : planning.None k ≡ planning.None (length (h .0)) = h .2 in (h .0, h .1, cc, refl, h .3)
+      go stopped h = let e : planning.none k ≡ planning.none (length (h .0)) = h .2 in (h .0, h .1, cc, refl, h .3)
       go outOfRange h = differ (h .0) (λ e. cc)
 
 -- ---- rooms that a part of the call does not see
-with-ring : (b : Bool) (says : ℕ → Printed) (bytes : List ℕ) (t t₁ t₂ : List ℤ) (p p₁ p₂ e e₁ e₂ l l₁ l₂ ring page : List ℕ) (at : ℕ)
-    (reply : Printed) (left : List ℕ)
-    → Asked b says bytes (lent t p e l []) (lent t₁ p₁ e₁ l₁ []) page at reply (lent t₂ p₂ e₂ l₂ []) left
-    → Asked b says bytes (lent t p e l ring) (lent t₁ p₁ e₁ l₁ ring) page at reply (lent t₂ p₂ e₂ l₂ ring) left
-with-ring true says bytes t t₁ t₂ p p₁ p₂ e e₁ e₂ l l₁ l₂ ring page at reply left o =
+with-ring : (b : Bool) (told : ℕ → says.Reply) (bytes : List ℕ) (t t₁ t₂ : List ℤ) (p p₁ p₂ e e₁ e₂ l l₁ l₂ ring page : List ℕ) (at : ℕ)
+    (reply : says.Reply) (left : List ℕ)
+    → Asked b told bytes (lent t p e l []) (lent t₁ p₁ e₁ l₁ []) page at reply (lent t₂ p₂ e₂ l₂ []) left
+    → Asked b told bytes (lent t p e l ring) (lent t₁ p₁ e₁ l₁ ring) page at reply (lent t₂ p₂ e₂ l₂ ring) left
+with-ring true told bytes t t₁ t₂ p p₁ p₂ e e₁ e₂ l l₁ l₂ ring page at reply left o =
     record { replied = o .replied; lent = ap (λ r. lent (r .table) (r .plan) (r .earliest) (r .latest) ring) (o .lent); shown = o .shown }
-with-ring false says bytes t t₁ t₂ p p₁ p₂ e e₁ e₂ l l₁ l₂ ring page at reply left o =
+with-ring false told bytes t t₁ t₂ p p₁ p₂ e e₁ e₂ l l₁ l₂ ring page at reply left o =
     record { replied = o .replied; lent = ap (λ r. lent (r .table) (r .plan) (r .earliest) (r .latest) ring) (o .lent); shown = o .shown }
 
-with-plan : (b : Bool) (says : ℕ → Printed) (bytes : List ℕ) (t t₁ t₂ : List ℤ) (p e l r r₁ r₂ page : List ℕ) (at : ℕ) (reply : Printed) (left : List ℕ)
-    → Asked b says bytes (lent t [] [] [] r) (lent t₁ [] [] [] r₁) page at reply (lent t₂ [] [] [] r₂) left
-    → Asked b says bytes (lent t p e l r) (lent t₁ p e l r₁) page at reply (lent t₂ p e l r₂) left
-with-plan true says bytes t t₁ t₂ p e l r r₁ r₂ page at reply left o =
+with-plan : (b : Bool) (told : ℕ → says.Reply) (bytes : List ℕ) (t t₁ t₂ : List ℤ) (p e l r r₁ r₂ page : List ℕ) (at : ℕ) (reply : says.Reply) (left : List ℕ)
+    → Asked b told bytes (lent t [] [] [] r) (lent t₁ [] [] [] r₁) page at reply (lent t₂ [] [] [] r₂) left
+    → Asked b told bytes (lent t p e l r) (lent t₁ p e l r₁) page at reply (lent t₂ p e l r₂) left
+with-plan true told bytes t t₁ t₂ p e l r r₁ r₂ page at reply left o =
     record { replied = o .replied; lent = ap (λ q. lent (q .table) p e l (q .ring)) (o .lent); shown = o .shown }
-with-plan false says bytes t t₁ t₂ p e l r r₁ r₂ page at reply left o =
+with-plan false told bytes t t₁ t₂ p e l r r₁ r₂ page at reply left o =
     record { replied = o .replied; lent = ap (λ q. lent (q .table) p e l (q .ring)) (o .lent); shown = o .shown }
 
 -- ---- what the call leaves
@@ -86,24 +83,24 @@ module _ (s : Sheet) (ok : T (accepted s)) (table : List ℤ) (plan earliest lat
   before = lent table plan earliest latest ring
 
   -- a sum out of range: 14
-  pub range-printed : (f : Refusal) (table′ : List ℤ) (w : ℕ) → w ≡ boundariesOf (s .span) → (f ≡ refusalBy 14 0) × (passed s ≡ outOfRange)
-      → table′ ≡ cleared (w * w) table → PrintingOf (byPass (passed s)) s before page at (Refused f) (lent table′ plan earliest latest ring) page
-  range-printed f table′ w e h c = record {
-    answer = planning.Refused (refusalBy 14 0);
+  pub range-printed : (q n : ℕ) (table′ : List ℤ) (w : ℕ) → w ≡ boundariesOf (s .span) → (q ≡ 14) × (n ≡ 0) × (passed s ≡ outOfRange)
+      → table′ ≡ cleared (w * w) table → PrintingOf (byPass (passed s)) s before page at (says.refused q n) (lent table′ plan earliest latest ring) page
+  range-printed q n table′ w e h c = record {
+    answer = planning.refused 14 0;
     planned = refused s 14 before;
-    call = subst (λ p. Settled (byPass p) s before (planning.Refused (refusalBy 14 0)) (refused s 14 before)) (sym (h .1)) (refl, refl);
+    call = subst (λ p. Settled (byPass p) s before (planning.refused 14 0) (refused s 14 before)) (sym (h .2)) (refl, refl);
     shown = record {
-      replied = ap Refused (h .0);
+      replied = ap₂ says.refused (h .0) (h .1);
       lent = ap (λ t. lent t plan earliest latest ring) (c ∙ ap (λ k. cleared (k * k) table) (e ∙ sym (boundaries-span s ok)));
       shown = refl;
     };
   }
 
-  module _ (reply : Printed) (left : List ℕ) where
+  module _ (reply : says.Reply) (left : List ℕ) where
     -- a plan
     pub plan-printed : (t : List ℤ) → passed s ≡ finished t → (table′ : List ℤ) (plan′ earliest′ latest′ : List ℕ)
         → (let bytes = tablePage (s .span) (printedPlan s) (earliestSlots s) (latestSlots s) t in
-        Asked (holds page at bytes) Plan bytes (lent table plan earliest latest [])
+        Asked (holds page at bytes) says.plan bytes (lent table plan earliest latest [])
         (lent (onFront t table) (onFront (printedPlan s) plan) (onFront (earliestSlots s) earliest) (onFront (latestSlots s) latest) [])
         page at reply (lent table′ plan′ earliest′ latest′ []) left)
         → PrintingOf (byPass (passed s)) s before page at reply (lent table′ plan′ earliest′ latest′ ring) left
@@ -114,14 +111,14 @@ module _ (s : Sheet) (ok : T (accepted s)) (table : List ℤ) (plan earliest lat
         rw (table-size s ok t e, seats-size s ok t e, firsts-size s ok t e, lasts-size s ok t e) refl in
         let bytes = tablePage (s .span) (printedPlan s) (earliestSlots s) (latestSlots s) t in
         record {
-          answer = planning.Plan;
+          answer = planning.plan;
           planned = planned s t before;
-          call = subst (λ p. Settled (byPass p) s before planning.Plan (planned s t before)) (sym e) (refl, refl);
+          call = subst (λ p. Settled (byPass p) s before planning.plan (planned s t before)) (sym e) (refl, refl);
           shown =
-              subst (λ bs. Asked (holds page at bs) Plan bs before (planned s t before) page at reply (lent table′ plan′ earliest′ latest′ ring) left)
+              subst (λ bs. Asked (holds page at bs) says.plan bs before (planned s t before) page at reply (lent table′ plan′ earliest′ latest′ ring) left)
               (plan-bytes s ok t e)
-              (subst (λ r. Asked (holds page at bytes) Plan bytes before r page at reply (lent table′ plan′ earliest′ latest′ ring) left) rooms
-              (with-ring (holds page at bytes) Plan bytes table (onFront t table) table′ plan (onFront (printedPlan s) plan) plan′ earliest
+              (subst (λ r. Asked (holds page at bytes) says.plan bytes before r page at reply (lent table′ plan′ earliest′ latest′ ring) left) rooms
+              (with-ring (holds page at bytes) says.plan bytes table (onFront t table) table′ plan (onFront (printedPlan s) plan) plan′ earliest
               (onFront (earliestSlots s) earliest) earliest′ latest (onFront (latestSlots s) latest) latest′ ring page at reply left o));
         }
 
@@ -129,7 +126,7 @@ module _ (s : Sheet) (ok : T (accepted s)) (table : List ℤ) (plan earliest lat
     pub ring-printed : (c : List ℕ) (h : T (isRing s c)) → passed s ≡ stopped → (w : ℕ) → w ≡ boundariesOf (s .span) → (room : List ℤ) → places s ≤ length room
         → (table′ : List ℤ) (ring′ : List ℕ)
         → (let bytes = nonePage (entry w (limitTable s room)) c in
-        Asked (holds page at bytes) (None (length c)) bytes (lent table [] [] [] ring) (lent (cleared (w * w) table) [] [] [] (onFront c ring)) page at reply
+        Asked (holds page at bytes) (says.none (length c)) bytes (lent table [] [] [] ring) (lent (cleared (w * w) table) [] [] [] (onFront c ring)) page at reply
         (lent table′ [] [] [] ring′) left)
         → PrintingOf (byPass (passed s)) s before page at reply (lent table′ plan earliest latest ring′) left
     ring-printed c h e w sw room fits table′ ring′ o =
@@ -140,30 +137,30 @@ module _ (s : Sheet) (ok : T (accepted s)) (table : List ℤ) (plan earliest lat
         let same : bytes ≡ ringBytes s (take (length c) (ringed s c before .ring)) =
         ap (λ k. nonePage (entry k (limitTable s room)) c) sw ∙ ring-bytes s ok c h room fits ∙ ap (ringBytes s) (sym found) in
         record {
-          answer = planning.None (length c);
+          answer = planning.none (length c);
           planned = ringed s c before;
-          call = subst (λ p. Settled (byPass p) s before (planning.None (length c)) (ringed s c before)) (sym e) (c, h, refl, refl);
+          call = subst (λ p. Settled (byPass p) s before (planning.none (length c)) (ringed s c before)) (sym e) (c, h, refl, refl);
           shown =
-              subst (λ bs. Asked (holds page at bs) (None (length c)) bs before (ringed s c before) page at reply (lent table′ plan earliest latest ring′) left)
+              subst (λ bs. Asked (holds page at bs) (says.none (length c)) bs before (ringed s c before) page at reply (lent table′ plan earliest latest ring′) left)
               same
-              (subst (λ r. Asked (holds page at bytes) (None (length c)) bytes before r page at reply (lent table′ plan earliest latest ring′) left) rooms
-              (with-plan (holds page at bytes) (None (length c)) bytes table (cleared (w * w) table) table′ plan earliest latest ring (onFront c ring) ring′
+              (subst (λ r. Asked (holds page at bytes) (says.none (length c)) bytes before r page at reply (lent table′ plan earliest latest ring′) left) rooms
+              (with-plan (holds page at bytes) (says.none (length c)) bytes table (cleared (w * w) table) table′ plan earliest latest ring (onFront c ring) ring′
               page at reply left o));
         }
 
 -- ---- the questions before the pass
 module _ (l : Lists) (before : Rooms) (page : List ℕ) (at : ℕ) where
   -- one of them is answered no: nothing is changed
-  pub refused-printed : (q n : ℕ) → no q n ≡ firstNo (askedFirst l (lengthsOf before)) → Printing l before page at (Refused (refusalBy q n)) before page
+  pub refused-printed : (q n : ℕ) → no q n ≡ firstNo (askedFirst l (lengthsOf before)) → Printing l before page at (says.refused q n) before page
   refused-printed q n h = record {
-    answer = planning.Refused (refusalBy q n);
+    answer = planning.refused q n;
     planned = before;
     call = entry-refused l before q n h;
     shown = record { replied = refl; lent = refl; shown = refl };
   }
 
   -- all are answered yes: the pass decides
-  pub solved-printed : allYes ≡ firstNo (askedFirst l (lengthsOf before)) → (reply : Printed) (after : Rooms) (left : List ℕ)
+  pub solved-printed : allYes ≡ firstNo (askedFirst l (lengthsOf before)) → (reply : says.Reply) (after : Rooms) (left : List ℕ)
       → PrintingOf (byPass (passed (given l))) (given l) before page at reply after left → Printing l before page at reply after left
   solved-printed h reply after left p = record {
     answer = p .answer;

@@ -1,6 +1,9 @@
+pub mod Reply
 pub mod Printing
 pub mod PrintingLaws
 pub mod BytesLaws
 pub mod CallLaws
 pub mod OwnLaws
+pub mod Pages
+pub mod PagesLaws
 pub mod PageConditions

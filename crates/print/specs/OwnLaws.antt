@@ -20,20 +20,17 @@ use Rattle.sheet.specs.QuestionLaws.{accepted-sized, listsAgree-read}
 use Rattle.sheet.specs.Lists.{Lists, given}
 use Rattle.plan_ask.specs.Questions.{Rooms, lent, places, roomsFit, passed}
 use Rattle.plan_solve.specs.Planning.{byPass, Settled}
-use Rattle.questions.specs.declared.Refusal.{Refusal}
 use Rattle.plan_ask.specs.Asking.{Solvable}
 use Rattle.plan_ask.specs.AskingLaws.{units-length}
 use Rattle.plan_solve.specs.SolvingLaws.{RoomsHold, rooms-hold}
-use Rattle.plan_solve.specs.declared.Answer.{Answer}
-use Rattle.plan_solve.specs.declared.Answer.the-variants as planning
+use Rattle.plan_solve.specs.Reply as planning
 use Rattle.print_page.specs.PageBounds.{ring-read}
 use Rattle.print_page.specs.Page.{Printable, tablePage, RingFits, nonePage, maxPage, maxRingPage}
 use Rattle.print.specs.Printing.{holds, Asked, PrintingOf}
 use Rattle.lists.specs.Lists.{onFront}
 use Rattle.print.specs.BytesLaws.{places-span, table-size, seats-size, firsts-size, lasts-size, plan-printable, plan-fits, ring-printable, ring-fits}
 use Rattle.print.specs.CallLaws.{refused-left, plan-left, none-left, range-printed, plan-printed, ring-printed}
-use Rattle.print.specs.declared.Printed.{Printed}
-use Rattle.print.specs.declared.Printed.the-variants.{Refused, Plan, None}
+use Rattle.print.specs.Reply as says
 
 -- the arrays as the call makes them
 abbrev pub ownRooms : Rooms
@@ -100,19 +97,19 @@ module _ (l : Lists) (before : Rooms) (S : Solvable l before) (w : ℕ) (w-is : 
   pub cells-lent : w * w ≤ length (before .table)
   cells-lent = omega (arith, lends .table, cells-are)
 
-  module _ (own after : Rooms) (reply : Answer) (ends : Settled (byPass (passed s)) s own reply after) where
-    abbrev Settled-as : Answer → Type 0
+  module _ (own after : Rooms) (reply : planning.Reply) (ends : Settled (byPass (passed s)) s own reply after) where
+    abbrev Settled-as : planning.Reply → Type 0
     Settled-as r = Settled (byPass (passed s)) s own r after
 
     -- ---- a sum out of range
-    pub refused-own : (f : Refusal) → reply ≡ planning.Refused f → (table : List ℤ) → table ≡ cleared (w * w) (before .table) → (page : List ℕ) (at : ℕ)
-        → PrintingOf (byPass (passed s)) s before page at (Refused f) (lent table (before .plan) (before .earliest) (before .latest) (before .ring)) page
-    refused-own f e table c page at =
-        range-printed s (S .sheet) (before .table) (before .plan) (before .earliest) (before .latest) (before .ring) page at f table w
-        w-of (refused-left s own after f (subst Settled-as e ends)) c
+    pub refused-own : (q n : ℕ) → reply ≡ planning.refused q n → (table : List ℤ) → table ≡ cleared (w * w) (before .table) → (page : List ℕ) (at : ℕ)
+        → PrintingOf (byPass (passed s)) s before page at (says.refused q n) (lent table (before .plan) (before .earliest) (before .latest) (before .ring)) page
+    refused-own q n e table c page at =
+        range-printed s (S .sheet) (before .table) (before .plan) (before .earliest) (before .latest) (before .ring) page at q n table w
+        w-of (refused-left s own after q n (subst Settled-as e ends)) c
 
     -- ---- a plan
-    pub plan-own : reply ≡ planning.Plan → (t : List ℤ) × (passed s ≡ finished t) × PlanFronts s w (length (l .first)) t after
+    pub plan-own : reply ≡ planning.plan → (t : List ℤ) × (passed s ≡ finished t) × PlanFronts s w (length (l .first)) t after
     plan-own e =
         let f = plan-left s own after (subst Settled-as e ends) in
         let n = length (l .first) in
@@ -132,7 +129,7 @@ module _ (l : Lists) (before : Rooms) (S : Solvable l before) (w : ℕ) (w-is : 
         )
 
     -- ---- none
-    pub none-own : (k : ℕ) → reply ≡ planning.None k → (c : List ℕ) × T (isRing s c) × (passed s ≡ stopped) × Front k c (after .ring)
+    pub none-own : (k : ℕ) → reply ≡ planning.none k → (c : List ℕ) × T (isRing s c) × (passed s ≡ stopped) × Front k c (after .ring)
     none-own k e =
         let f = none-left s own after k (subst Settled-as e ends) in
         (f .0, f .1, f .3, front k (f .0) (drop (length (f .0)) (own .ring)) (after .ring) (sym (f .2)) (ap (λ r. r .ring) (f .4)))
@@ -171,8 +168,8 @@ module _ (l : Lists) (before : Rooms) (S : Solvable l before) (w : ℕ) (w-is : 
     )
 
     -- and what the call then leaves
-    pub plan-shown : (page : List ℕ) (at : ℕ) (out : Printed) (shown : List ℕ) (table : List ℤ) (plan earliest latest : List ℕ)
-        → Asked (holds page at (tablePage (l .span) seated early late closed)) Plan (tablePage (l .span) seated early late closed)
+    pub plan-shown : (page : List ℕ) (at : ℕ) (out : says.Reply) (shown : List ℕ) (table : List ℤ) (plan earliest latest : List ℕ)
+        → Asked (holds page at (tablePage (l .span) seated early late closed)) says.plan (tablePage (l .span) seated early late closed)
         (lent (before .table) (before .plan) (before .earliest) (before .latest) [])
         (lent (onFront closed (before .table)) (onFront seated (before .plan)) (onFront early (before .earliest)) (onFront late (before .latest)) [])
         page at out (lent table plan earliest latest []) shown
@@ -203,10 +200,10 @@ module _ (l : Lists) (before : Rooms) (S : Solvable l before) (w : ℕ) (w-is : 
       )
 
       pub ring-shown : (limits : List ℤ) → limits ≡ limitTable s cleared-room
-          → (page : List ℕ) (at : ℕ) (out : Printed) (shown : List ℕ) (table : List ℤ) (ring : List ℕ)
+          → (page : List ℕ) (at : ℕ) (out : says.Reply) (shown : List ℕ) (table : List ℤ) (ring : List ℕ)
           → (let found = take k (after .ring) in
           let bytes = nonePage (entry w limits) found in
-          Asked (holds page at bytes) (None (length found)) bytes (lent (before .table) [] [] [] (before .ring))
+          Asked (holds page at bytes) (says.none (length found)) bytes (lent (before .table) [] [] [] (before .ring))
           (lent (cleared (w * w) (before .table)) [] [] [] (onFront found (before .ring))) page at out (lent table [] [] [] ring) shown)
           → PrintingOf (byPass (passed s)) s before page at out (lent table (before .plan) (before .earliest) (before .latest) ring) shown
       ring-shown limits e page at out shown table ring o =

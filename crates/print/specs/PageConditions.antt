@@ -1,185 +1,209 @@
--- What stands on the page after a call of print, in the words of lawful plans and of the page's own lines.
--- `call` is what the entry `print` ensures of every call: `Printing`, in Printing.antt. With `call .call` the conditions of planning hold of its reply and
--- rooms, `call .answer` and `call .planned`.
+-- The user's three conditions, of printing from lists, in the words of lawful plans, of the rooms and of the page's own lines, all of them.
+-- `call` is what the entry `print` ensures of every call: `Printing`, in Printing.antt. `reply` is what its answer says (`replyOf`, in Reply.antt), `before` and
+-- `after` are the rooms lent, `page` and `left` the page before and after, `at` the running place, `s` the sheet in the lists.
 use mathlib.Core.Path.{_≡_, refl, sym, ap, _∙_, subst}
-use mathlib.Core.Logic.{_⊎_, inl, inr, ⊎-elim}
+use mathlib.Core.Logic.{_⊎_, inl, inr, ⊎-elim, _↔_}
 use mathlib.Core.Bool.{Bool, true, false}
-use mathlib.Core.List.{List, [], _∷_, _++_}
-use Prim.Native.Nat.{ℕ, _+_, _-_, _≤_}
+use mathlib.Core.List.{List}
+use Prim.Native.Nat.{ℕ, _+_, _≤_, _<_}
 use native.Mathlib.Omega.{arith}
-use lib.ListN.{length, getD, take, drop}
-use lib.Seq.{take-at}
+use lib.Dec.{T, eqb}
+use lib.ListN.{length, take}
+use lib.IntN.{ℤ, pos, negℤ}
+use lib.Signed.{_≤ℤ_}
 use borrow.Author.Tests.{leb-true, le-leb}
-use Rattle.lists.specs.Members.{In}
-use Rattle.questions.specs.Questions.{Verdict, no, allYes, refusalBy}
-use Rattle.questions.specs.declared.Refusal.{Refusal}
-use Rattle.sheet.specs.Sheet.{Sheet, limit, leastIn, greatestIn, printedPlan, earliestSlots, latestSlots}
+use Rattle.network.specs.Table.{entry}
+use Rattle.questions.specs.Questions.{no, allYes}
+use Rattle.slots.specs.Slots.{Boundary, slotBefore, slotAfter}
+use Rattle.sheet.specs.Sheet.{Sheet, top, boundaries, lawful, countIn, printedPlan}
 use Rattle.sheet.specs.Lists.{Lists, given}
 use Rattle.plan_ask.specs.Questions.{Rooms, refusal}
-use Rattle.plan_solve.specs.Planning.{conclusion, Settled, refusalOf as planningRefusal}
+use Rattle.plan_solve.specs.Planning.{conclusion, Settled}
 use Rattle.plan_solve.specs.PlanningLaws.{no-refusal}
-use Rattle.plan.specs.ConditionLaws.{call-answered}
-use Rattle.plan.specs.Conditions.{number-is-first-no}
-use Rattle.plan_solve.specs.declared.Answer.{Answer}
-use Rattle.plan_solve.specs.declared.Answer.the-variants as planning
+use Rattle.plan_solve.specs.Reply as planning
+use Rattle.plan.specs.ConditionLaws.{call-planned}
+use Rattle.plan.specs.Conditions as plans
 use Rattle.print_bytes.specs.Writing.{Room, Written}
-use Rattle.print_page.specs.PageLines.{unit, slot, none, shortfall, readLines, answerOn, unitLinesWith, ringSaid}
-use Rattle.print_page.specs.PageLinesLaws.{slot-line-true, unit-line-true, none-read, answer-read}
-use Rattle.print_page.specs.Page.{shortfallOf, maxPage}
+use Rattle.print_page.specs.Page.{maxPage}
 use Rattle.print_page.specs.PageBounds.{plan-short, none-short}
-use Rattle.print.specs.Printing.{planBytes, ringBytes, holds, refusalOf, Asked, Shown, Printing}
-use Rattle.print.specs.declared.Printed.{Printed}
-use Rattle.print.specs.declared.Printed.the-variants.{Refused, Plan, None}
+use Rattle.print_page.specs.PageLines.{readLines, answerOn}
+use Rattle.print_page.specs.PageLinesLaws.{answer-read}
+use Rattle.print.specs.Printing.{planBytes, ringBytes, holds, Asked, Shown, Printing}
+use Rattle.print.specs.Pages.{PlanPage, NonePage}
+use Rattle.print.specs.PagesLaws.{plan-page, none-page}
+use Rattle.print.specs.Reply as says
+use Rattle.print.specs.Reply.{refusalOf}
 
--- an answer that is printed stands on the page, and the rooms are planning's
-pub record Stands (bytes page : List ℕ) (at : ℕ) (left : List ℕ) (next : ℕ) (planned after : Rooms) : Type 0 where
-  pub room : Room page at bytes
-  pub written : Written page at bytes left next
-  pub lent : after ≡ planned
-
-module _ (bytes : List ℕ) (before planned : Rooms) (page : List ℕ) (at : ℕ) (reply : Printed) (after : Rooms) (left : List ℕ) where
-  stands : (says : ℕ → Printed) → ((m k : ℕ) → says m ≡ says k → m ≡ k) → ((n : ℕ) → says n ≡ Refused (refusalBy 15 0) → ⊥) → (next : ℕ) → reply ≡ says next
-      → Asked (holds page at bytes) says bytes before planned page at reply after left → Stands bytes page at left next planned after
-  stands says own other next e o = go (holds page at bytes) refl o
-    where
-      go : (b : Bool) → holds page at bytes ≡ b → Asked b says bytes before planned page at reply after left → Stands bytes page at left next planned after
-      go true h o = record {
-        room = record { fits = leb-true (at + length bytes) (length page) h };
-        written = record { filled = o .shown; moved = own next (at + length bytes) (sym e ∙ o .replied) };
-        lent = o .lent;
-      }
-      go false h o = absurd (other next (sym e ∙ o .replied))
-
-module _ (l : Lists) (before : Rooms) (page : List ℕ) (at : ℕ) (reply : Printed) (after : Rooms) (left : List ℕ)
+module _ (l : Lists) (before : Rooms) (page : List ℕ) (at : ℕ) (reply : says.Reply) (after : Rooms) (left : List ℕ)
     (call : Printing l before page at reply after left) where
   abbrev pub s : Sheet
   s = given l
 
-  -- ---- a plan
-  module _ (next : ℕ) (planned? : reply ≡ Plan next) where
-    not-refused : (f : Refusal) → reply ≡ Refused f → ⊥
-    not-refused f e = let z : _≡_ {A = ℕ} 0 1 = cc in omega arith
+  abbrev n : ℕ
+  n = length (s .units)
 
-    answer-stands : (a : Answer) (planned : Rooms) → Shown a s before planned page at reply after left → Stands (planBytes s) page at left next planned after
-    answer-stands (planning.Refused f) planned o = absurd (not-refused f (o .replied))
-    answer-stands planning.Plan planned o =
-        stands (planBytes s) before planned page at reply after left Plan (λ m j e. cc) (λ n e. let z : _≡_ {A = ℕ} 0 1 = cc in omega arith) next planned? o
-    answer-stands (planning.None k) planned o = absurd (not-ring (holds page at (ringBytes s (take k (planned .ring)))) o)
-      where
-        not-ring : (b : Bool) → Asked b (None k) (ringBytes s (take k (planned .ring))) before planned page at reply after left → ⊥
-        not-ring true o = let z : _≡_ {A = ℕ} 0 1 = cc in omega arith
-        not-ring false o = not-refused (refusalBy 15 0) (o .replied)
+  -- ---- how a call ends
 
-    pub plan-stands : Stands (planBytes s) page at left next (call .planned) after
-    plan-stands = answer-stands (call .answer) (call .planned) (call .shown)
+  -- the page holds the answer: it stands there from the place on, and the rooms are planning's
+  record Held (told : ℕ → says.Reply) (bytes : List ℕ) : Type 0 where
+    replied : reply ≡ told (at + length bytes)
+    room : Room page at bytes
+    written : Written page at bytes left (at + length bytes)
+    lent : after ≡ call .planned
 
-    lines-are : answerOn left at next ≡ readLines (planBytes s)
-    lines-are = answer-read (plan-stands .room) (plan-stands .written)
+  -- refused by planning's questions, a plan, none, or refused by 15
+  data Way : Type 0 where
+    refused : (q n : ℕ) → call .answer ≡ planning.refused q n → reply ≡ says.refused q n → after ≡ call .planned → left ≡ page → Way
+    plan : call .answer ≡ planning.plan → Held says.plan (planBytes s) → Way
+    none : (k : ℕ) → call .answer ≡ planning.none k → Held (says.none k) (ringBytes s (take k (call .planned .ring))) → Way
+    full : refusal l before ≡ allYes → (at + maxPage ≤ length page → ⊥) → reply ≡ says.refused 15 0 → after ≡ before → left ≡ page → Way
 
-    -- On each slot line the count is the number of this answer's unit lines with that slot, and the range is the least and the greatest over lawful plans.
-    pub slot-lines : (t c lo hi : ℕ) → In (slot t c lo hi) (answerOn left at next)
-        → (c ≡ unitLinesWith t (answerOn left at next)) × (lo ≡ leastIn s t t) × (hi ≡ greatestIn s t t)
-    unfolding planBytes
-    slot-lines t c lo hi m =
-        let stands = subst (In (slot t c lo hi)) lines-are m in
-        let r = slot-line-true (s .span) (printedPlan s) (earliestSlots s) (latestSlots s) (λ t. leastIn s t t) (λ t. greatestIn s t t) t c lo hi stands in
-        (r .0 ∙ ap (unitLinesWith t) (sym lines-are), r .1, r .2)
+  first-no : planning.refusalOf (call .answer) ≡ refusal l before
+  first-no = plans.number-is-first-no l before (call .answer) (call .planned) (call .call)
 
-    -- On each unit line stand the unit's slot in the printed plan and its narrowed window.
-    pub unit-lines : (u x e f : ℕ) → In (unit u x e f) (answerOn left at next)
-        → (1 ≤ u) × (u ≤ length (printedPlan s)) × (x ≡ getD (printedPlan s) (u - 1) 0)
-        × (e ≡ getD (earliestSlots s) (u - 1) 0) × (f ≡ getD (latestSlots s) (u - 1) 0)
-    unfolding planBytes
-    unit-lines u x e f m =
-        unit-line-true (s .span) (printedPlan s) (earliestSlots s) (latestSlots s) (λ t. leastIn s t t) (λ t. greatestIn s t t) u x e f
-        (subst (In (unit u x e f)) lines-are m)
-
-  -- ---- none
-  module _ (k next : ℕ) (none? : reply ≡ None k next) where
-    no-refusal-said : (f : Refusal) → reply ≡ Refused f → ⊥
-    no-refusal-said f e = let z : _≡_ {A = ℕ} 0 1 = cc in omega arith
-
-    ring-stands′ : (a : Answer) (planned : Rooms) → Shown a s before planned page at reply after left
-        → (a ≡ planning.None k) × Stands (ringBytes s (take k (planned .ring))) page at left next planned after
-    ring-stands′ (planning.Refused f) planned o = absurd (no-refusal-said f (o .replied))
-    ring-stands′ planning.Plan planned o = absurd (not-plan (holds page at (planBytes s)) o)
-      where
-        not-plan : (b : Bool) → Asked b Plan (planBytes s) before planned page at reply after left → ⊥
-        not-plan true o = let z : _≡_ {A = ℕ} 0 1 = cc in omega arith
-        not-plan false o = no-refusal-said (refusalBy 15 0) (o .replied)
-    ring-stands′ (planning.None j) planned o =
-        let bytes : ℕ → List ℕ = λ i. ringBytes s (take i (planned .ring)) in
-        let same : j ≡ k = which (holds page at (bytes j)) o in (
-          ap planning.None same,
-          stands (bytes k) before planned page at reply after left (None k) (λ m j e. cc) (λ n e. let z : _≡_ {A = ℕ} 0 1 = cc in omega arith) next none?
-              (subst (λ i. Asked (holds page at (bytes i)) (None i) (bytes i) before planned page at reply after left) same o),
-        )
-      where
-        which : (b : Bool) → Asked b (None j) (ringBytes s (take j (planned .ring))) before planned page at reply after left → j ≡ k
-        which true o = cc
-        which false o = absurd (no-refusal-said (refusalBy 15 0) (o .replied))
-
-    pub ring-stands : (call .answer ≡ planning.None k) × Stands (ringBytes s (take k (call .planned .ring))) page at left next (call .planned) after
-    ring-stands = ring-stands′ (call .answer) (call .planned) (call .shown)
-
-    -- The lines are the steps of the ring that stands in its room, from its lowest boundary on, with the sheet's own limits, and the shortfall.
-    pub ring-lines : answerOn left at next
-        ≡ none ∷ (ringSaid (limit s) (take k (after .ring)) ++ (shortfall (shortfallOf (limit s) (take k (after .ring))) ∷ []))
-    unfolding ringBytes
-    ring-lines =
-        let r = ring-stands .1 in
-        answer-read (r .room) (r .written) ∙ none-read (limit s) (take k (call .planned .ring))
-        ∙ ap (λ (a : Rooms). none ∷ (ringSaid (limit s) (take k (a .ring)) ++ (shortfall (shortfallOf (limit s) (take k (a .ring))) ∷ []))) (sym (r .lent))
-
-  -- ---- refusals
-
-  -- The reply's refusal, by number and line, is that of planning; or planning has an answer and the page does not hold it, and then nothing is changed.
-  pub refusals : (refusalOf reply ≡ refusal l before) ⊎ ((refusal l before ≡ allYes) × (reply ≡ Refused (refusalBy 15 0)) × (after ≡ before) × (left ≡ page))
-  refusals = go (call .answer) (call .planned) (number-is-first-no l before (call .answer) (call .planned) (call .call)) (call .shown)
+  way : Way
+  unfolding planBytes ringBytes
+  way = go (call .answer) refl (call .shown)
     where
-      asked : (b : Bool) (says : ℕ → Printed) (bytes : List ℕ) (planned : Rooms) → ((n : ℕ) → refusalOf (says n) ≡ allYes) → allYes ≡ refusal l before
-          → Asked b says bytes before planned page at reply after left
-          → (refusalOf reply ≡ refusal l before) ⊎ ((refusal l before ≡ allYes) × (reply ≡ Refused (refusalBy 15 0)) × (after ≡ before) × (left ≡ page))
-      asked true says bytes planned zeroes e o = inl (ap refusalOf (o .replied) ∙ zeroes (at + length bytes) ∙ e)
-      asked false says bytes planned zeroes e o = inr (sym e, o .replied, o .lent, o .shown)
+      asked : (told : ℕ → says.Reply) (bytes : List ℕ) → refusal l before ≡ allYes → length bytes ≤ maxPage → (Held told bytes → Way)
+          → (b : Bool) → holds page at bytes ≡ b → Asked b told bytes before (call .planned) page at reply after left → Way
+      asked told bytes e short held true h o = held (record {
+        replied = o .replied;
+        room = record { fits = leb-true (at + length bytes) (length page) h };
+        written = record { filled = o .shown; moved = refl };
+        lent = o .lent;
+      })
+      asked told bytes e short held false h o =
+          full e (λ long. let fits = le-leb (at + length bytes) (length page) (omega arith) in let z : _≡_ {A = ℕ} 0 1 = cc in omega arith)
+          (o .replied) (o .lent) (o .shown)
 
-      go : (a : Answer) (planned : Rooms) → planningRefusal a ≡ refusal l before → Shown a s before planned page at reply after left
-          → (refusalOf reply ≡ refusal l before) ⊎ ((refusal l before ≡ allYes) × (reply ≡ Refused (refusalBy 15 0)) × (after ≡ before) × (left ≡ page))
-      go (planning.Refused n) planned e o = inl (ap refusalOf (o .replied) ∙ e)
-      go planning.Plan planned e o = asked (holds page at (planBytes s)) Plan (planBytes s) planned (λ n. refl) e o
-      go (planning.None k) planned e o =
-          let bytes = ringBytes s (take k (planned .ring)) in
-          asked (holds page at bytes) (None k) bytes planned (λ n. refl) e o
+      go : (a : planning.Reply) → call .answer ≡ a → Shown a s before (call .planned) page at reply after left → Way
+      go (planning.refused q n) e o = refused q n e (o .replied) (o .lent) (o .shown)
+      go planning.plan e o =
+          let y = sym first-no ∙ ap planning.refusalOf e in
+          asked says.plan (planBytes s) y (plan-short s (no-refusal l before y .sheet)) (plan e) (holds page at (planBytes s)) refl o
+      go (planning.none k) e o =
+          let y = sym first-no ∙ ap planning.refusalOf e in
+          let ring = take k (call .planned .ring) in
+          let closed = plans.ring-at l before (call .answer) (call .planned) (call .call) k e in
+          asked (says.none k) (ringBytes s ring) y (none-short s (no-refusal l before y .sheet) ring closed) (none k e) (holds page at (ringBytes s ring)) refl o
+
+  -- ---- 1. Ground. (That a call ends and does nothing undefined is what the checker asks of every function; `print` has no `requires`.)
+
+  -- the refusal is planning's first no; or it is 15, and then the page is too short for the longest answer
+  refused-so : (refusalOf reply ≡ refusal l before) ⊎ ((refusal l before ≡ allYes) × (reply ≡ says.refused 15 0) × (at + maxPage ≤ length page → ⊥))
+  refused-so = go way
+    where
+      planned : (a : planning.Reply) → call .answer ≡ a → refusalOf reply ≡ planning.refusalOf a → refusalOf reply ≡ refusal l before
+      planned a e f = f ∙ ap planning.refusalOf (sym e) ∙ first-no
+
+      go : Way → (refusalOf reply ≡ refusal l before) ⊎ ((refusal l before ≡ allYes) × (reply ≡ says.refused 15 0) × (at + maxPage ≤ length page → ⊥))
+      go (refused q m a r e p) = inl (planned (planning.refused q m) a (ap refusalOf r))
+      go (plan a h) = inl (planned planning.plan a (ap refusalOf (h .replied)))
+      go (none k a h) = inl (planned (planning.none k) a (ap refusalOf (h .replied)))
+      go (full y short r e p) = inr (y, r, short)
+
+  -- The reply's refusal, by number and line, is planning's first no, in the order of docs/RULES.md; where that has none it is 15, or there is none.
+  pub number-is-first-no : (refusalOf reply ≡ refusal l before) ⊎ ((refusal l before ≡ allYes) × (reply ≡ says.refused 15 0))
+  number-is-first-no = ⊎-elim inl (λ f. inr (f .0, f .1)) refused-so
+
+  -- A refusal, by planning's questions or by 15, changes no byte of the page and no place lent, save the table by 14; it has no place, so the running place stays.
+  pub refused-changes-nothing : (q m : ℕ) → reply ≡ says.refused q m → (left ≡ page) × (eqb q 14 ≡ false → after ≡ before)
+  refused-changes-nothing q m f = go way
+    where
+      go : Way → (left ≡ page) × (eqb q 14 ≡ false → after ≡ before)
+      go (refused q′ m′ a r e p) =
+          let same : q ≡ q′ = cc in
+          let first : refusal l before ≡ no q′ m′ = sym first-no ∙ ap planning.refusalOf a in
+          (p, λ other. e ∙ plans.refused-changes-nothing l before (call .answer) (call .planned) (call .call) q′ m′ first (ap (λ k. eqb k 14) (sym same) ∙ other))
+      go (plan a h) = let r = h .replied in let z : _≡_ {A = ℕ} 0 1 = cc in absurd (omega arith)
+      go (none k a h) = let r = h .replied in let z : _≡_ {A = ℕ} 0 1 = cc in absurd (omega arith)
+      go (full y short r e p) = (p, λ other. e)
 
   -- A page with maxPage places from its running place on is never refused by 15.
   pub long-page : at + maxPage ≤ length page → refusalOf reply ≡ refusal l before
-  unfolding planBytes ringBytes
-  long-page h = go (refusal l before) refl
+  long-page long = ⊎-elim (λ e. e) (λ f. absurd (f .2 long)) refused-so
+
+  -- ---- What is printed leaves the rooms as planning does, so planning's conditions hold of them.
+  pub leaves-as-planning : refusalOf reply ≡ allYes → Settled (conclusion l before) s before (says.planningOf reply) after
+  leaves-as-planning answered = go way
     where
-      held : (says : ℕ → Printed) (bytes : List ℕ) (planned : Rooms) → ((n : ℕ) → refusalOf (says n) ≡ allYes) → allYes ≡ refusal l before
-          → length bytes ≤ maxPage → Asked (holds page at bytes) says bytes before planned page at reply after left → refusalOf reply ≡ refusal l before
-      held says bytes planned zeroes e short o =
-          let f : Asked true says bytes before planned page at reply after left =
-          subst (λ b. Asked b says bytes before planned page at reply after left) (le-leb (at + length bytes) (length page) (omega arith)) o in
-          ap refusalOf (f .replied) ∙ zeroes (at + length bytes) ∙ e
+      left-so : (a : planning.Reply) → call .answer ≡ a → a ≡ says.planningOf reply → after ≡ call .planned
+          → Settled (conclusion l before) s before (says.planningOf reply) after
+      left-so a e f rooms =
+          subst (λ r. Settled (conclusion l before) s before (says.planningOf reply) r) (sym rooms)
+          (subst (λ r. Settled (conclusion l before) s before r (call .planned)) (e ∙ f) (call .call))
 
-      answered : (a : Answer) (planned : Rooms) → refusal l before ≡ allYes → Settled (conclusion l before) s before a planned
-          → Shown a s before planned page at reply after left → refusalOf reply ≡ refusal l before
-      answered (planning.Refused f) planned e c o = ap refusalOf (o .replied) ∙ number-is-first-no l before (planning.Refused f) planned c
-      answered planning.Plan planned e c o =
-          held Plan (planBytes s) planned (λ n. refl) (sym e) (plan-short s (no-refusal l before e .sheet)) o
-      answered (planning.None k) planned e c o =
-          ⊎-elim (λ p. let q : planning.None k ≡ planning.Plan = p .is in let z : _≡_ {A = ℕ} 0 1 = cc in absurd (omega arith))
-          (λ r.
-          let q : planning.None k ≡ planning.None (length (r .ring)) = r .is in
-          let size : k ≡ length (r .ring) = cc in
-          let found : take k (planned .ring) ≡ r .ring =
-          ap (λ i. take i (planned .ring)) size ∙ ap (λ (q : Rooms). take (length (r .ring)) (q .ring)) (r .left)
-          ∙ take-at (r .ring) (drop (length (r .ring)) (before .ring)) (length (r .ring)) refl in
-          held (None k) (ringBytes s (take k (planned .ring))) planned (λ n. refl) (sym e)
-          (subst (λ c. length (ringBytes s c) ≤ maxPage) (sym found) (none-short s (no-refusal l before e .sheet) (r .ring) (r .closed))) o)
-          (call-answered l before (planning.None k) planned c e)
+      go : Way → Settled (conclusion l before) s before (says.planningOf reply) after
+      go (refused q m a r e p) = let z : _≡_ {A = ℕ} 0 1 = cc in absurd (omega arith)
+      go (plan a h) = left-so planning.plan a (ap says.planningOf (sym (h .replied))) (h .lent)
+      go (none k a h) = left-so (planning.none k) a (ap says.planningOf (sym (h .replied))) (h .lent)
+      go (full y short r e p) = let z : _≡_ {A = ℕ} 0 1 = cc in absurd (omega arith)
 
-      go : (v : Verdict) → refusal l before ≡ v → refusalOf reply ≡ refusal l before
-      go allYes e = answered (call .answer) (call .planned) e (call .call) (call .shown)
-      go (no q n) e = ⊎-elim (λ f. f) (λ r. let a = r .0 in let z : _≡_ {A = ℕ} 0 1 = cc in absurd (omega arith)) refusals
+  -- ---- 2. Plan or ring, on the page. `answerOn left at next` are the answer's lines, read back from its bytes, from the place at entry to the place in the reply.
+
+  -- A printed plan: its page, whole. Its slots are the plan in the lent room.
+  pub page-of-a-plan : (next : ℕ) → reply ≡ says.plan next → PlanPage s (take n (after .plan)) (answerOn left at next)
+  page-of-a-plan next f = go way
+    where
+      go : Way → PlanPage s (take n (after .plan)) (answerOn left at next)
+      go (refused q m a r e p) = let z : _≡_ {A = ℕ} 0 1 = cc in absurd (omega arith)
+      go (plan a h) =
+          let r : reply ≡ says.plan (at + length (planBytes s)) = h .replied in
+          let place : at + length (planBytes s) ≡ next = cc in
+          let P = call-planned l before (call .answer) (call .planned) (call .call) a in
+          let slots : printedPlan s ≡ take n (after .plan) =
+          sym (ap (λ (q : Rooms). take n (q .plan)) (h .lent) ∙ plans.plan-at l before (call .answer) (call .planned) (call .call) a) in
+          let lines : readLines (planBytes s) ≡ answerOn left at next = sym (ap (answerOn left at) (sym place) ∙ answer-read (h .room) (h .written)) in
+          subst (λ x. PlanPage s x (answerOn left at next)) slots
+          (subst (PlanPage s (printedPlan s)) lines (plan-page s (entry (boundaries s) (P .table)) (P .solved)))
+      go (none k a h) = let r = h .replied in let z : _≡_ {A = ℕ} 0 1 = cc in absurd (omega arith)
+      go (full y short r e p) = let z : _≡_ {A = ℕ} 0 1 = cc in absurd (omega arith)
+
+  -- None: the page of the ring that stands in its room, whole.
+  pub page-of-a-ring : (k next : ℕ) → reply ≡ says.none k next → NonePage s (take k (after .ring)) (answerOn left at next)
+  page-of-a-ring k next f = go way
+    where
+      go : Way → NonePage s (take k (after .ring)) (answerOn left at next)
+      go (refused q m a r e p) = let z : _≡_ {A = ℕ} 0 1 = cc in absurd (omega arith)
+      go (plan a h) = let r = h .replied in let z : _≡_ {A = ℕ} 0 1 = cc in absurd (omega arith)
+      go (none j a h) =
+          let found = take j (call .planned .ring) in
+          let r : reply ≡ says.none j (at + length (ringBytes s found)) = h .replied in
+          let place : at + length (ringBytes s found) ≡ next = cc in
+          let steps : j ≡ k = cc in
+          let ring : found ≡ take k (after .ring) = ap (λ i. take i (call .planned .ring)) steps ∙ sym (ap (λ (q : Rooms). take k (q .ring)) (h .lent)) in
+          let lines : readLines (ringBytes s found) ≡ answerOn left at next = sym (ap (answerOn left at) (sym place) ∙ answer-read (h .room) (h .written)) in
+          subst (λ c. NonePage s c (answerOn left at next)) ring
+          (subst (NonePage s found) lines (none-page s found (plans.ring-at l before (call .answer) (call .planned) (call .call) j a)))
+      go (full y short r e p) = let z : _≡_ {A = ℕ} 0 1 = cc in absurd (omega arith)
+
+  -- A sheet that is not refused gets the page of a plan exactly when some assignment meets all windows and all rules;
+  pub plan-exactly-when-lawful : refusalOf reply ≡ allYes
+      → ((next : ℕ) × (reply ≡ says.plan next) × PlanPage s (take n (after .plan)) (answerOn left at next)) ↔ ((x : List ℕ) × T (lawful s x))
+  plan-exactly-when-lawful answered = (λ p. (take n (after .plan), p .2 .legal), λ x. go (x .0) (x .1) way)
+    where
+      go : (x : List ℕ) → T (lawful s x) → Way → (next : ℕ) × (reply ≡ says.plan next) × PlanPage s (take n (after .plan)) (answerOn left at next)
+      go x h (refused q m a r e p) = let z : _≡_ {A = ℕ} 0 1 = cc in absurd (omega arith)
+      go x h (plan a w) = (at + length (planBytes s), w .replied, page-of-a-plan (at + length (planBytes s)) (w .replied))
+      go x h (none k a w) = absurd (page-of-a-ring k _ (w .replied) .unlawful x h)
+      go x h (full y short r e p) = let z : _≡_ {A = ℕ} 0 1 = cc in absurd (omega arith)
+
+  -- else the page of a ring of the sheet's own limits.
+  pub ring-otherwise : refusalOf reply ≡ allYes → ((x : List ℕ) → T (lawful s x) → ⊥)
+      → (k next : ℕ) × (reply ≡ says.none k next) × NonePage s (take k (after .ring)) (answerOn left at next)
+  ring-otherwise answered unlawful = go way
+    where
+      go : Way → (k next : ℕ) × (reply ≡ says.none k next) × NonePage s (take k (after .ring)) (answerOn left at next)
+      go (refused q m a r e p) = let z : _≡_ {A = ℕ} 0 1 = cc in absurd (omega arith)
+      go (plan a w) = let p = page-of-a-plan _ (w .replied) in absurd (unlawful _ (p .legal))
+      go (none k a w) = (k, _, w .replied, page-of-a-ring k _ (w .replied))
+      go (full y short r e p) = let z : _≡_ {A = ℕ} 0 1 = cc in absurd (omega arith)
+
+  -- ---- 3. Counts. For every stretch, a whole number is the count of some lawful plan exactly when it is from the least to the greatest, read off the table
+  -- as printing leaves it. (The slot lines and the printed plan: `page-of-a-plan`.)
+  pub counts : (next : ℕ) → reply ≡ says.plan next → (a b : Boundary) → a < b → b ≤ top s → (k : ℤ)
+      → ((x : List ℕ) × T (lawful s x) × (pos (countIn (slotAfter a) (slotBefore b) x) ≡ k))
+      ↔ ((negℤ (entry (boundaries s) (after .table) b a) ≤ℤ k) × (k ≤ℤ entry (boundaries s) (after .table) a b))
+  counts next f =
+      plans.counts l before (says.planningOf reply) after (leaves-as-planning (ap refusalOf f)) (ap says.planningOf f)

@@ -6,17 +6,14 @@ use mathlib.Core.List.{List}
 use Prim.Native.Nat.{ℕ, _+_}
 use lib.Dec.{leb}
 use lib.ListN.{length, take}
-use Rattle.questions.specs.Questions.{Verdict, no, allYes, refusalBy}
 use Rattle.sheet.specs.Sheet.{Sheet, limit, leastIn, greatestIn, printedPlan, earliestSlots, latestSlots}
 use Rattle.sheet.specs.Lists.{Lists, given}
 use Rattle.plan_ask.specs.Questions.{Rooms}
 use Rattle.plan_solve.specs.Planning.{Conclusion, conclusion, Settled}
-use Rattle.plan_solve.specs.declared.Answer.{Answer}
-use Rattle.plan_solve.specs.declared.Answer.the-variants as planning
+use Rattle.plan_solve.specs.Reply as planning
 use Rattle.print_bytes.specs.Writing.{withBytes}
 use Rattle.print_page.specs.Page.{planPage, nonePage}
-use Rattle.print.specs.declared.Printed.{Printed}
-use Rattle.print.specs.declared.Printed.the-variants.{Refused, Plan, None}
+use Rattle.print.specs.Reply as says
 
 -- the page of the sheet's printed plan: its narrowed windows, and the least and greatest count of each slot over lawful plans
 unfoldable pub planBytes : Sheet → List ℕ
@@ -30,49 +27,33 @@ ringBytes s ring = nonePage (limit s) ring
 abbrev pub holds : List ℕ → ℕ → List ℕ → Bool
 holds page at bytes = leb (at + length bytes) (length page)
 
--- the refusal and the values of each reply: the refusal, by number and line, or none; the ring's length; the running place after the call
-abbrev pub refusalOf : Printed → Verdict
-refusalOf (Refused f) = no (f .number) (f .line)
-refusalOf (Plan next) = allYes
-refusalOf (None k next) = allYes
-
-abbrev pub ringLength : Printed → ℕ
-ringLength (Refused f) = 0
-ringLength (Plan next) = 0
-ringLength (None k next) = k
-
-abbrev pub placeAfter : ℕ → Printed → ℕ
-placeAfter at (Refused f) = at
-placeAfter at (Plan next) = next
-placeAfter at (None k next) = next
-
 -- what a call leaves: its reply, the rooms and the page
-pub record Outcome (reply : Printed) (after : Rooms) (left : List ℕ) (expected : Printed) (rooms : Rooms) (page : List ℕ) : Type 0 where
+pub record Outcome (reply : says.Reply) (after : Rooms) (left : List ℕ) (expected : says.Reply) (rooms : Rooms) (page : List ℕ) : Type 0 where
   pub replied : reply ≡ expected
   pub lent : after ≡ rooms
   pub shown : left ≡ page
 
 -- an answer that the page holds stands there from the place on, and the rooms are as planning leaves them; by 15 nothing is changed
-abbrev pub Asked : Bool → (ℕ → Printed) → List ℕ → Rooms → Rooms → List ℕ → ℕ → Printed → Rooms → List ℕ → Type 0
-Asked true says bytes before planned page at reply after left = Outcome reply after left (says (at + length bytes)) planned (withBytes page at bytes)
-Asked false says bytes before planned page at reply after left = Outcome reply after left (Refused (refusalBy 15 0)) before page
+abbrev pub Asked : Bool → (ℕ → says.Reply) → List ℕ → Rooms → Rooms → List ℕ → ℕ → says.Reply → Rooms → List ℕ → Type 0
+Asked true told bytes before planned page at reply after left = Outcome reply after left (told (at + length bytes)) planned (withBytes page at bytes)
+Asked false told bytes before planned page at reply after left = Outcome reply after left (says.refused 15 0) before page
 
 -- printing, after planning has replied and left the rooms so
-abbrev pub Shown : Answer → Sheet → Rooms → Rooms → List ℕ → ℕ → Printed → Rooms → List ℕ → Type 0
-Shown (planning.Refused f) s before planned page at reply after left = Outcome reply after left (Refused f) planned page
-Shown planning.Plan s before planned page at reply after left =
-    Asked (holds page at (planBytes s)) Plan (planBytes s) before planned page at reply after left
-Shown (planning.None k) s before planned page at reply after left =
+abbrev pub Shown : planning.Reply → Sheet → Rooms → Rooms → List ℕ → ℕ → says.Reply → Rooms → List ℕ → Type 0
+Shown (planning.refused q n) s before planned page at reply after left = Outcome reply after left (says.refused q n) planned page
+Shown planning.plan s before planned page at reply after left =
+    Asked (holds page at (planBytes s)) says.plan (planBytes s) before planned page at reply after left
+Shown (planning.none k) s before planned page at reply after left =
     let bytes = ringBytes s (take k (planned .ring)) in
-    Asked (holds page at bytes) (None k) bytes before planned page at reply after left
+    Asked (holds page at bytes) (says.none k) bytes before planned page at reply after left
 
 -- a call of print that comes to a conclusion: what planning replies and leaves, as `Settled` says, and what printing makes of it
-pub record PrintingOf (v : Conclusion) (s : Sheet) (before : Rooms) (page : List ℕ) (at : ℕ) (reply : Printed) (after : Rooms) (left : List ℕ) : Type 0 where
-  pub answer : Answer
+pub record PrintingOf (v : Conclusion) (s : Sheet) (before : Rooms) (page : List ℕ) (at : ℕ) (reply : says.Reply) (after : Rooms) (left : List ℕ) : Type 0 where
+  pub answer : planning.Reply
   pub planned : Rooms
   pub call : Settled v s before answer planned
   pub shown : Shown answer s before planned page at reply after left
 
 -- a call of print, from its lists and rooms, its page and its place
-abbrev pub Printing : Lists → Rooms → List ℕ → ℕ → Printed → Rooms → List ℕ → Type 0
+abbrev pub Printing : Lists → Rooms → List ℕ → ℕ → says.Reply → Rooms → List ℕ → Type 0
 Printing l before page at reply after left = PrintingOf (conclusion l before) (given l) before page at reply after left

@@ -9,13 +9,11 @@ use native.Mathlib.Omega.{arith}
 use lib.Dec.{leb}
 use lib.ListN.{length, take, replicate, length-replicate}
 use borrow.Author.Tests.{leb-true}
-use Rattle.questions.specs.Questions.{refusalBy}
 use Rattle.plan_ask.specs.Questions.{Rooms, lent}
 use Rattle.print_bytes.specs.Writing.{Room, Written}
 use Rattle.print_bytes.specs.WritingLaws.{bytes-length, written-part}
 use Rattle.print.specs.Printing.{holds, Asked}
-use Rattle.print.specs.declared.Printed.{Printed}
-use Rattle.print.specs.declared.Printed.the-variants.{Refused}
+use Rattle.print.specs.Reply as says
 
 -- ---- an answer in an array of the call's own, of which it is the front
 module _ (most : ℕ) where
@@ -47,17 +45,17 @@ module _ (page : List ℕ) (at : ℕ) (bytes : List ℕ) (size : ℕ) (is : size
   pub room : b ≡ true → Room page at bytes
   room e = record { fits = leb-true (at + length bytes) (length page) (answered ∙ e) }
 
-  module _ (says : ℕ → Printed) (before planned : Rooms) (reply : Printed) (after : Rooms) (left : List ℕ) where
+  module _ (told : ℕ → says.Reply) (before planned : Rooms) (reply : says.Reply) (after : Rooms) (left : List ℕ) where
     -- it is held: what was written is the answer
-    pub asked-yes : b ≡ true → (next : ℕ) → Written page at bytes left next → reply ≡ says next → after ≡ planned
-        → Asked (holds page at bytes) says bytes before planned page at reply after left
+    pub asked-yes : b ≡ true → (next : ℕ) → Written page at bytes left next → reply ≡ told next → after ≡ planned
+        → Asked (holds page at bytes) told bytes before planned page at reply after left
     asked-yes e next w r a =
-        subst (λ (c : Bool). Asked c says bytes before planned page at reply after left) (sym (answered ∙ e))
-        (record { replied = r ∙ ap says (w .moved); lent = a; shown = w .filled })
+        subst (λ (c : Bool). Asked c told bytes before planned page at reply after left) (sym (answered ∙ e))
+        (record { replied = r ∙ ap told (w .moved); lent = a; shown = w .filled })
 
     -- it is not: nothing is changed
-    pub asked-no : b ≡ false → reply ≡ Refused (refusalBy 15 0) → after ≡ before → left ≡ page
-        → Asked (holds page at bytes) says bytes before planned page at reply after left
+    pub asked-no : b ≡ false → reply ≡ says.refused 15 0 → after ≡ before → left ≡ page
+        → Asked (holds page at bytes) told bytes before planned page at reply after left
     asked-no e r a l =
-        subst (λ (c : Bool). Asked c says bytes before planned page at reply after left) (sym (answered ∙ e))
+        subst (λ (c : Bool). Asked c told bytes before planned page at reply after left) (sym (answered ∙ e))
         (record { replied = r; lent = a; shown = l })

@@ -11,6 +11,7 @@ ghost use Rattle.plan_ask.specs.Asking.{Solvable};
 ghost use Rattle.plan_solve.specs.Planning.{byPass};
 ghost use Rattle.print_page.specs.Page.{Printable, tablePage, RingFits, nonePage, maxPage, maxRingPage};
 ghost use Rattle.print.specs.Printing.{holds as holdsAnswer, Asked, PrintingOf, Printing};
+ghost use Rattle.print.specs.Reply as says;
 ghost use Rattle.lists.specs.Lists.{onFront};
 use print_page::MAX_PAGE;
 use print_page::MAX_RING_PAGE;
@@ -79,11 +80,11 @@ fn print_plan(
     requires { ⌜ length (tablePage span (now seats) (now firsts) (now lasts) (now closed)) ≤ maxPage ⌝ }
     ensures { λ r.
         let bytes = tablePage span (now (seats .entry)) (now (firsts .entry)) (now (lasts .entry)) (now (closed .entry)) in
-        ⌜ Asked (holdsAnswer (now (page .entry)) at bytes) Printed.Plan bytes
+        ⌜ Asked (holdsAnswer (now (page .entry)) at bytes) says.plan bytes
         (lent (now (table .entry)) (now (plan .entry)) (now (earliest .entry)) (now (latest .entry)) [])
         (lent (onFront (now (closed .entry)) (now (table .entry))) (onFront (now (seats .entry)) (now (plan .entry)))
         (onFront (now (firsts .entry)) (now (earliest .entry))) (onFront (now (lasts .entry)) (now (latest .entry))) [])
-        (now (page .entry)) at r
+        (now (page .entry)) at (says.replyOf r)
         (lent (now (table .exit)) (now (plan .exit)) (now (earliest .exit)) (now (latest .exit)) []) (now (page .exit)) ⌝ }
 {
     let mut answer = [0u8; MAX_PAGE];
@@ -115,10 +116,10 @@ fn print_ring(
     requires { ⌜ length (nonePage (entry w (now limits)) (now found)) ≤ maxRingPage ⌝ }
     ensures { λ r.
         let bytes = nonePage (entry w (now (limits .entry))) (now (found .entry)) in
-        ⌜ Asked (holdsAnswer (now (page .entry)) at bytes) (Printed.None (length (now (found .entry)))) bytes
+        ⌜ Asked (holdsAnswer (now (page .entry)) at bytes) (says.none (length (now (found .entry)))) bytes
         (lent (now (table .entry)) [] [] [] (now (ring .entry)))
         (lent (cleared (w * w) (now (table .entry))) [] [] [] (onFront (now (found .entry)) (now (ring .entry))))
-        (now (page .entry)) at r
+        (now (page .entry)) at (says.replyOf r)
         (lent (now (table .exit)) [] [] [] (now (ring .exit))) (now (page .exit)) ⌝ }
 {
     let mut answer = [0u8; MAX_RING_PAGE];
@@ -158,7 +159,7 @@ fn print_solved(
     ensures { λ r.
         let s = sheetOf span (now (first .entry)) (now (last .entry)) (now (from .entry)) (now (to .entry)) (now (low .entry)) (now (high .entry)) in
         ⌜ PrintingOf (byPass (passed s)) s
-        (lent (now (table .entry)) (now (plan .entry)) (now (earliest .entry)) (now (latest .entry)) (now (ring .entry))) (now (page .entry)) at r
+        (lent (now (table .entry)) (now (plan .entry)) (now (earliest .entry)) (now (latest .entry)) (now (ring .entry))) (now (page .entry)) at (says.replyOf r)
         (lent (now (table .exit)) (now (plan .exit)) (now (earliest .exit)) (now (latest .exit)) (now (ring .exit))) (now (page .exit)) ⌝ }
 {
     let mut closed = [0i16; Sheet::MAX_CELLS];
@@ -228,7 +229,7 @@ pub fn print(
 ) -> Printed
     ensures { λ r.
         ⌜ Printing (listed span (now (first .entry)) (now (last .entry)) (now (from .entry)) (now (to .entry)) (now (low .entry)) (now (high .entry)))
-        (lent (now (table .entry)) (now (plan .entry)) (now (earliest .entry)) (now (latest .entry)) (now (ring .entry))) (now (page .entry)) at r
+        (lent (now (table .entry)) (now (plan .entry)) (now (earliest .entry)) (now (latest .entry)) (now (ring .entry))) (now (page .entry)) at (says.replyOf r)
         (lent (now (table .exit)) (now (plan .exit)) (now (earliest .exit)) (now (latest .exit)) (now (ring .exit))) (now (page .exit)) ⌝ }
 {
     let rooms = plan_ask::lengths_of(table, plan, earliest, latest, ring);

@@ -3,13 +3,14 @@
 use mathlib.Core.Path.{_≡_}
 use mathlib.Core.Bool.{cond}
 use mathlib.Core.List.{List, [], _∷_, map}
-use Prim.Native.Nat.{ℕ, suc, _+_, _-_, _*_, _≤_, _<_}
+use Prim.Native.Nat.{ℕ, suc, _+_, _*_, _≤_, _<_}
 use lib.Dec.{ltb, eqb}
 use lib.ListN.{length, getD}
 use lib.IntN.{ℤ, negℤ}
 use Rattle.integers.specs.Parts.{up, dn}
 use Rattle.lists.specs.Lists.{run, fromTo, howMany, joined}
 use Rattle.lists.specs.Values.{listOf}
+use Rattle.slots.specs.Slots.{Slot, Boundary, slotEnd, slotStart, slotBefore, slotAfter}
 use Rattle.sheet.specs.Sizes.{maxSlots, maxUnits, maxCount, boundariesOf}
 use Rattle.network.specs.Network.{Weights, around}
 use Rattle.network.specs.Table.{entry, maxBoundaries}
@@ -26,14 +27,14 @@ unitLineAt slots earliest latest j = unitLine (suc j) (getD slots j 0) (getD ear
 unfoldable pub unitLines : List ℕ → List ℕ → List ℕ → List ℕ
 unitLines slots earliest latest = joined (map (unitLineAt slots earliest latest) (run 0 (length slots)))
 
-unfoldable pub slotLineAt : (ℕ → ℕ) → (ℕ → ℕ) → (ℕ → ℕ) → ℕ → List ℕ
+unfoldable pub slotLineAt : (Slot → ℕ) → (Slot → ℕ) → (Slot → ℕ) → Slot → List ℕ
 slotLineAt count least greatest t = slotLine t (count t) (least t) (greatest t)
 
-unfoldable pub slotLines : ℕ → (ℕ → ℕ) → (ℕ → ℕ) → (ℕ → ℕ) → List ℕ
+unfoldable pub slotLines : Slot → (Slot → ℕ) → (Slot → ℕ) → (Slot → ℕ) → List ℕ
 slotLines span count least greatest = joined (map (slotLineAt count least greatest) (fromTo 1 span))
 
 -- the number of units that have a slot
-abbrev pub unitsAt : List ℕ → ℕ → ℕ
+abbrev pub unitsAt : List Slot → Slot → ℕ
 unitsAt slots t = howMany (eqb t) slots
 
 -- the number of units in each slot, from slot 0 on, which none has
@@ -45,12 +46,12 @@ unfoldable pub planPage : ℕ → List ℕ → List ℕ → List ℕ → (ℕ �
 planPage span slots earliest latest least greatest =
     joined (planHead (length slots) ∷ unitLines slots earliest latest ∷ slotLines span (unitsAt slots) least greatest ∷ [])
 
--- the least and the greatest count of a slot, from the finished table of w boundaries: slot t is the stretch from boundary t - 1 to boundary t
-abbrev pub leastFrom : ℕ → List ℤ → ℕ → ℕ
-leastFrom w table t = dn (entry w table t (t - 1))
+-- the least and the greatest count of a slot, from the finished table of w boundaries: a slot is the stretch from its start to its end
+abbrev pub leastFrom : ℕ → List ℤ → Slot → ℕ
+leastFrom w table t = dn (entry w table (slotEnd t) (slotStart t))
 
-abbrev pub greatestFrom : ℕ → List ℤ → ℕ → ℕ
-greatestFrom w table t = up (entry w table (t - 1) t)
+abbrev pub greatestFrom : ℕ → List ℤ → Slot → ℕ
+greatestFrom w table t = up (entry w table (slotStart t) (slotEnd t))
 
 -- a plan, its narrowed windows and a finished table that belong to one sheet
 pub record Printable (span : ℕ) (plan first last : List ℕ) (table : List ℤ) : Type 0 where
@@ -71,29 +72,29 @@ abbrev pub boundForm : List ℕ → List Piece
 boundForm bound = word bound ∷ number ∷ word (text " (slots ") ∷ number ∷ word (text " ") ∷ number ∷ word (text "))") ∷ []
 
 -- forward, the step's limit; backward, minus its limit
-unfoldable pub stepLine : Weights → ℕ → ℕ → List ℕ
+unfoldable pub stepLine : Weights → Boundary → Boundary → List ℕ
 stepLine d a b =
-    cond (ltb a b) (atMostLine (up (d a b)) (suc a) b) (atLeastLine (up (negℤ (d a b))) (suc b) a)
+    cond (ltb a b) (atMostLine (up (d a b)) (slotAfter a) (slotBefore b)) (atLeastLine (up (negℤ (d a b))) (slotAfter b) (slotBefore a))
 
 -- the lines of the steps from a over a list of boundaries and on to e
-unfoldable pub stepLines : Weights → ℕ → List ℕ → ℕ → List (List ℕ)
+unfoldable pub stepLines : Weights → Boundary → List Boundary → Boundary → List (List ℕ)
 stepLines d a [] e = stepLine d a e ∷ []
 stepLines d a (b ∷ bs) e = stepLine d a b ∷ stepLines d b bs e
 
 -- the lines of a list of boundaries that is closed on itself
-unfoldable pub ringLines : Weights → List ℕ → List (List ℕ)
+unfoldable pub ringLines : Weights → List Boundary → List (List ℕ)
 ringLines d [] = []
 ringLines d (a ∷ bs) = stepLines d a bs a
 
 -- minus the ring's sum
-abbrev pub shortfallOf : Weights → List ℕ → ℕ
+abbrev pub shortfallOf : Weights → List Boundary → ℕ
 shortfallOf d ring = up (negℤ (around d ring))
 
-unfoldable pub nonePage : Weights → List ℕ → List ℕ
+unfoldable pub nonePage : Weights → List Boundary → List ℕ
 nonePage d ring = joined (noneHead ∷ joined (ringLines d ring) ∷ shortfallLine (shortfallOf d ring) ∷ [])
 
 -- a ring, and the table of the limits of w boundaries, as a call is given them
-pub record RingFits (w : ℕ) (limits : List ℤ) (ring : List ℕ) : Type 0 where
+pub record RingFits (w : ℕ) (limits : List ℤ) (ring : List Boundary) : Type 0 where
   pub boundaries : w ≤ maxBoundaries
   pub entries : w * w ≤ length limits
   pub some : 1 ≤ length ring

@@ -8,10 +8,11 @@ use lib.IntN.{negℤ}
 use lib.ListN.{getD, take, drop}
 use Rattle.lists.specs.Lists.{howMany}
 use Rattle.integers.specs.Parts.{up}
+use Rattle.slots.specs.Slots.{Boundary, slotBefore, slotAfter}
 use Rattle.network.specs.Network.{Weights}
 use Rattle.forms.specs.Form.{Piece, matches, numbers, value}
-use Rattle.forms.specs.Forms.{planHeadForm, unitLineForm, slotLineForm, noneHeadForm, atMostForm, atLeastForm, shortfallForm}
-use Rattle.forms.specs.Lines.{lines}
+use Rattle.forms.specs.Forms.{planHeadForm, unitLineForm, slotLineForm, noneHeadForm, atMostForm, atLeastForm, shortfallForm, refusedForm}
+use Rattle.forms.specs.Lines.{TextLine, lines}
 
 -- what a line says, with its numbers in their order
 pub data Said : Type 0 where
@@ -22,6 +23,7 @@ pub data Said : Type 0 where
   atMost : ℕ → ℕ → ℕ → Said
   atLeast : ℕ → ℕ → ℕ → Said
   shortfall : ℕ → Said
+  refused : ℕ → ℕ → Said
   other : Said
 
 -- a form of a line, and what a line of that form says with its numbers 0, 1, ..
@@ -42,6 +44,7 @@ readings =
     ∷ reading atMostForm (λ n. atMost (n 0) (n 1) (n 2))
     ∷ reading atLeastForm (λ n. atLeast (n 0) (n 1) (n 2))
     ∷ reading shortfallForm (λ n. shortfall (n 0))
+    ∷ reading refusedForm (λ n. refused (n 0) (n 1))
     ∷ []
 
 -- what a line says by the first form it has
@@ -52,9 +55,12 @@ readBy (r ∷ rs) l = cond (matches (r .form) l) ((r .says) (λ i. getD (map val
 abbrev pub readLine : List ℕ → Said
 readLine l = readBy readings l
 
--- what the lines of a text say
+-- what the lines of a text say; without its line feed a line is none of these
+abbrev pub saidBy : TextLine → Said
+saidBy l = cond (l .ended) (readLine (l .bytes)) other
+
 unfoldable pub readLines : List ℕ → List Said
-readLines t = map (λ l. readLine (l .bytes)) (lines t)
+readLines t = map saidBy (lines t)
 
 -- the answer that a call wrote on a page: from the place where it began to the place that it left
 unfoldable pub answerOn : List ℕ → ℕ → ℕ → List Said
@@ -69,16 +75,26 @@ isUnitWith t none = false
 isUnitWith t (atMost v a b) = false
 isUnitWith t (atLeast v a b) = false
 isUnitWith t (shortfall k) = false
+isUnitWith t (refused q n) = false
 isUnitWith t other = false
 
 -- the number of unit lines with slot t
 abbrev pub unitLinesWith : ℕ → List Said → ℕ
 unitLinesWith t ls = howMany (isUnitWith t) ls
 
+-- ---- what the lines of a plan are to say: of the unit at place j, with its slot and the ends of its narrowed window, and of slot t, with its count and range
+
+abbrev pub unitSaid : (ℕ → ℕ) → (ℕ → ℕ) → (ℕ → ℕ) → ℕ → Said
+unitSaid slots earliest latest j = unit (suc j) (slots j) (earliest j) (latest j)
+
+abbrev pub slotSaid : (ℕ → ℕ) → (ℕ → ℕ) → (ℕ → ℕ) → ℕ → Said
+slotSaid count least greatest t = slot t (count t) (least t) (greatest t)
+
 -- ---- what the lines of a ring's steps are to say
 
-abbrev pub stepSaid : Weights → ℕ → ℕ → Said
-stepSaid d a b = cond (ltb a b) (atMost (up (d a b)) (suc a) b) (atLeast (up (negℤ (d a b))) (suc b) a)
+abbrev pub stepSaid : Weights → Boundary → Boundary → Said
+stepSaid d a b =
+    cond (ltb a b) (atMost (up (d a b)) (slotAfter a) (slotBefore b)) (atLeast (up (negℤ (d a b))) (slotAfter b) (slotBefore a))
 
 abbrev pub stepsSaid : Weights → ℕ → List ℕ → ℕ → List Said
 stepsSaid d a [] e = stepSaid d a e ∷ []

@@ -2,18 +2,17 @@
 -- Key idea: each line is a form written out with the digits of its numbers and ended by a line feed. A form written out matches itself and gives its
 -- numbers back, a line without a line feed inside is found again, and no form starts as an earlier one does, which is one computed test (`clear`). So one
 -- law, `says`, reads every line.
-use mathlib.Core.Path.{_≡_, refl, sym, ap, ap₂, _∙_, subst}
+use mathlib.Core.Path.{_≡_, refl, sym, ap, ap₂, _∙_}
 use mathlib.Core.Bool.{Bool, true, false, _&&_, not, cond}
-use mathlib.Core.Logic.{_⊎_, ⊎-elim, ⊎-map}
-use mathlib.Core.List.{List, [], _∷_, _++_, map, append-assoc, append-nil, List·Memᴰ·cases-cons, List·Memᴰ·append-cases}
-use Prim.Native.Nat.{ℕ, zero, suc, _+_, _-_, _≤_, _<_}
+use mathlib.Core.List.{List, [], _∷_, _++_, map, append-assoc, append-nil}
+use Prim.Native.Nat.{ℕ, zero, suc, _+_, _-_}
 use native.Mathlib.Omega.{arith}
 use lib.Dec.{T, eqb, leb, ltb}
 use lib.ListN.{length, getD}
 use lib.IntN.{negℤ}
 use borrow.Author.Tests.{ne-eqb, leb-true}
-use Rattle.lists.specs.Members.{In, both, left, right, in-map, in-run, and-left}
-use Rattle.lists.specs.Values.{listOf-is}
+use Rattle.lists.specs.Members.{both, left, right, and-left}
+use Rattle.lists.specs.Values.{listOf-is, values-same}
 use Rattle.lists.specs.Lists.{run, fromTo, every, howMany, oneIf, joined}
 use Rattle.integers.specs.Parts.{up}
 use Rattle.network.specs.Network.{Weights}
@@ -23,11 +22,11 @@ use Rattle.forms.specs.FormLaws.{Digits, Suits, separated, written-matches}
 use Rattle.forms.specs.Decimal.{digits, spell, formLine}
 use Rattle.forms.specs.DecimalLaws.{values-digits, numbersIn, suits-digits}
 use Rattle.forms.specs.Lines.{textLine, inFront, lines}
-use Rattle.print_bytes.specs.Writing.{Room, Written, planHead, unitLine, slotLine, noneHead, atMostLine, atLeastLine, shortfallLine}
+use Rattle.print_bytes.specs.Writing.{Room, Written, planHead, unitLine, slotLine, noneHead, atMostLine, atLeastLine, shortfallLine, refusedLine}
 use Rattle.print_bytes.specs.WritingLaws.{written-part}
 use Rattle.print_page.specs.Page.{unitLineAt, unitLines, slotLineAt, slotLines, unitsAt, planPage, stepLine, stepLines, ringLines, shortfallOf, nonePage}
-use Rattle.print_page.specs.PageLines.{Said, plan, unit, slot, none, atMost, atLeast, shortfall, other, Reading, reading, readings}
-use Rattle.print_page.specs.PageLines.{readBy, readLine, readLines, answerOn, isUnitWith, unitLinesWith, stepSaid, stepsSaid, ringSaid}
+use Rattle.print_page.specs.PageLines.{Said, plan, unit, slot, none, atMost, atLeast, shortfall, refused, other, Reading, reading, readings}
+use Rattle.print_page.specs.PageLines.{readBy, readLine, saidBy, readLines, answerOn, isUnitWith, unitLinesWith, unitSaid, slotSaid, stepSaid, stepsSaid, ringSaid}
 
 -- ---- lines
 
@@ -85,9 +84,9 @@ pub record Says (line : List ℕ) (s : Said) : Type 0 where
 read-next : {line : List ℕ} {s : Said} (t : List ℕ) → Says line s → readLines (line ++ t) ≡ s ∷ readLines t
 unfolding readLines
 read-next {line} {s} t l =
-    ap (λ r. map (λ m. readLine (m .bytes)) (lines r)) (ap (λ r. r ++ t) (l .ended) ∙ append-assoc (l .bytes) (lineFeed ∷ []) t)
-    ∙ ap (map (λ m. readLine (m .bytes))) (next-line (l .bytes) t (l .whole))
-    ∙ ap (λ r. r ∷ map (λ m. readLine (m .bytes)) (lines t)) (l .read)
+    ap (λ r. map saidBy (lines r)) (ap (λ r. r ++ t) (l .ended) ∙ append-assoc (l .bytes) (lineFeed ∷ []) t)
+    ∙ ap (map saidBy) (next-line (l .bytes) t (l .whole))
+    ∙ ap (λ r. r ∷ map saidBy (lines t)) (l .read)
 
 -- ---- a form, read by the first reading that has it
 
@@ -195,6 +194,10 @@ shortfall-says : (n : ℕ) → Says (shortfallLine n) (shortfall n)
 unfolding shortfallLine text
 shortfall-says n = says 6 (n ∷ []) tt refl
 
+refused-says : (q n : ℕ) → Says (refusedLine q n) (refused q n)
+unfolding refusedLine text
+refused-says q n = says 7 (q ∷ n ∷ []) tt refl
+
 -- ---- the page of a plan, read
 
 howMany-append : {A : Type 0} (t : A → Bool) (xs ys : List A) → howMany t (xs ++ ys) ≡ howMany t xs + howMany t ys
@@ -218,31 +221,30 @@ module _ (span : ℕ) (slots first last : List ℕ) (low high : ℕ → ℕ) whe
   abbrev page : List ℕ
   page = planPage span slots first last low high
 
-  -- the line of the unit at place j, and of slot t
-  abbrev pub unitSaid : ℕ → Said
-  unitSaid j = unit (suc j) (getD slots j 0) (getD first j 0) (getD last j 0)
+  abbrev ofUnit : ℕ → Said
+  ofUnit = unitSaid (λ j. getD slots j 0) (λ j. getD first j 0) (λ j. getD last j 0)
 
-  abbrev pub slotSaid : ℕ → Said
-  slotSaid t = slot t (unitsAt slots t) (low t) (high t)
+  abbrev ofSlot : (ℕ → ℕ) → ℕ → Said
+  ofSlot count = slotSaid count low high
 
-  -- the head with the number of units, then the units in their order, then the slots in theirs
-  pub plan-read : readLines page ≡ plan (length slots) ∷ (map unitSaid (run 0 (length slots)) ++ map slotSaid (fromTo 1 span))
+  -- the lines with the counts of the plan
+  counted-read : readLines page ≡ plan (length slots) ∷ (map ofUnit (run 0 (length slots)) ++ map (ofSlot (unitsAt slots)) (fromTo 1 span))
   unfolding planPage unitLines unitLineAt slotLines slotLineAt
-  plan-read =
+  counted-read =
       read-next (joined (unitLines slots first last ∷ slotLines span (unitsAt slots) low high ∷ [])) (plan-says (length slots))
       ∙ ap (λ ls. plan (length slots) ∷ ls)
-      (read-lines (unitLineAt slots first last) unitSaid (λ j. unit-says (suc j) (getD slots j 0) (getD first j 0) (getD last j 0)) 0 (length slots)
+      (read-lines (unitLineAt slots first last) ofUnit (λ j. unit-says (suc j) (getD slots j 0) (getD first j 0) (getD last j 0)) 0 (length slots)
       (joined (slotLines span (unitsAt slots) low high ∷ []))
-      ∙ ap (λ ls. map unitSaid (run 0 (length slots)) ++ ls)
-      (read-lines (slotLineAt (unitsAt slots) low high) slotSaid (λ t. slot-says t (unitsAt slots t) (low t) (high t)) 1 (suc span - 1) []
-      ∙ ap (λ ls. map slotSaid (fromTo 1 span) ++ ls) read-nothing ∙ append-nil (map slotSaid (fromTo 1 span))))
+      ∙ ap (λ ls. map ofUnit (run 0 (length slots)) ++ ls)
+      (read-lines (slotLineAt (unitsAt slots) low high) (ofSlot (unitsAt slots)) (λ t. slot-says t (unitsAt slots t) (low t) (high t)) 1 (suc span - 1) []
+      ∙ ap (λ ls. map (ofSlot (unitsAt slots)) (fromTo 1 span) ++ ls) read-nothing ∙ append-nil (map (ofSlot (unitsAt slots)) (fromTo 1 span))))
 
   -- the unit lines with a slot are as many as the units that have it
-  units-counted : (t i k : ℕ) → howMany (isUnitWith t) (map unitSaid (run i k)) ≡ howMany (eqb t) (map (λ j. getD slots j 0) (run i k))
+  units-counted : (t i k : ℕ) → howMany (isUnitWith t) (map ofUnit (run i k)) ≡ howMany (eqb t) (map (λ j. getD slots j 0) (run i k))
   units-counted t i zero = refl
   units-counted t i (suc k) = ap (λ n. oneIf (eqb t (getD slots i 0)) + n) (units-counted t (suc i) k)
 
-  no-units : (t i k : ℕ) → howMany (isUnitWith t) (map slotSaid (run i k)) ≡ 0
+  no-units : (t i k : ℕ) → howMany (isUnitWith t) (map (ofSlot (unitsAt slots)) (run i k)) ≡ 0
   no-units t i zero = refl
   no-units t i (suc k) = omega (arith, no-units t (suc i) k)
 
@@ -250,62 +252,22 @@ module _ (span : ℕ) (slots first last : List ℕ) (low high : ℕ → ℕ) whe
   lines-with t =
       omega (
         arith,
-        ap (unitLinesWith t) plan-read,
-        howMany-append (isUnitWith t) (map unitSaid (run 0 (length slots))) (map slotSaid (fromTo 1 span)),
+        ap (unitLinesWith t) counted-read,
+        howMany-append (isUnitWith t) (map ofUnit (run 0 (length slots))) (map (ofSlot (unitsAt slots)) (fromTo 1 span)),
         units-counted t 0 (length slots),
         no-units t 1 (suc span - 1),
         ap (howMany (eqb t)) (listOf-is (λ j. getD slots j 0) 0 (length slots) slots refl (λ j h. refl)),
       )
 
-  -- a line of the page is the head, a unit's or a slot's
-  found : (s : Said) → In s (readLines page)
-      → (s ≡ plan (length slots)) ⊎ (((j : ℕ) × (j < length slots) × (s ≡ unitSaid j)) ⊎ ((t : ℕ) × (1 ≤ t) × (t ≤ span) × (s ≡ slotSaid t)))
-  found s m =
-      ⊎-map (λ e. e)
-      (λ r. ⊎-map
-      (λ u. let p = in-map unitSaid s (run 0 (length slots)) u in let b = in-run (p .0) 0 (length slots) (p .1) in (p .0, omega arith, p .2))
-      (λ v. let p = in-map slotSaid s (fromTo 1 span) v in let b = in-run (p .0) 1 (suc span - 1) (p .1) in (p .0, b .0, omega arith, p .2))
-      (List·Memᴰ·append-cases (map unitSaid (run 0 (length slots))) r))
-      (List·Memᴰ·cases-cons (subst (In s) plan-read m))
-
-  -- On each slot line the count is the number of this answer's unit lines with that slot, and the range is the least and the greatest.
-  pub slot-line-true : (t c l g : ℕ) → In (slot t c l g) (readLines page) → (c ≡ unitLinesWith t (readLines page)) × (l ≡ low t) × (g ≡ high t)
-  slot-line-true t c l g m = ⊎-elim
-      (λ (q : slot t c l g ≡ plan (length slots)). let z : _≡_ {A = ℕ} 0 1 = cc in absurd (omega arith))
-      (λ r. ⊎-elim
-      (λ u. let q : slot t c l g ≡ unitSaid (u .0) = u .2 in let z : _≡_ {A = ℕ} 0 1 = cc in absurd (omega arith))
-      (λ v.
-      let q : slot t c l g ≡ slotSaid (v .0) = v .3 in
-      let same : v .0 ≡ t = cc in
-      let count : c ≡ unitsAt slots (v .0) = cc in
-      let low-is : l ≡ low (v .0) = cc in
-      let high-is : g ≡ high (v .0) = cc in
-      (count ∙ ap (unitsAt slots) same ∙ sym (lines-with t), low-is ∙ ap low same, high-is ∙ ap high same))
-      r)
-      (found (slot t c l g) m)
-
-  -- On each unit line stand the unit's slot and its narrowed window.
-  pub unit-line-true : (u x e l : ℕ) → In (unit u x e l) (readLines page)
-      → (1 ≤ u) × (u ≤ length slots) × (x ≡ getD slots (u - 1) 0) × (e ≡ getD first (u - 1) 0) × (l ≡ getD last (u - 1) 0)
-  unit-line-true u x e l m = ⊎-elim
-      (λ (q : unit u x e l ≡ plan (length slots)). let z : _≡_ {A = ℕ} 0 1 = cc in absurd (omega arith))
-      (λ r. ⊎-elim
-      (λ p.
-      let q : unit u x e l ≡ unitSaid (p .0) = p .2 in
-      let same : u ≡ suc (p .0) = cc in
-      let k : p .0 ≡ u - 1 = omega arith in
-      let seat : x ≡ getD slots (p .0) 0 = cc in
-      let from : e ≡ getD first (p .0) 0 = cc in
-      let to : l ≡ getD last (p .0) 0 = cc in (
-        omega arith,
-        omega (arith, p .1),
-        seat ∙ ap (λ i. getD slots i 0) k,
-        from ∙ ap (λ i. getD first i 0) k,
-        to ∙ ap (λ i. getD last i 0) k,
-      ))
-      (λ v. let q : unit u x e l ≡ slotSaid (v .0) = v .3 in let z : _≡_ {A = ℕ} 0 1 = cc in absurd (omega arith))
-      r)
-      (found (unit u x e l) m)
+  -- The lines of the page, all of them: the head with the number of units; the units in their order; the slots in theirs, each with the number of these
+  -- very lines that give a unit this slot.
+  pub plan-read : readLines page
+      ≡ plan (length slots) ∷ (map ofUnit (run 0 (length slots)) ++ map (ofSlot (λ t. unitLinesWith t (readLines page))) (fromTo 1 span))
+  plan-read =
+      counted-read
+      ∙ ap (λ ls. plan (length slots) ∷ (map ofUnit (run 0 (length slots)) ++ ls))
+      (values-same (ofSlot (unitsAt slots)) (ofSlot (λ t. unitLinesWith t (readLines page))) 1 (suc span - 1)
+      (λ t l h. ap (λ c. slot t c (low t) (high t)) (sym (lines-with t))))
 
 -- ---- the page of a ring, read
 module _ (d : Weights) where
@@ -339,6 +301,11 @@ module _ (d : Weights) where
       ∙ ap (λ ls. none ∷ ls)
       (read-ring ring (joined (shortfallLine (shortfallOf d ring) ∷ []))
       ∙ ap (λ ls. ringSaid d ring ++ ls) (read-next [] (shortfall-says (shortfallOf d ring)) ∙ ap (λ ls. shortfall (shortfallOf d ring) ∷ ls) read-nothing))
+
+-- ---- the page of a refusal, read
+pub refused-read : (q n : ℕ) → readLines (refusedLine q n) ≡ refused q n ∷ []
+refused-read q n =
+    ap readLines (sym (append-nil (refusedLine q n))) ∙ read-next [] (refused-says q n) ∙ ap (λ ls. refused q n ∷ ls) read-nothing
 
 -- ---- the answer on a page that was written on: its own lines, and nothing that stood there before
 pub answer-read : {page : List ℕ} {at : ℕ} {bytes left : List ℕ} {next : ℕ} → Room page at bytes → Written page at bytes left next

@@ -1,6 +1,6 @@
 ghost use mathlib.Core.Path.{_≡_};
 ghost use mathlib.Core.List.{_∷_, []};
-ghost use Prim.Native.Nat.{_-_, _*_, _<_, _≤_};
+ghost use Prim.Native.Nat.{_-_, _*_, _^_, _<_, _≤_};
 ghost use lib.ListN.{length, getD, replicate};
 ghost use Rattle.integers.specs.Parts.{up, dn};
 ghost use Rattle.lists.specs.Lists.{joined};
@@ -17,6 +17,8 @@ use print_bytes::put_pair;
 use print_bytes::put_slot;
 use print_bytes::put_unit;
 use sheet::Sheet;
+use slots::Boundary;
+use slots::Slot;
 
 // The answer page, that of a plan and that of a ring, written into a slice from a place on.
 
@@ -70,18 +72,22 @@ fn below(x: i16) -> u16
 }
 
 // The least count of a slot over lawful plans, from the finished table, and the greatest.
-fn least_of(table: &[i16], span: usize, t: usize) -> u16
-    requires { ⌜ (1 ≤ t) × (t ≤ span) × (span ≤ maxSlots) × (boundariesOf span * boundariesOf span ≤ length (now table)) ⌝ }
-    ensures { λ r. ⌜ r ≡ leastFrom (boundariesOf span) (now (table .entry)) t ⌝ }
+fn least_of(table: &[i16], span: usize, t: Slot) -> u16
+    requires { ⌜ (1 ≤ t .0) × (t .0 ≤ span) × (span ≤ maxSlots) × (boundariesOf span * boundariesOf span ≤ length (now table)) ⌝ }
+    ensures { λ r. ⌜ r ≡ leastFrom (boundariesOf span) (now (table .entry)) (t .0) ⌝ }
 {
-    below(entry_at(table, sheet::boundaries(span), t, t - 1))
+    let end = t.end().0;
+    let start = t.start().0;
+    below(entry_at(table, sheet::boundaries(span), end, start))
 }
 
-fn greatest_of(table: &[i16], span: usize, t: usize) -> u16
-    requires { ⌜ (1 ≤ t) × (t ≤ span) × (span ≤ maxSlots) × (boundariesOf span * boundariesOf span ≤ length (now table)) ⌝ }
-    ensures { λ r. ⌜ r ≡ greatestFrom (boundariesOf span) (now (table .entry)) t ⌝ }
+fn greatest_of(table: &[i16], span: usize, t: Slot) -> u16
+    requires { ⌜ (1 ≤ t .0) × (t .0 ≤ span) × (span ≤ maxSlots) × (boundariesOf span * boundariesOf span ≤ length (now table)) ⌝ }
+    ensures { λ r. ⌜ r ≡ greatestFrom (boundariesOf span) (now (table .entry)) (t .0) ⌝ }
 {
-    above(entry_at(table, sheet::boundaries(span), t - 1, t))
+    let end = t.end().0;
+    let start = t.start().0;
+    above(entry_at(table, sheet::boundaries(span), start, end))
 }
 
 fn put_slots(page: &mut [u8], at: usize, span: usize, counts: &[u16], table: &[i16]) -> usize
@@ -100,8 +106,8 @@ fn put_slots(page: &mut [u8], at: usize, span: usize, counts: &[u16], table: &[i
             next,
             t as u16,
             counts[t],
-            least_of(table, span, t),
-            greatest_of(table, span, t),
+            least_of(table, span, Slot(t)),
+            greatest_of(table, span, Slot(t)),
         );
         t += 1;
     }
@@ -131,27 +137,42 @@ pub fn put_plan(
 }
 
 // The line of a step, by its first word.
-fn put_bound(page: &mut [u8], at: usize, word: &[u8], bound: u16, first: u16, last: u16) -> usize
-    requires { ⌜ Room (now page) at (formLine (boundForm (now word)) (bound ∷ first ∷ last ∷ [])) ⌝ }
-    ensures { λ r. ⌜ Written (now (page .entry)) at (formLine (boundForm (now (word .entry))) (bound ∷ first ∷ last ∷ [])) (now (page .exit)) r ⌝ }
+fn put_bound(page: &mut [u8], at: usize, word: &[u8], bound: u16, first: Slot, last: Slot) -> usize
+    requires { ⌜ (first .0 < 2 ^ 16) × (last .0 < 2 ^ 16) ⌝ }
+    requires { ⌜ Room (now page) at (formLine (boundForm (now word)) (bound ∷ first .0 ∷ last .0 ∷ [])) ⌝ }
+    ensures { λ r. ⌜ Written (now (page .entry)) at (formLine (boundForm (now (word .entry))) (bound ∷ first .0 ∷ last .0 ∷ [])) (now (page .exit)) r ⌝ }
 {
     let next = put_pair(page, at, word, bound);
-    let next2 = put_pair(page, next, b" (slots ", first);
-    let next3 = put_pair(page, next2, b" ", last);
+    let next2 = put_pair(page, next, b" (slots ", first.0 as u16);
+    let next3 = put_pair(page, next2, b" ", last.0 as u16);
     put_no_number(page, next3, b"))")
 }
 
 // The step from boundary a to boundary b, with the sheet's own limit.
-fn put_step(page: &mut [u8], at: usize, limits: &[i16], w: usize, a: u16, b: u16) -> usize
-    requires { ⌜ (a < w) × (b < w) × (w ≤ maxBoundaries) × (w * w ≤ length (now limits)) ⌝ }
-    requires { ⌜ Room (now page) at (stepLine (entry w (now limits)) a b) ⌝ }
-    ensures { λ r. ⌜ Written (now (page .entry)) at (stepLine (entry w (now (limits .entry))) a b) (now (page .exit)) r ⌝ }
+fn put_step(page: &mut [u8], at: usize, limits: &[i16], w: usize, a: Boundary, b: Boundary) -> usize
+    requires { ⌜ (a .0 < w) × (b .0 < w) × (w ≤ maxBoundaries) × (w * w ≤ length (now limits)) ⌝ }
+    requires { ⌜ Room (now page) at (stepLine (entry w (now limits)) (a .0) (b .0)) ⌝ }
+    ensures { λ r. ⌜ Written (now (page .entry)) at (stepLine (entry w (now (limits .entry))) (a .0) (b .0)) (now (page .exit)) r ⌝ }
 {
-    let limit = entry_at(limits, w, a as usize, b as usize);
-    if a < b {
-        return put_bound(page, at, b"(at-most ", above(limit), a + 1, b);
+    let limit = entry_at(limits, w, a.0, b.0);
+    if a.0 < b.0 {
+        return put_bound(
+            page,
+            at,
+            b"(at-most ",
+            above(limit),
+            a.slot_after(),
+            b.slot_before(),
+        );
     }
-    put_bound(page, at, b"(at-least ", below(limit), b + 1, a)
+    put_bound(
+        page,
+        at,
+        b"(at-least ",
+        below(limit),
+        b.slot_after(),
+        a.slot_before(),
+    )
 }
 
 fn put_steps(page: &mut [u8], at: usize, limits: &[i16], w: usize, ring: &[u16]) -> usize
@@ -163,10 +184,24 @@ fn put_steps(page: &mut [u8], at: usize, limits: &[i16], w: usize, ring: &[u16])
     let mut next = at;
     let mut i = 0;
     while i < last {
-        next = put_step(page, next, limits, w, ring[i], ring[i + 1]);
+        next = put_step(
+            page,
+            next,
+            limits,
+            w,
+            Boundary(ring[i] as usize),
+            Boundary(ring[i + 1] as usize),
+        );
         i += 1;
     }
-    put_step(page, next, limits, w, ring[last], ring[0])
+    put_step(
+        page,
+        next,
+        limits,
+        w,
+        Boundary(ring[last] as usize),
+        Boundary(ring[0] as usize),
+    )
 }
 
 // How far one number is above another; 0 where it is not.

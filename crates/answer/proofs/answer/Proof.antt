@@ -5,7 +5,7 @@ use Prim.Native.Nat.{ℕ}
 use native.Mathlib.Omega.{arith}
 use denote.Ref.{now}
 use lib.ListN.{replicate}
-use Rattle.read_ask.specs.Reading.{ListRooms, rooms, roomsForAll, refused, read, reading, answerOf}
+use Rattle.read_ask.specs.Reading.{ListRooms, rooms, roomsForAll, refused, read, reading, replyOf}
 use Rattle.read.specs.Rooms.{sizesOf}
 use Rattle.sheet.specs.Sizes.{maxUnits, maxRules}
 use Rattle.answer.specs.AnswerLaws.{refused-small, refused-answer, read-held, read-answered, refusal-answered}
@@ -32,11 +32,11 @@ input c = now (c .before .before .before .before .before .before .before .before
 
 refused-told : (c : tie.After-reading)
     → refused (c .reading .given .0 .0 .number) (c .reading .given .0 .0 .line) ≡ reading (input (refused-call c)) (sizesOf empty)
-refused-told c = sym (ap answerOf (c .reading .given .1)) ∙ refused-call c .read .ensures .0
+refused-told c = sym (ap replyOf (c .reading .given .1)) ∙ refused-call c .read .ensures .0
 
 read-told : (c : tie.After-reading2)
     → let s = c .reading2 .given .0 .0 in read (s .span) (s .units) (s .rules) ≡ reading (input (sheet-call c)) (sizesOf empty)
-read-told c = sym (ap answerOf (c .reading2 .given .1)) ∙ sheet-call c .read .ensures .0
+read-told c = sym (ap replyOf (c .reading2 .given .1)) ∙ sheet-call c .read .ensures .0
 
 refuse-requires : tie.Need-refuse-requires
 refuse-requires c κs =

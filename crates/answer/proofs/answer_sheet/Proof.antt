@@ -3,15 +3,13 @@ use mathlib.Core.Path.{_≡_, sym, ap}
 use native.Mathlib.Omega.{arith}
 use denote.Ref.{now}
 use lib.Seq.{length-take-le}
-use Rattle.questions.specs.Questions.{refusalBy}
-use Rattle.questions.specs.declared.Refusal.{Refusal}
 use Rattle.sheet.specs.Sheet.{Sheet}
 use Rattle.read_ask.specs.Reading.{ListRooms, rooms}
 use Prim.Native.Nat.{ℕ}
 use mathlib.Core.List.{List}
 use Rattle.sheet.specs.Lists.{given}
 use Rattle.answer.specs.Answer.{AnswerToSheet, Answered}
-use Rattle.print.specs.declared.Printed.the-variants.{Refused, Plan, None}
+use Rattle.print.specs.Reply as says
 use Rattle.print_bytes.specs.Writing.{refusedLine}
 use Rattle.answer.specs.Fronts.{fronts}
 use Rattle.print.specs.OwnLaws.{ownRooms}
@@ -42,21 +40,24 @@ module _ (c : tie.After-print) where
   abbrev left : List ℕ
   left = c .print .last .1 .1 .1 .1 .1 .1 .1 .1 .1 .1 .1 .1 .0
 
-  refused-is : (f : Refusal) → c .print .result ≡ Refused f
-      → (f ≡ refusalBy 14 0) × (left ≡ now (begun .args .page)) × AnswerToSheet sheet (refusedLine (f .number) (f .line))
+  abbrev said : says.Reply
+  said = says.replyOf (c .print .result)
+
+  refused-is : (q n : ℕ) → said ≡ says.refused q n
+      → (q ≡ 14) × (n ≡ 0) × (left ≡ now (begun .args .page)) × AnswerToSheet sheet (refusedLine q n)
   refused-is =
       print-refused (fronts (begun .args .s) (lists begun)) ownRooms (held-solvable _ _ (begun .pre)) (now (begun .args .page))
-      (omega (arith, c .before .print-arg7 .given .0 .1)) (c .print .result) _ left (c .print .ensures)
+      (omega (arith, c .before .print-arg7 .given .0 .1)) said _ left (c .print .ensures)
 
-  plan-is : (next : ℕ) → c .print .result ≡ Plan next → Answered (AnswerToSheet sheet) (now (begun .args .page)) left next
+  plan-is : (next : ℕ) → said ≡ says.plan next → Answered (AnswerToSheet sheet) (now (begun .args .page)) left next
   plan-is =
       print-plan (fronts (begun .args .s) (lists begun)) ownRooms (held-solvable _ _ (begun .pre)) (now (begun .args .page))
-      (omega (arith, c .before .print-arg7 .given .0 .1)) (c .print .result) _ left (c .print .ensures)
+      (omega (arith, c .before .print-arg7 .given .0 .1)) said _ left (c .print .ensures)
 
-  none-is : (k next : ℕ) → c .print .result ≡ None k next → Answered (AnswerToSheet sheet) (now (begun .args .page)) left next
+  none-is : (k next : ℕ) → said ≡ says.none k next → Answered (AnswerToSheet sheet) (now (begun .args .page)) left next
   none-is =
       print-none (fronts (begun .args .s) (lists begun)) ownRooms (held-solvable _ _ (begun .pre)) (now (begun .args .page))
-      (omega (arith, c .before .print-arg7 .given .0 .1)) (c .print .result) _ left (c .print .ensures)
+      (omega (arith, c .before .print-arg7 .given .0 .1)) said _ left (c .print .ensures)
 
 slice-aggregate-print : tie.Need-slice-aggregate-print
 slice-aggregate-print c = sym (length-take-le _ _ (start c .pre .in-first))
@@ -79,20 +80,20 @@ slice-aggregate-print-6 c = sym (length-take-le _ _ (start (c .before .before .b
 refuse-requires : tie.Need-refuse-requires
 refuse-requires c κs =
     let told = c .before .before .printed .given in
-    let r = refused-is (c .before .before .before .before .before .before .before .before .before) (told .0 .0) (told .1) in
-    (omega (arith, ap (λ (g : Refusal). g .number) (r .0)), omega (arith, ap (λ (g : Refusal). g .line) (r .0)))
+    let r = refused-is (c .before .before .before .before .before .before .before .before .before) (told .0 .0 .number) (told .0 .0 .line) (ap says.replyOf (told .1)) in
+    (omega (arith, r .0), omega (arith, r .1))
 
 returns : tie.Need-returns
 returns c =
     let told = c .before .before .before .printed .given in
-    let r = refused-is (c .before .before .before .before .before .before .before .before .before .before) (told .0 .0) (told .1) in
-    refusal-answered (refusedLine (told .0 .0 .number) (told .0 .0 .line)) (r .2) (r .1) (c .refuse .ensures)
+    let r = refused-is (c .before .before .before .before .before .before .before .before .before .before) (told .0 .0 .number) (told .0 .0 .line) (ap says.replyOf (told .1)) in
+    refusal-answered (refusedLine (told .0 .0 .number) (told .0 .0 .line)) (r .3) (r .2) (c .refuse .ensures)
 
 returns-2 : tie.Need-returns-2
-returns-2 c = plan-is (c .before .before .before .before .before .before .before .before) _ (c .before .printed2 .given .1)
+returns-2 c = plan-is (c .before .before .before .before .before .before .before .before) _ (ap says.replyOf (c .before .printed2 .given .1))
 
 returns-3 : tie.Need-returns-3
-returns-3 c = none-is (c .before .before .before .before .before .before .before .before) _ _ (c .before .printed3 .given .1)
+returns-3 c = none-is (c .before .before .before .before .before .before .before .before) _ _ (ap says.replyOf (c .before .printed3 .given .1))
 
 pub answer-sheet-spec : {M : Type 1} → statement M
 answer-sheet-spec = tie.close (tie.spec slice-aggregate-print slice-aggregate-print-2 slice-aggregate-print-3 slice-aggregate-print-4

@@ -1,6 +1,6 @@
 -- The sheet is planned in arrays of the call's own; how that ended decides what the call leaves.
 -- Key idea: every need past the call of solve goes back to that call (`where-plan`, `where-ring`), and what planning left there answers it.
-use mathlib.Core.Path.{_≡_, refl, sym, _∙_}
+use mathlib.Core.Path.{_≡_, refl, sym, ap, _∙_}
 use mathlib.Core.List.{List}
 use Prim.Native.Nat.{ℕ}
 use native.Mathlib.Omega.{arith}
@@ -14,6 +14,7 @@ use Rattle.sheet.specs.Sheet.{Sheet, isRing}
 use Rattle.sheet.specs.Lists.{Lists, listed, given}
 use Rattle.plan_ask.specs.Questions.{Rooms, lent, passed}
 use Rattle.plan_solve.specs.Planning.{byPass, Settled}
+use Rattle.plan_solve.specs.Reply.{Reply, replyOf}
 use Rattle.print.specs.OwnLaws.{ownRooms, own-solvable, span-few, cells-few, cells-lent, refused-own, plan-own, plan-asked, plan-shown, none-own, limits-fillable, ring-asked, ring-shown, Front, PlanFronts}
 use Rattle.sheet.specs.Sizes.{maxCells, boundariesOf}
 use borrow.Author.Needs.{needs}
@@ -42,7 +43,11 @@ start c = c .before .before .before .before .before .before .before .before .bef
 abbrev sheet : tie.After-solve → Sheet
 sheet c = given (lists (start c))
 
-ends : (c : tie.After-solve) → Settled (byPass (passed (sheet c))) (sheet c) ownRooms (c .solve .result) (after c)
+-- what planning replied
+abbrev said : tie.After-solve → Reply
+said c = replyOf (c .solve .result)
+
+ends : (c : tie.After-solve) → Settled (byPass (passed (sheet c))) (sheet c) ownRooms (said c) (after c)
 ends c = c .solve .ensures
 
 own-cells : (c : tie.After-solve) → length (after c .table) ≡ maxCells
@@ -65,7 +70,7 @@ plan-found : (c : tie.After-enum-told) → let p = where-plan c in
 plan-found c =
     let p = where-plan c in
     let s = start p in
-    plan-own (lists s) (before s) (s .pre) (plan-w c) (plan-w-is c) ownRooms (after p) (p .solve .result) (ends p) (c .enum-told .given .1)
+    plan-own (lists s) (before s) (s .pre) (plan-w c) (plan-w-is c) ownRooms (after p) (said p) (ends p) (ap replyOf (c .enum-told .given .1))
 
 -- ---- none, and a ring
 abbrev where-ring : tie.After-answer2 → tie.After-solve
@@ -86,7 +91,7 @@ ring-found : (c : tie.After-answer2) → let p = where-ring c in
 ring-found c =
     let p = where-ring c in
     let s = start p in
-    none-own (lists s) (before s) (s .pre) (ring-w c) (ring-w-is c) ownRooms (after p) (p .solve .result) (ends p) (steps c) (c .answer2 .given .1)
+    none-own (lists s) (before s) (s .pre) (ring-w c) (ring-w-is c) ownRooms (after p) (said p) (ends p) (steps c) (ap replyOf (c .answer2 .given .1))
 
 -- ---- the needs, in order
 
@@ -141,7 +146,7 @@ returns c =
     let s = start p in
     let r = c .before .before .before .before .before .before .boundaries in
     let told = c .before .before .before .before .answer .given in
-    refused-own (lists s) (before s) (s .pre) (r .result) (r .ensures) ownRooms (after p) (p .solve .result) (ends p) (told .0 .0) (told .1)
+    refused-own (lists s) (before s) (s .pre) (r .result) (r .ensures) ownRooms (after p) (said p) (ends p) (told .0 .0 .number) (told .0 .0 .line) (ap replyOf (told .1))
     (c .before .clear .last .1 .0) (c .before .clear .ensures) (now (s .args .page)) (s .args .at)
 
 returns-2 : tie.Need-returns-2

@@ -88,6 +88,9 @@ returns : tie.Need-returns Inv-loop μ-loop
 returns c = pending-nothing (pending-after (last (c .before .before .before .before .before .before)) (c .before .before .put-step2 .ensures))
 
 pub put-steps-spec : {M : Type 1} → statement M
-put-steps-spec = tie.close (tie.spec Inv-loop μ-loop (λ c. omega arith) loop-holds (λ c. omega arith) (λ c. omega arith) (λ c. omega arith)
-    (λ c. omega arith) (λ c. omega arith) put-step-requires (λ c. omega arith) (λ c. omega arith) loop-again (λ c. omega arith) (λ c. omega arith)
-    (λ c. omega arith) put-step-requires-2 (λ c. omega arith) returns)
+put-steps-spec = tie.close (tie.spec Inv-loop μ-loop (λ c. omega arith) loop-holds (λ c. omega arith) (λ c. omega arith)
+    (λ c. omega (arith, c .shared-slice-known2 .given (c .before .before .before .loop .i))) (λ c. omega arith) (λ c. omega arith)
+    (λ c. omega arith) (λ c. omega (arith, c .shared-slice-known3 .given (c .before .before .before .before .loop .i + 1))) put-step-requires
+    (λ c. omega arith) (λ c. omega arith) loop-again (λ c. omega arith) (λ c. omega arith)
+    (λ c. let ring = now (c .before .before .before .before .before .before .args .ring) in omega (arith, c .shared-slice-known4 .given (length ring - 1)))
+    (λ c. omega arith) (λ c. omega (arith, c .shared-slice-known5 .given 0)) put-step-requires-2 (λ c. omega arith) returns)

@@ -1,0 +1,45 @@
+-- As many bytes as question 1 allows and one more decide the answer, so that the rest of a text need not be read.
+-- Key idea: a text that passes question 1 is its own front; of a longer one the front fails it too, and it is the first question.
+use mathlib.Core.Path.{_≡_, refl, sym, subst}
+use mathlib.Core.Logic.{_↔_}
+use mathlib.Core.Bool.{Bool, true, false}
+use mathlib.Core.List.{List}
+use Prim.Native.Nat.{ℕ, suc, _<_}
+use native.Mathlib.Omega.{arith}
+use lib.Dec.{leb}
+use lib.ListN.{length, take}
+use lib.Seq.{take-all, length-take-le}
+use borrow.Author.Tests.{leb-true, leb-false, lt-leb}
+use Rattle.questions.specs.Questions.{no, firstNo}
+use Rattle.questions.specs.FirstNoLaws.{no-here}
+use Rattle.sheet.specs.Sizes.{maxBytes}
+use Rattle.read_ask.specs.Reading.{questions, roomsForAll, sheetIn}
+use Rattle.print_bytes.specs.Writing.{refusedLine}
+use Rattle.answer.specs.Answer.{ByReading, AnswerTo}
+
+too-long : (input : List ℕ) → maxBytes < length input → firstNo (questions input roomsForAll) ≡ no 1 0
+unfolding questions
+too-long input long = no-here (leb (length input) maxBytes) 1 0 _ (lt-leb (length input) maxBytes long)
+
+refused-by-1 : (input bytes : List ℕ) → maxBytes < length input → AnswerTo input bytes ↔ (bytes ≡ refusedLine 1 0)
+refused-by-1 input bytes long = (
+  subst (λ v. ByReading v (sheetIn input) bytes) (too-long input long),
+  subst (λ v. ByReading v (sheetIn input) bytes) (sym (too-long input long)),
+)
+
+pub first-bytes-decide : (input bytes : List ℕ) → AnswerTo (take (suc maxBytes) input) bytes ↔ AnswerTo input bytes
+first-bytes-decide input bytes = go (leb (length input) maxBytes) refl
+  where
+    front : List ℕ
+    front = take (suc maxBytes) input
+
+    go : (b : Bool) → leb (length input) maxBytes ≡ b → AnswerTo front bytes ↔ AnswerTo input bytes
+    go true e =
+        let whole = take-all (suc maxBytes) input (omega (arith, leb-true (length input) maxBytes e)) in
+        (subst (λ t. AnswerTo t bytes) whole, subst (λ t. AnswerTo t bytes) (sym whole))
+    go false e =
+        let long = leb-false (length input) maxBytes e in
+        let cut = length-take-le (suc maxBytes) input (omega (arith, long)) in
+        let a = refused-by-1 front bytes (omega (arith, cut)) in
+        let b = refused-by-1 input bytes long in
+        (λ x. b .1 (a .0 x), λ x. a .1 (b .0 x))

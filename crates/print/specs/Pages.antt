@@ -1,0 +1,42 @@
+-- What the lines of an answer's page say of its sheet, in the words of lawful plans: the user's second and third conditions, of a page. Definitions only.
+-- `ls` are the lines as they are read back from the page's bytes (print_page/specs/PageLines.antt).
+use mathlib.Core.Path.{_≡_}
+use mathlib.Core.Logic.{_↔_}
+use mathlib.Core.List.{List, [], _∷_, _++_, map}
+use Prim.Native.Nat.{ℕ, _≤_}
+use lib.Dec.{T}
+use lib.ListN.{length, getD}
+use Rattle.lists.specs.Lists.{fromTo}
+use Rattle.slots.specs.Slots.{Slot, Boundary, slotBefore}
+use Rattle.sheet.specs.Sheet.{Sheet, top, unitPlaces, lawful, fair, countIn, leastIn, greatestIn, earliest, latest, limit, isRing}
+use Rattle.print_page.specs.Page.{shortfallOf}
+use Rattle.print_page.specs.PageLines.{Said, plan, none, shortfall, unitLinesWith, unitSaid, slotSaid, ringSaid}
+
+-- The lines of the plan x, all of them. The head has the number of units. Then a line for each unit, in order: its slot in x, and the earliest and the
+-- latest slot that it has in any lawful plan. Then a line for each slot, in order: how many of these very lines give a unit this slot, and the least
+-- and the greatest count of the slot over lawful plans.
+abbrev pub planLines : Sheet → List Slot → List Said → List Said
+planLines s x ls =
+    plan (length (s .units))
+    ∷ (map (unitSaid (λ j. getD x j 0) (earliest s) (latest s)) (unitPlaces s)
+    ++ map (slotSaid (λ t. unitLinesWith t ls) (λ t. leastIn s t t) (λ t. greatestIn s t t)) (fromTo 1 (s .span)))
+
+-- The lines are those of the plan x. It is lawful, has the seat property, and by the end of each slot no lawful plan has more deliveries. A number is a
+-- slot's count in some lawful plan exactly when it is from the slot line's least to its greatest.
+pub record PlanPage (s : Sheet) (x : List Slot) (ls : List Said) : Type 0 where
+  pub lines : ls ≡ planLines s x ls
+  pub legal : T (lawful s x)
+  pub seated : T (fair s x)
+  pub soonest : (y : List Slot) → T (lawful s y) → (t : Slot) → 1 ≤ t → t ≤ slotBefore (top s) → countIn 1 t y ≤ countIn 1 t x
+  pub ranges : (t : Slot) → 1 ≤ t → t ≤ s .span → (k : ℕ)
+      → ((y : List Slot) × T (lawful s y) × (countIn t t y ≡ k)) ↔ ((leastIn s t t ≤ k) × (k ≤ greatestIn s t t))
+
+-- The lines of a ring, all of them: the head, a line for each step in order, with the sheet's own limit, and the shortfall.
+abbrev pub noneLines : Sheet → List Boundary → List Said
+noneLines s ring = none ∷ (ringSaid (limit s) ring ++ (shortfall (shortfallOf (limit s) ring) ∷ []))
+
+-- The lines are those of a ring of the sheet's own limits, and no plan is lawful.
+pub record NonePage (s : Sheet) (ring : List Boundary) (ls : List Said) : Type 0 where
+  pub lines : ls ≡ noneLines s ring
+  pub closed : T (isRing s ring)
+  pub unlawful : (x : List Slot) → T (lawful s x) → ⊥
