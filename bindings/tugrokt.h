@@ -4,9 +4,20 @@
  * Any lists, any rooms and any numbers get an answer. The caller's one duty is that of every C function: each pointer has
  * as many places behind it as the length beside it says, and what is lent for writing overlaps nothing else.
  *
- * The reply is 0, or the number of the question that refused the call (docs/RULES.md has them all). A refused call changes no
- * room; only 14, a sum out of range, leaves the table's places 0. The numbers that a call gives beside its reply are always
- * written, with 0 for what the reply does not have; a running place that nothing was printed at stays as it was.
+ * A call replies with a struct by value and writes nothing but the lent rooms. In every reply, number is 0, or that of the
+ * question that was answered no and so refused the call, and line is the line that a refusal names, from 1, or 0 for none. What a
+ * reply does not have is 0. Later versions add fields to a reply, only at its end; compile with the header of the library
+ * that is linked.
+ *
+ * The questions in the order in which they are asked, by number (docs/RULES.md has their words); the first no decides:
+ *
+ *     tugrokt_read     1; then line by line 2, 11 (of notes), 3, 4, 5, 6, 7, 8, 9, 10; then 5 for the whole; then 12
+ *     tugrokt_plan     13, 6, 9, 10, 7 of the units, 7 of the rules, 8, 12, 14
+ *     tugrokt_print    what tugrokt_plan asks, then 15
+ *
+ * A refused call changes nothing that it was lent, save that by 14, a sum out of range, the table's
+ * (span + 1) * (span + 1) places become 0. Places of a room past those that an answer needs never change.
+ *
  * Link target/staticlib/libtugrokt.a, which `rt staticlib tugrokt` makes.
  */
 #ifndef TUGROKT_H
@@ -32,44 +43,65 @@
 extern "C" {
 #endif
 
-/*
- * Reads a sheet into six lists: each unit's window, first to last; each rule's stretch, from to to, and its count, low to
- * high. The span and the lengths of the lists stand in *span, *units and *rules, and 0 in *line. A refusal has its line in
- * *line, and 0 in the other three.
- */
-size_t tugrokt_read(const uint8_t *text, size_t text_length,
-                    uint16_t *first, size_t first_length, uint16_t *last, size_t last_length,
-                    uint16_t *from, size_t from_length, uint16_t *to, size_t to_length,
-                    uint16_t *low, size_t low_length, uint16_t *high, size_t high_length,
-                    size_t *line, size_t *span, size_t *units, size_t *rules);
+struct tugrokt_reading {
+    size_t number;
+    size_t line;
+    size_t span;  /* of the sheet that was read */
+    size_t units; /* the length of its lists of units */
+    size_t rules; /* the length of its lists of rules */
+};
+
+struct tugrokt_planning {
+    size_t number;
+    size_t line;
+    size_t length; /* of the ring, where there is no plan; 0 for a plan */
+};
+
+struct tugrokt_printing {
+    size_t number;
+    size_t line;
+    size_t length; /* of the ring, as in tugrokt_planning */
+    size_t place;  /* just past the answer; as it was given where the call was refused */
+};
 
 /*
- * Plans from lists. With a plan, *length is 0, plan has each unit's slot, earliest and latest its narrowed window, and table,
- * with w = span + 1 numbers a row, the greatest count of the slots a+1 to b at a*w + b, and minus the least at b*w + a.
- * With none, *length boundaries stand in ring, whose steps' limits add up to less than 0, and the w*w places of table are 0.
- * A refusal has *length 0.
- * Rooms needed: w*w in table, w in ring, a place for each unit in the others.
+ * Reads a sheet into six lists, each at the front of its room: each unit's window, first to last; each rule's stretch, from to
+ * to, and its count, low to high.
  */
-size_t tugrokt_plan(size_t span,
-                    const uint16_t *first, size_t first_length, const uint16_t *last, size_t last_length,
-                    const uint16_t *from, size_t from_length, const uint16_t *to, size_t to_length,
-                    const uint16_t *low, size_t low_length, const uint16_t *high, size_t high_length,
-                    int16_t *table, size_t table_length, uint16_t *plan, size_t plan_length,
-                    uint16_t *earliest, size_t earliest_length, uint16_t *latest, size_t latest_length,
-                    uint16_t *ring, size_t ring_length, size_t *length);
+struct tugrokt_reading tugrokt_read(
+    const uint8_t *text, size_t text_length,
+    uint16_t *first, size_t first_length, uint16_t *last, size_t last_length,
+    uint16_t *from, size_t from_length, uint16_t *to, size_t to_length,
+    uint16_t *low, size_t low_length, uint16_t *high, size_t high_length);
 
 /*
- * Plans from lists, prints the answer on the page from *place on, and moves *place just past it. The rooms and *length are left as
- * by tugrokt_plan. A refusal, also by 15 where the page does not hold the answer, leaves page and *place.
+ * Plans from lists. With a plan, plan has each unit's slot, earliest and latest its narrowed window, and table, with
+ * w = span + 1 numbers a row, the greatest count of the slots a+1 to b at a*w + b, and minus the least at b*w + a; ring is
+ * unchanged. With none, length boundaries stand at the front of ring, whose steps' limits add up to less than 0, and the w*w
+ * places of table are 0; plan, earliest and latest are unchanged.
+ * Rooms needed: w*w places in table, w in ring, one for each unit in the others.
  */
-size_t tugrokt_print(size_t span,
-                     const uint16_t *first, size_t first_length, const uint16_t *last, size_t last_length,
-                     const uint16_t *from, size_t from_length, const uint16_t *to, size_t to_length,
-                     const uint16_t *low, size_t low_length, const uint16_t *high, size_t high_length,
-                     int16_t *table, size_t table_length, uint16_t *plan, size_t plan_length,
-                     uint16_t *earliest, size_t earliest_length, uint16_t *latest, size_t latest_length,
-                     uint16_t *ring, size_t ring_length, uint8_t *page, size_t page_length, size_t *place,
-                     size_t *length);
+struct tugrokt_planning tugrokt_plan(
+    size_t span,
+    const uint16_t *first, size_t first_length, const uint16_t *last, size_t last_length,
+    const uint16_t *from, size_t from_length, const uint16_t *to, size_t to_length,
+    const uint16_t *low, size_t low_length, const uint16_t *high, size_t high_length,
+    int16_t *table, size_t table_length, uint16_t *plan, size_t plan_length,
+    uint16_t *earliest, size_t earliest_length, uint16_t *latest, size_t latest_length,
+    uint16_t *ring, size_t ring_length);
+
+/*
+ * Plans from lists and prints the answer on the page from the given place on. The rooms are left as by tugrokt_plan, but
+ * where the page does not hold the whole answer the call is refused by 15 and changes neither page nor rooms.
+ */
+struct tugrokt_printing tugrokt_print(
+    size_t span,
+    const uint16_t *first, size_t first_length, const uint16_t *last, size_t last_length,
+    const uint16_t *from, size_t from_length, const uint16_t *to, size_t to_length,
+    const uint16_t *low, size_t low_length, const uint16_t *high, size_t high_length,
+    int16_t *table, size_t table_length, uint16_t *plan, size_t plan_length,
+    uint16_t *earliest, size_t earliest_length, uint16_t *latest, size_t latest_length,
+    uint16_t *ring, size_t ring_length, uint8_t *page, size_t page_length, size_t place);
 
 #ifdef __cplusplus
 }

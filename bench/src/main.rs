@@ -67,7 +67,7 @@ impl Side for Plain {
 mod planner {
     use super::{black_box, Case, Job, Side};
     use model::network::{self, Outcome};
-    use tugrokt::entry::{self, Counts, ListRooms, Lists, Rooms};
+    use tugrokt::entry::{self, ListRooms, Lists, Reading, Rooms};
     use tugrokt::{MAX_BOUNDARIES, MAX_CELLS, MAX_PAGE, MAX_RULES, MAX_UNITS};
 
     /// The planner, with rooms that are lent again and again.
@@ -96,12 +96,11 @@ mod planner {
             }
         }
 
-        fn read(&mut self, text: &[u8]) -> Counts {
+        fn read(&mut self, text: &[u8]) -> Reading {
             let [first, last, from, to, low, high] = &mut self.lists;
-            let mut counts = Counts::default();
-            let reply = entry::read(text, ListRooms { first, last, from, to, low, high }, &mut counts);
-            assert_eq!(reply, 0, "the cases are sheets");
-            counts
+            let reply = entry::read(text, ListRooms { first, last, from, to, low, high });
+            assert_eq!(reply.number, 0, "the cases are sheets");
+            reply
         }
 
         fn pass(&mut self, limits: &[i16], w: usize) -> Option<Outcome> {
@@ -112,32 +111,29 @@ mod planner {
         fn plan(&mut self, sheet: &plain::Sheet) -> usize {
             let [plan, earliest, latest] = &mut self.rooms;
             let rooms = Rooms { table: &mut self.table, plan, earliest, latest, ring: &mut self.ring };
-            let mut length = 0;
-            let reply = entry::plan(lists(sheet), rooms, &mut length);
-            assert_eq!(reply, 0, "the cases are sheets");
-            length
+            let reply = entry::plan(lists(sheet), rooms);
+            assert_eq!(reply.number, 0, "the cases are sheets");
+            reply.length
         }
 
         fn print(&mut self, sheet: &plain::Sheet) -> usize {
             let [plan, earliest, latest] = &mut self.rooms;
             let rooms = Rooms { table: &mut self.table, plan, earliest, latest, ring: &mut self.ring };
-            let mut place = 0;
-            let reply = entry::print(lists(sheet), rooms, &mut self.page, &mut place, &mut 0);
-            assert_eq!(reply, 0, "the page is long enough");
-            place
+            let reply = entry::print(lists(sheet), rooms, &mut self.page, 0);
+            assert_eq!(reply.number, 0, "the page is long enough");
+            reply.place
         }
 
         fn whole(&mut self, text: &[u8]) -> usize {
-            let Counts { span, units, rules, .. } = self.read(text);
+            let Reading { span, units, rules, .. } = self.read(text);
             let [first, last, from, to, low, high] = &self.lists;
             let [first, last] = [first, last].map(|list| &list[..units]);
             let [from, to, low, high] = [from, to, low, high].map(|list| &list[..rules]);
             let [plan, earliest, latest] = &mut self.rooms;
             let rooms = Rooms { table: &mut self.table, plan, earliest, latest, ring: &mut self.ring };
-            let mut place = 0;
-            let reply = entry::print(Lists { span, first, last, from, to, low, high }, rooms, &mut self.page, &mut place, &mut 0);
-            assert_eq!(reply, 0, "the page is long enough");
-            place
+            let reply = entry::print(Lists { span, first, last, from, to, low, high }, rooms, &mut self.page, 0);
+            assert_eq!(reply.number, 0, "the page is long enough");
+            reply.place
         }
     }
 

@@ -18,21 +18,26 @@ static uint16_t ring[TUGROKT_MAX_BOUNDARIES];
 
 int main(void)
 {
-    size_t text_length = fread(text, 1, sizeof text, stdin);
-    size_t line = 0, span = 0, units = 0, rules = 0, length = 0, question, i;
+    size_t text_length = fread(text, 1, sizeof text, stdin), i;
+    struct tugrokt_reading read;
+    struct tugrokt_planning planned;
 
-    question = tugrokt_read(text, text_length, first, TUGROKT_MAX_UNITS, last, TUGROKT_MAX_UNITS, from, TUGROKT_MAX_RULES, to,
-                            TUGROKT_MAX_RULES, low, TUGROKT_MAX_RULES, high, TUGROKT_MAX_RULES, &line, &span, &units, &rules);
-    if (question == 0)
-        question = tugrokt_plan(span, first, units, last, units, from, rules, to, rules, low, rules, high, rules, table,
-                                TUGROKT_MAX_CELLS, plan, units, earliest, units, latest, units, ring, span + 1, &length);
-    if (question != 0) {
-        printf("(refused %zu (line %zu))\n", question, line);
+    read = tugrokt_read(text, text_length, first, TUGROKT_MAX_UNITS, last, TUGROKT_MAX_UNITS, from, TUGROKT_MAX_RULES, to,
+                        TUGROKT_MAX_RULES, low, TUGROKT_MAX_RULES, high, TUGROKT_MAX_RULES);
+    if (read.number != 0) {
+        printf("(refused %zu (line %zu))\n", read.number, read.line);
         return 1;
     }
-    for (i = 0; i < length; i++)
+    planned = tugrokt_plan(read.span, first, read.units, last, read.units, from, read.rules, to, read.rules, low, read.rules, high,
+                           read.rules, table, TUGROKT_MAX_CELLS, plan, TUGROKT_MAX_UNITS, earliest, TUGROKT_MAX_UNITS, latest,
+                           TUGROKT_MAX_UNITS, ring, TUGROKT_MAX_BOUNDARIES);
+    if (planned.number != 0) {
+        printf("(refused %zu (line %zu))\n", planned.number, planned.line);
+        return 1;
+    }
+    for (i = 0; i < planned.length; i++)
         printf("boundary %u\n", (unsigned)ring[i]);
-    for (i = 0; length == 0 && i < units; i++)
+    for (i = 0; planned.length == 0 && i < read.units; i++)
         printf("unit %zu: slot %u, from %u to %u\n", i + 1, (unsigned)plan[i], (unsigned)earliest[i], (unsigned)latest[i]);
     return 0;
 }

@@ -19,17 +19,21 @@ static uint16_t ring[TUGROKT_MAX_BOUNDARIES];
 int main(void)
 {
     size_t text_length = fread(text, 1, sizeof text, stdin);
-    size_t line = 0, span = 0, units = 0, rules = 0, place = 0, length = 0, question;
+    struct tugrokt_reading read;
+    struct tugrokt_printing printed;
 
-    question = tugrokt_read(text, text_length, first, TUGROKT_MAX_UNITS, last, TUGROKT_MAX_UNITS, from, TUGROKT_MAX_RULES, to,
-                            TUGROKT_MAX_RULES, low, TUGROKT_MAX_RULES, high, TUGROKT_MAX_RULES, &line, &span, &units, &rules);
-    if (question == 0)
-        question = tugrokt_print(span, first, units, last, units, from, rules, to, rules, low, rules, high, rules, table,
-                                 TUGROKT_MAX_CELLS, plan, units, earliest, units, latest, units, ring, span + 1, page, sizeof page,
-                                 &place, &length);
-    if (question != 0) {
-        printf("(refused %zu (line %zu))\n", question, line);
+    read = tugrokt_read(text, text_length, first, TUGROKT_MAX_UNITS, last, TUGROKT_MAX_UNITS, from, TUGROKT_MAX_RULES, to,
+                        TUGROKT_MAX_RULES, low, TUGROKT_MAX_RULES, high, TUGROKT_MAX_RULES);
+    if (read.number != 0) {
+        printf("(refused %zu (line %zu))\n", read.number, read.line);
         return 1;
     }
-    return fwrite(page, 1, place, stdout) == place ? 0 : 1;
+    printed = tugrokt_print(read.span, first, read.units, last, read.units, from, read.rules, to, read.rules, low, read.rules, high,
+                            read.rules, table, TUGROKT_MAX_CELLS, plan, TUGROKT_MAX_UNITS, earliest, TUGROKT_MAX_UNITS, latest,
+                            TUGROKT_MAX_UNITS, ring, TUGROKT_MAX_BOUNDARIES, page, sizeof page, 0);
+    if (printed.number != 0) {
+        printf("(refused %zu (line %zu))\n", printed.number, printed.line);
+        return 1;
+    }
+    return fwrite(page, 1, printed.place, stdout) == printed.place ? 0 : 1;
 }

@@ -1,7 +1,47 @@
 //! The C interface, as the Rattle crates export it. This is the only place in Rust that has it; `tugrokt.h` says the same in C.
 //! No compiler checks these declarations against the Rattle source. `tests/tests/declarations.rs` does.
 //!
-//! A slice passes as a pointer and its length, a number that is written passes as a pointer.
+//! A slice passes as a pointer and its length, a reply as a struct by value.
+
+/// What reading replies. As in every reply, what it does not have is 0, and a later version's new fields stand at the end.
+#[repr(C)]
+#[derive(Clone, Copy, Debug, PartialEq, Eq)]
+pub struct Reading {
+    /// The number of the question that refused the text, and 0 for a sheet.
+    pub number: usize,
+    /// The line that a refusal names.
+    pub line: usize,
+    /// The span of the sheet, and the lengths of its lists.
+    pub span: usize,
+    pub units: usize,
+    pub rules: usize,
+}
+
+/// What planning replies.
+#[repr(C)]
+#[derive(Clone, Copy, Debug, PartialEq, Eq)]
+pub struct Planning {
+    /// The number of the question that refused the call, and 0 for an answer.
+    pub number: usize,
+    /// The line that a refusal names.
+    pub line: usize,
+    /// The length of the ring where there is no plan, and 0 for a plan.
+    pub length: usize,
+}
+
+/// What printing replies.
+#[repr(C)]
+#[derive(Clone, Copy, Debug, PartialEq, Eq)]
+pub struct Printing {
+    /// The number of the question that refused the call, and 0 for an answer.
+    pub number: usize,
+    /// The line that a refusal names.
+    pub line: usize,
+    /// The length of the ring where there is no plan, and 0 for a plan.
+    pub length: usize,
+    /// The place just past the answer, and for a refusal the place that was given.
+    pub place: usize,
+}
 
 extern "C" {
     pub fn tugrokt_read(
@@ -19,11 +59,7 @@ extern "C" {
         low_length: usize,
         high: *mut u16,
         high_length: usize,
-        line: *mut usize,
-        span: *mut usize,
-        units: *mut usize,
-        rules: *mut usize,
-    ) -> usize;
+    ) -> Reading;
 }
 
 extern "C" {
@@ -51,8 +87,7 @@ extern "C" {
         latest_length: usize,
         ring: *mut u16,
         ring_length: usize,
-        length: *mut usize,
-    ) -> usize;
+    ) -> Planning;
 }
 
 extern "C" {
@@ -82,7 +117,6 @@ extern "C" {
         ring_length: usize,
         page: *mut u8,
         page_length: usize,
-        place: *mut usize,
-        length: *mut usize,
-    ) -> usize;
+        place: usize,
+    ) -> Printing;
 }

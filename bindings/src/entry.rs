@@ -2,8 +2,11 @@
 //!
 //! The entries ask nothing of their caller: any lists, any rooms and any numbers get an answer. So the only duty here is the
 //! one that Rust's references already meet, that slices are valid and those lent for writing do not overlap.
+//!
+//! A refused call changes nothing that it was lent, save that by question 14, a sum out of range, the table's places become 0.
 
 use crate::border;
+pub use crate::border::{Planning, Printing, Reading};
 
 /// The lists that planning takes. Lists that belong together have equal length, or the call is refused (13).
 #[derive(Clone, Copy, Debug)]
@@ -46,19 +49,8 @@ pub struct ListRooms<'a> {
     pub high: &'a mut [u16],
 }
 
-/// The numbers that reading gives beside its reply.
-#[derive(Clone, Copy, Debug, Default, PartialEq, Eq)]
-pub struct Counts {
-    /// The line that a refusal names, and 0 for a sheet.
-    pub line: usize,
-    /// The sheet's numbers, and 0 for a refusal.
-    pub span: usize,
-    pub units: usize,
-    pub rules: usize,
-}
-
-/// Reads a sheet. The reply is 0, or the number of the question that refused it. All four counts are written.
-pub fn read(text: &[u8], lists: ListRooms, counts: &mut Counts) -> usize {
+/// Reads a sheet into the front of the lists.
+pub fn read(text: &[u8], lists: ListRooms) -> Reading {
     let ListRooms { first, last, from, to, low, high } = lists;
     // SAFETY: each pointer comes from a reference with the length beside it, and the entry has no further demand.
     unsafe {
@@ -77,17 +69,12 @@ pub fn read(text: &[u8], lists: ListRooms, counts: &mut Counts) -> usize {
             low.len(),
             high.as_mut_ptr(),
             high.len(),
-            &mut counts.line,
-            &mut counts.span,
-            &mut counts.units,
-            &mut counts.rules,
         )
     }
 }
 
-/// Plans from lists. The reply is 0, or the number of the question that refused the call. `ring_length` becomes the length of the
-/// ring where there is no plan, and 0 for a plan and for a refusal.
-pub fn plan(lists: Lists, rooms: Rooms, ring_length: &mut usize) -> usize {
+/// Plans from lists.
+pub fn plan(lists: Lists, rooms: Rooms) -> Planning {
     let Lists { span, first, last, from, to, low, high } = lists;
     let Rooms { table, plan, earliest, latest, ring } = rooms;
     // SAFETY: each pointer comes from a reference with the length beside it, and the entry has no further demand.
@@ -116,14 +103,12 @@ pub fn plan(lists: Lists, rooms: Rooms, ring_length: &mut usize) -> usize {
             latest.len(),
             ring.as_mut_ptr(),
             ring.len(),
-            ring_length,
         )
     }
 }
 
-/// Plans from lists and prints the answer on the page from `place` on; then `place` is just past it. The reply is 0, or the
-/// number of the question that refused the call; `ring_length` is as in [`plan`].
-pub fn print(lists: Lists, rooms: Rooms, page: &mut [u8], place: &mut usize, ring_length: &mut usize) -> usize {
+/// Plans from lists and prints the answer on the page from `place` on.
+pub fn print(lists: Lists, rooms: Rooms, page: &mut [u8], place: usize) -> Printing {
     let Lists { span, first, last, from, to, low, high } = lists;
     let Rooms { table, plan, earliest, latest, ring } = rooms;
     // SAFETY: each pointer comes from a reference with the length beside it, and the entry has no further demand.
@@ -155,7 +140,6 @@ pub fn print(lists: Lists, rooms: Rooms, page: &mut [u8], place: &mut usize, rin
             page.as_mut_ptr(),
             page.len(),
             place,
-            ring_length,
         )
     }
 }

@@ -1,7 +1,7 @@
 //! The wave planner, called from Rust.
 //!
 //! [`Sheet`] reads, plans and prints with rooms of its own; [`entry`] has the planner's open entries as they are, with every
-//! room lent by the caller. Only numbers and slices cross the border.
+//! room lent by the caller. Only numbers, slices and structs of numbers cross the border.
 //!
 //! ```
 //! # fn main() -> Result<(), tugrokt::Refusal> {
@@ -47,6 +47,14 @@ impl std::fmt::Display for Refusal {
 }
 
 impl std::error::Error for Refusal {}
+
+/// The refusal of a reply with this number and line, if it is one.
+fn unless_refused(number: usize, line: usize) -> Result<(), Refusal> {
+    match number {
+        0 => Ok(()),
+        question => Err(Refusal { question, line }),
+    }
+}
 
 /// A sheet as parallel lists: a window for each unit, a stretch and a count for each rule.
 #[derive(Clone, Debug, Default, PartialEq, Eq)]
@@ -125,7 +133,6 @@ impl Sheet {
         let rules = || vec![0; MAX_RULES];
         let (mut first, mut last) = (units(), units());
         let (mut from, mut to, mut low, mut high) = (rules(), rules(), rules(), rules());
-        let mut counts = entry::Counts::default();
         let lists = entry::ListRooms {
             first: &mut first,
             last: &mut last,
@@ -134,30 +141,25 @@ impl Sheet {
             low: &mut low,
             high: &mut high,
         };
-        let question = entry::read(text, lists, &mut counts);
-        if question != 0 {
-            return Err(Refusal { question, line: counts.line });
-        }
+        let reply = entry::read(text, lists);
+        unless_refused(reply.number, reply.line)?;
         for list in [&mut first, &mut last] {
-            list.truncate(counts.units);
+            list.truncate(reply.units);
         }
         for list in [&mut from, &mut to, &mut low, &mut high] {
-            list.truncate(counts.rules);
+            list.truncate(reply.rules);
         }
-        Ok(Sheet { span: counts.span, first, last, from, to, low, high })
+        Ok(Sheet { span: reply.span, first, last, from, to, low, high })
     }
 
     /// Plans the sheet.
     pub fn plan(&self) -> Result<Answer, Refusal> {
         let mut own = OwnRooms::new(self);
-        let mut length = 0;
-        let question = entry::plan(self.lists(), own.lend(), &mut length);
-        if question != 0 {
-            return Err(Refusal { question, line: 0 });
-        }
+        let reply = entry::plan(self.lists(), own.lend());
+        unless_refused(reply.number, reply.line)?;
         let OwnRooms { table, plan, earliest, latest, mut ring } = own;
-        if length > 0 {
-            ring.truncate(length);
+        if reply.length > 0 {
+            ring.truncate(reply.length);
             return Ok(Answer::None { ring });
         }
         Ok(Answer::Plan(Plan { slot: plan, earliest, latest, table, span: self.span }))
@@ -167,12 +169,9 @@ impl Sheet {
     pub fn page(&self) -> Result<Vec<u8>, Refusal> {
         let mut own = OwnRooms::new(self);
         let mut page = vec![0; MAX_PAGE];
-        let mut place = 0;
-        let question = entry::print(self.lists(), own.lend(), &mut page, &mut place, &mut 0);
-        if question != 0 {
-            return Err(Refusal { question, line: 0 });
-        }
-        page.truncate(place);
+        let reply = entry::print(self.lists(), own.lend(), &mut page, 0);
+        unless_refused(reply.number, reply.line)?;
+        page.truncate(reply.place);
         Ok(page)
     }
 }

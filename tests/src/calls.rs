@@ -3,7 +3,7 @@
 use crate::questions::{planning_refusal, Lengths, Lists};
 use crate::reading::{read_into, Refusal};
 use crate::sheet::{Sheet, Solved};
-use tugrokt::entry;
+use tugrokt::entry::{self, Planning, Printing, Reading};
 
 /// Marks that no answer has, other ones in neighbouring places.
 pub fn marked_u16(length: usize) -> Vec<u16> {
@@ -17,9 +17,6 @@ pub fn marked_i16(length: usize) -> Vec<i16> {
 pub fn marked_u8(length: usize) -> Vec<u8> {
     (0..length).map(|i| 128 + (i * 7 % 128) as u8).collect()
 }
-
-/// A number that is lent and not yet written.
-pub const MARK: usize = 0xdead_beef;
 
 pub fn lent(lists: &Lists) -> entry::Lists<'_> {
     entry::Lists {
@@ -101,54 +98,43 @@ pub fn rooms_fault(got: &Rooms, expected: &Rooms) -> Option<String> {
 /// is not looked at if the call is to be refused.
 pub fn planning_fault(lists: &Lists, lengths: &Lengths, solved: Option<&Solved>) -> Option<String> {
     let mut rooms = Rooms::marked(lengths);
-    let mut ring_length = MARK;
-    let reply = entry::plan(lent(lists), rooms.lend(), &mut ring_length);
-    let refusal = planning_refusal(lists, lengths);
-    if let Some(fault) = differ("reply", &reply, &refusal) {
-        return Some(fault);
-    }
-    if refusal != 0 {
-        return differ("ring length", &ring_length, &0)
-            .or_else(|| rooms_fault(&rooms, &Rooms::marked(lengths)));
-    }
-    if let Some(solved) = solved {
-        return differ("ring length", &ring_length, &0)
-            .or_else(|| rooms_fault(&rooms, &Rooms::with_plan(lengths, solved)));
-    }
-    let sheet = lists.sheet();
-    if ring_length > rooms.ring.len() {
-        return Some(format!("a ring of {ring_length} boundaries"));
-    }
-    let ring = rooms.ring[..ring_length].to_vec();
-    if let Some(fault) = sheet.ring_fault(&ring) {
-        return Some(format!("{ring:?} is no ring: {fault}"));
-    }
-    rooms_fault(&rooms, &Rooms::with_ring(lengths, &sheet, &ring))
+    let reply = entry::plan(lent(lists), rooms.lend());
+    let number = planning_refusal(lists, lengths);
+    let (length, expected_rooms) = if number != 0 {
+        (0, Rooms::marked(lengths))
+    } else if let Some(solved) = solved {
+        (0, Rooms::with_plan(lengths, solved))
+    } else {
+        let sheet = lists.sheet();
+        let Some(ring) = rooms.ring.get(..reply.length) else {
+            return Some(format!("{reply:?} in a room of {} places", rooms.ring.len()));
+        };
+        if let Some(fault) = sheet.ring_fault(ring) {
+            return Some(format!("{ring:?} is no ring: {fault}"));
+        }
+        (ring.len(), Rooms::with_ring(lengths, &sheet, ring))
+    };
+    differ("reply", &reply, &Planning { number, line: 0, length }).or_else(|| rooms_fault(&rooms, &expected_rooms))
 }
 
 /// What one call of print left.
 #[derive(Clone, Debug, PartialEq, Eq)]
 pub struct Printed {
-    pub reply: usize,
+    pub reply: Printing,
     pub rooms: Rooms,
     pub page: Vec<u8>,
-    pub place: usize,
-    pub ring_length: usize,
 }
 
 /// Prints in marked rooms of these lengths onto a marked page of this length, from this place on.
 pub fn print(lists: &Lists, lengths: &Lengths, page_length: usize, place: usize) -> Printed {
-    let mut printed =
-        Printed { reply: 0, rooms: Rooms::marked(lengths), page: marked_u8(page_length), place, ring_length: MARK };
-    let Printed { rooms, page, place, ring_length, .. } = &mut printed;
-    printed.reply = entry::print(lent(lists), rooms.lend(), page, place, ring_length);
-    printed
+    let (mut rooms, mut page) = (Rooms::marked(lengths), marked_u8(page_length));
+    let reply = entry::print(lent(lists), rooms.lend(), &mut page, place);
+    Printed { reply, rooms, page }
 }
 
 /// Is this what a refused call leaves?
 pub fn refused_print_fault(printed: &Printed, number: usize, lengths: &Lengths, place: usize) -> Option<String> {
-    differ("reply", &(printed.reply, printed.ring_length), &(number, 0))
-        .or_else(|| differ("place", &printed.place, &place))
+    differ("reply", &printed.reply, &Printing { number, line: 0, length: 0, place })
         .or_else(|| differ("page", &printed.page, &marked_u8(printed.page.len())))
         .or_else(|| rooms_fault(&printed.rooms, &Rooms::marked(lengths)))
 }
@@ -169,29 +155,23 @@ pub fn printing_fault(
     }
     let sheet = lists.sheet();
     let long = print(lists, lengths, before + tugrokt::MAX_PAGE + extra, before);
-    if long.reply != 0 {
-        return Some(format!("refused by {}", long.reply));
-    }
-    let ring_length = long.ring_length;
-    if (ring_length > 0) != solved.is_none() || ring_length > long.rooms.ring.len() {
-        return Some(format!("a ring of {ring_length} boundaries"));
-    }
-    let (expected_rooms, expected_page) = match solved {
-        Some(solved) => (Rooms::with_plan(lengths, solved), crate::page::of_plan(&sheet, solved)),
+    let (length, expected_rooms, expected_page) = match solved {
+        Some(solved) => (0, Rooms::with_plan(lengths, solved), crate::page::of_plan(&sheet, solved)),
         None => {
-            let ring = &long.rooms.ring[..ring_length];
+            let Some(ring) = long.rooms.ring.get(..long.reply.length) else {
+                return Some(format!("{:?} in a room of {} places", long.reply, long.rooms.ring.len()));
+            };
             if let Some(fault) = sheet.ring_fault(ring) {
                 return Some(format!("{ring:?} is no ring: {fault}"));
             }
-            (Rooms::with_ring(lengths, &sheet, ring), crate::page::of_ring(&sheet, ring))
+            (ring.len(), Rooms::with_ring(lengths, &sheet, ring), crate::page::of_ring(&sheet, ring))
         }
     };
     let end = before + expected_page.len();
     let good = |printed: &Printed| {
         let mut page = marked_u8(printed.page.len());
         page[before..end].copy_from_slice(&expected_page);
-        differ("reply", &(printed.reply, printed.ring_length), &(0, ring_length))
-            .or_else(|| differ("place", &printed.place, &end))
+        differ("reply", &printed.reply, &Printing { number: 0, line: 0, length, place: end })
             .or_else(|| differ("page", &String::from_utf8_lossy(&printed.page), &String::from_utf8_lossy(&page)))
             .or_else(|| rooms_fault(&printed.rooms, &expected_rooms))
     };
@@ -205,22 +185,18 @@ pub fn reading_fault(text: &[u8], units: [usize; 2], rules: [usize; 4]) -> Optio
     let marked = || [units[0], units[1], rules[0], rules[1], rules[2], rules[3]].map(marked_u16);
     let mut rooms = marked();
     let mut expected_rooms = marked();
-    let mut counts = entry::Counts { line: MARK, span: MARK, units: MARK, rules: MARK };
     let [first, last, from, to, low, high] = &mut rooms;
-    let reply = entry::read(text, entry::ListRooms { first, last, from, to, low, high }, &mut counts);
-    let (number, expected_counts) = match read_into(text, units, rules) {
-        Err(Refusal { number, line }) => (number, entry::Counts { line, ..entry::Counts::default() }),
+    let reply = entry::read(text, entry::ListRooms { first, last, from, to, low, high });
+    let expected = match read_into(text, units, rules) {
+        Err(Refusal { number, line }) => Reading { number, line, span: 0, units: 0, rules: 0 },
         Ok(sheet) => {
             let lists = Lists::from(&sheet);
             let all = [&lists.first, &lists.last, &lists.from, &lists.to, &lists.low, &lists.high];
             for (room, list) in expected_rooms.iter_mut().zip(all) {
                 room[..list.len()].copy_from_slice(list);
             }
-            let (units, rules) = (sheet.units.len(), sheet.rules.len());
-            (0, entry::Counts { line: 0, span: sheet.span, units, rules })
+            Reading { number: 0, line: 0, span: sheet.span, units: sheet.units.len(), rules: sheet.rules.len() }
         }
     };
-    differ("reply", &(reply, counts.line), &(number, expected_counts.line))
-        .or_else(|| differ("counts", &counts, &expected_counts))
-        .or_else(|| differ("lists", &rooms, &expected_rooms))
+    differ("reply", &reply, &expected).or_else(|| differ("lists", &rooms, &expected_rooms))
 }

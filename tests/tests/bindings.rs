@@ -59,31 +59,77 @@ fn refusals() {
     assert_eq!(Refusal { question: 7, line: 3 }.to_string(), "(refused 7 (line 3))");
 }
 
-/// What a command writes when it is given this text.
-fn written(command: &mut Command, text: &[u8]) -> String {
+/// What a command writes when it is given this text, and whether it ends well.
+fn run(command: &mut Command, text: &[u8]) -> (String, bool) {
     let mut child = command.stdin(Stdio::piped()).stdout(Stdio::piped()).spawn().expect("the command starts");
     // A program that reads nothing may have ended.
     let _ = child.stdin.take().unwrap().write_all(text);
-    String::from_utf8(child.wait_with_output().unwrap().stdout).unwrap()
+    let output = child.wait_with_output().unwrap();
+    (String::from_utf8(output.stdout).unwrap(), output.status.success())
+}
+
+fn written(command: &mut Command, text: &[u8]) -> String {
+    run(command, text).0
 }
 
 fn bindings() -> PathBuf {
     Path::new(env!("ROOT")).join("bindings")
 }
 
-/// A C example, compiled with all warnings against the header and the library.
-fn c_example(name: &str) -> PathBuf {
-    let program = PathBuf::from(env!("CARGO_TARGET_TMPDIR")).join(name);
+/// A C program, compiled with all warnings against the header and the library.
+fn c_program(source: &Path) -> PathBuf {
+    let program = PathBuf::from(env!("CARGO_TARGET_TMPDIR")).join(source.file_stem().unwrap());
     let compiled = Command::new("cc")
         .args(["-std=c99", "-pedantic", "-Wall", "-Wextra", "-Werror", "-O1", "-I"])
         .arg(bindings())
-        .arg(bindings().join(format!("examples/{name}.c")))
+        .arg(source)
         .args([env!("LIBRARY"), "-o"])
         .arg(&program)
         .output()
         .expect("cc runs");
     assert!(compiled.status.success(), "{}", String::from_utf8_lossy(&compiled.stderr));
     program
+}
+
+fn c_example(name: &str) -> PathBuf {
+    c_program(&bindings().join(format!("examples/{name}.c")))
+}
+
+/// Every field of every reply as C reads it, of plans, rings and refusals, and that a refused call leaves all that was lent.
+#[test]
+fn replies_from_c() {
+    let program = c_program(&Path::new(env!("ROOT")).join("tests/tests/replies.c"));
+    let replies = |text: &[u8], [units, place, page]: [usize; 3]| {
+        let (said, good) = run(Command::new(&program).args([units, place, page].map(|n| n.to_string())), text);
+        assert!(good, "{said}");
+        said.lines().map(str::to_string).collect::<Vec<_>>()
+    };
+    for case in cases::all() {
+        let text = case.sheet.text();
+        let sheet = Sheet::read(&text).unwrap();
+        let (span, units, rules) = (sheet.span, sheet.first.len(), sheet.from.len());
+        let read = format!("reading 0 0 {span} {units} {rules}");
+        let ring = match sheet.plan().unwrap() {
+            Answer::Plan(_) => 0,
+            Answer::None { ring } => ring.len(),
+        };
+        let end = 7 + sheet.page().unwrap().len();
+        let planned = format!("planning 0 0 {ring}");
+        let full = [read.clone(), planned.clone(), format!("printing 0 0 {ring} {end}")];
+        assert_eq!(replies(&text, [units, 7, end]), full, "{}", case.name);
+        let short = [read.clone(), planned, "printing 15 0 0 7 unchanged".to_string()];
+        assert_eq!(replies(&text, [units, 7, end - 1]), short, "{}", case.name);
+        if units > 0 {
+            let narrow = [read, "planning 12 0 0 unchanged".to_string(), "printing 12 0 0 7 unchanged".to_string()];
+            assert_eq!(replies(&text, [units - 1, 7, end]), narrow, "{}", case.name);
+        }
+    }
+    let refused = |number: usize, line: usize| {
+        let read = format!("reading {number} {line} 0 0 0 unchanged");
+        [read, "planning 6 0 0 unchanged".to_string(), "printing 6 0 0 3 unchanged".to_string()]
+    };
+    assert_eq!(replies(b"(sheet 4)\n(note)\n(unit (window 4 3))\n", [300, 3, 100]), refused(7, 3));
+    assert_eq!(replies(&[b'x'; 16_001], [300, 3, 100]), refused(1, 0));
 }
 
 #[test]

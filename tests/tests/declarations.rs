@@ -1,41 +1,99 @@
-//! The border against the Rattle sources, in Rust and in C: the same entries, with the same parameters and types in the same order, and the
-//! same numbers.
+//! The border against the Rattle sources, in Rust and in C: the same entries, with the same parameters and types in the same order, the same
+//! replies, field by field, and the same numbers.
 
 use std::collections::BTreeMap;
 use std::fs;
 use std::path::{Path, PathBuf};
 
-/// Parameters in their order, each as its name and its type.
-type Parameters = Vec<(String, String)>;
+/// Parameters of a function or fields of a struct in their order, each as its name and its type.
+type Named = Vec<(String, String)>;
+
+/// What crosses the border: each entry's parameters and the type of its reply, and the structs laid out as C lays them out.
+#[derive(Debug, PartialEq, Eq)]
+struct Declared {
+    entries: BTreeMap<String, (Named, String)>,
+    structs: BTreeMap<String, Named>,
+}
 
 fn root() -> &'static Path {
     Path::new(env!("ROOT"))
 }
 
-/// The parameters of each function that is declared as `head` + NAME + `(..)` + `tail`, by NAME.
-fn functions(text: &str, head: &str, tail: &str, parameter: fn(&str) -> (String, String)) -> BTreeMap<String, Parameters> {
-    let mut found = BTreeMap::new();
-    for part in text.split(head).skip(1) {
-        let (name, rest) = part.split_once('(').expect("parameters");
-        let (inside, after) = rest.split_once(')').expect("a closing bracket");
-        assert!(after.starts_with(tail), "{name} gives a number");
-        let words = inside.split(',').map(|p| p.split_whitespace().collect::<Vec<_>>().join(" "));
-        let all = words.filter(|p| !p.is_empty()).map(|p| parameter(&p)).collect();
-        assert_eq!(found.insert(name.to_string(), all), None, "{name} twice");
-    }
-    found
+/// The words of a text, one space between two.
+fn plain(text: &str) -> String {
+    text.split_whitespace().collect::<Vec<_>>().join(" ")
 }
 
-fn named(parameter: &str) -> (String, String) {
-    let (name, kind) = parameter.split_once(": ").expect("a name and a type");
-    (name.to_string(), kind.to_string())
+/// The parts of a list, without what follows its last mark.
+fn parts(inside: &str, mark: char) -> impl Iterator<Item = String> + '_ {
+    inside.split(mark).map(plain).filter(|p| !p.is_empty())
 }
 
-/// As C writes a parameter: the name last, a star before it.
-fn named_in_c(parameter: &str) -> (String, String) {
-    let (kind, name) = parameter.rsplit_once(' ').expect("a type and a name");
+/// A name and a type, as Rattle and Rust write them.
+fn named(part: &str) -> (String, String) {
+    let (name, kind) = part.split_once(": ").expect("a name and a type");
+    (name.trim_start_matches("pub ").to_string(), kind.to_string())
+}
+
+/// As C writes them: the name last, a star before it.
+fn named_in_c(part: &str) -> (String, String) {
+    let (kind, name) = part.rsplit_once(' ').expect("a type and a name");
     let stars = name.len() - name.trim_start_matches('*').len();
     (name[stars..].to_string(), format!("{kind}{}", &name[..stars]))
+}
+
+/// What stands up to a mark, and what follows it.
+fn cut<'a>(text: &'a str, mark: &str) -> (&'a str, &'a str) {
+    text.split_once(mark).unwrap_or_else(|| panic!("no {mark} in {text}"))
+}
+
+/// A text without the comments that begin with `//`.
+fn without_line_comments(text: &str) -> String {
+    text.lines().map(|line| line.split_once("//").map_or(line, |(before, _)| before)).collect::<Vec<_>>().join("\n")
+}
+
+/// The functions that are declared as `head` + NAME + `(..) -> REPLY`, and the structs with `#[repr(C)]`.
+fn declared(text: &str, head: &str) -> Declared {
+    let text = without_line_comments(text);
+    let mut entries = BTreeMap::new();
+    for part in text.split(head).skip(1) {
+        let (name, rest) = cut(part, "(");
+        let (inside, after) = cut(rest, ")");
+        let reply = after.strip_prefix(" -> ").unwrap_or_else(|| panic!("{name} has a reply"));
+        let reply = reply.split([';', '\n', ' ']).next().unwrap().to_string();
+        assert!(entries.insert(name.to_string(), (parts(inside, ',').map(|p| named(&p)).collect(), reply)).is_none(), "{name} twice");
+    }
+    let mut structs = BTreeMap::new();
+    for part in text.split("#[repr(C)]").skip(1) {
+        let (name, rest) = cut(cut(part, "pub struct ").1, " {");
+        let fields = parts(cut(rest, "}").0, ',').map(|p| named(&p)).collect();
+        assert_eq!(structs.insert(name.to_string(), fields), None, "{name} twice");
+    }
+    Declared { entries, structs }
+}
+
+/// The functions and structs of the header.
+fn declared_in_c(header: &str) -> Declared {
+    let mut declared = Declared { entries: BTreeMap::new(), structs: BTreeMap::new() };
+    // Lines that begin with `#` are the preprocessor's, and the two of `extern "C"` are there for C++ alone.
+    let kept = header.lines().filter(|l| !l.starts_with('#') && !["extern \"C\" {", "}"].contains(l));
+    let mut rest = kept.collect::<Vec<_>>().join("\n");
+    while !rest.trim().is_empty() {
+        let at = rest.find(['(', '{']).unwrap_or_else(|| panic!("neither a function nor a struct: {rest}"));
+        let head = plain(&rest[..at]);
+        let (closing, mark, is_struct) = if &rest[at..=at] == "{" { ("};", ';', true) } else { (");", ',', false) };
+        let (inside, after) = cut(&rest[at + 1..], closing);
+        let all: Named = parts(inside, mark).map(|p| named_in_c(&p)).collect();
+        let first = if is_struct {
+            declared.structs.insert(head.clone(), all).is_none()
+        } else {
+            let (reply, name) = head.rsplit_once(' ').expect("a type and a name");
+            declared.entries.insert(name.to_string(), (all, reply.to_string())).is_none()
+        };
+        assert!(first, "{head} twice");
+        rest = after.to_string();
+    }
+    declared
 }
 
 fn sources(folder: &Path, all: &mut Vec<PathBuf>) {
@@ -55,41 +113,43 @@ fn rattle(name: &str) -> String {
     files.iter().map(|f| fs::read_to_string(f).unwrap()).collect()
 }
 
-/// The entries that a Rattle crate exports.
-fn exported(name: &str) -> BTreeMap<String, Parameters> {
-    functions(&rattle(name), "extern \"C\" fn ", " -> usize", named)
+/// What a Rattle crate exports.
+fn exported(name: &str) -> Declared {
+    declared(&rattle(name), "extern \"C\" fn ")
 }
 
-/// How parameters of a Rattle function cross the border.
-fn crossing(parameters: &Parameters, c: bool) -> Parameters {
-    let plain = |kind: &str| match (c, kind) {
-        (true, "usize") => "size_t".to_string(),
-        (true, _) if kind.starts_with('u') => format!("uint{}_t", &kind[1..]),
-        (true, _) => format!("int{}_t", &kind[1..]),
-        _ => kind.to_string(),
-    };
+/// How a type of Rattle's that is passed by value is written: a number, or one of the structs.
+fn by_value(kind: &str, c: bool) -> String {
+    match kind {
+        _ if !c => kind.to_string(),
+        "usize" => "size_t".to_string(),
+        _ if kind.starts_with('u') => format!("uint{}_t", &kind[1..]),
+        _ if kind.starts_with('i') => format!("int{}_t", &kind[1..]),
+        _ => format!("struct tugrokt_{}", kind.to_lowercase()),
+    }
+}
+
+/// How the parameters of a Rattle function, or the fields of a struct, cross the border.
+fn crossing(all: &Named, c: bool) -> Named {
     let pointer = |kind: &str, written: bool| match (c, written) {
-        (true, true) => format!("{}*", plain(kind)),
-        (true, false) => format!("const {}*", plain(kind)),
+        (true, true) => format!("{}*", by_value(kind, c)),
+        (true, false) => format!("const {}*", by_value(kind, c)),
         (false, true) => format!("*mut {kind}"),
         (false, false) => format!("*const {kind}"),
     };
-    let mut all = Vec::new();
-    for (name, kind) in parameters {
+    let mut crossed = Vec::new();
+    for (name, kind) in all {
         let Some(lent) = kind.strip_prefix('&') else {
-            all.push((name.clone(), plain(kind)));
+            crossed.push((name.clone(), by_value(kind, c)));
             continue;
         };
         let (written, lent) = lent.strip_prefix("mut ").map_or((false, lent), |l| (true, l));
-        match lent.strip_prefix('[').and_then(|l| l.strip_suffix(']')) {
-            Some(element) => {
-                all.push((name.clone(), pointer(element, written)));
-                all.push((format!("{name}_length"), plain("usize")));
-            }
-            None => all.push((name.clone(), pointer(lent, written))),
-        }
+        let element = lent.strip_prefix('[').and_then(|l| l.strip_suffix(']'));
+        let element = element.unwrap_or_else(|| panic!("{name}: only slices are lent"));
+        crossed.push((name.clone(), pointer(element, written)));
+        crossed.push((format!("{name}_length"), by_value("usize", c)));
     }
-    all
+    crossed
 }
 
 fn without_comments(header: &str) -> String {
@@ -98,15 +158,20 @@ fn without_comments(header: &str) -> String {
     parts.fold(first, |text, part| text + part.split_once("*/").expect("a comment's end").1)
 }
 
-fn compare(declared: &BTreeMap<String, Parameters>, from: &str, c: bool) {
+/// The declarations are those of a Rattle crate, each reply a number or a struct that is declared too.
+fn compare(found: &Declared, from: &str, c: bool) {
     let exported = exported(from);
-    assert!(!exported.is_empty(), "{from} exports nothing");
-    for (name, parameters) in &exported {
-        assert_eq!(declared.get(name), Some(&crossing(parameters, c)), "{name}");
+    assert!(!exported.entries.is_empty(), "{from} exports nothing");
+    for (name, (_, reply)) in &exported.entries {
+        assert!(reply == "usize" || exported.structs.contains_key(reply), "{name} replies with {reply}");
     }
-    for name in declared.keys() {
-        assert!(exported.contains_key(name), "{from} does not export {name}");
-    }
+    let entries = exported.entries.iter();
+    let structs = exported.structs.iter();
+    let expected = Declared {
+        entries: entries.map(|(name, (all, reply))| (name.clone(), (crossing(all, c), by_value(reply, c)))).collect(),
+        structs: structs.map(|(name, fields)| (by_value(name, c), crossing(fields, c))).collect(),
+    };
+    assert_eq!(found, &expected);
 }
 
 fn header() -> String {
@@ -116,21 +181,20 @@ fn header() -> String {
 #[test]
 fn in_rust() {
     let border = fs::read_to_string(root().join("bindings/src/border.rs")).unwrap();
-    compare(&functions(&border, "pub fn ", " -> usize;", named), "tugrokt", false);
+    compare(&declared(&border, "pub fn "), "tugrokt", false);
 }
 
 #[test]
 fn in_c() {
-    compare(&functions(&header(), "\nsize_t ", ";", named_in_c), "tugrokt", true);
+    compare(&declared_in_c(&header()), "tugrokt", true);
 }
 
 /// The library for tests, which these tests declare themselves.
 #[test]
 fn of_the_network() {
     let network = fs::read_to_string(root().join("tests/src/network.rs")).unwrap();
-    let (_, declared) = network.split_once("extern \"C\" {").unwrap();
-    let (declared, _) = declared.split_once("\n}").unwrap();
-    compare(&functions(declared, "fn ", " -> usize;", named), "network_border", false);
+    let (block, _) = cut(cut(&network, "extern \"C\" {").1, "\n}");
+    compare(&declared(block, "fn "), "network_border", false);
 }
 
 /// No other crate exports an entry.
@@ -139,7 +203,7 @@ fn two_crates_export() {
     for folder in fs::read_dir(root().join("crates")).unwrap().map(|e| e.unwrap()) {
         let name = folder.file_name().into_string().unwrap();
         let expected = name == "tugrokt" || name == "network_border";
-        assert_eq!(!exported(&name).is_empty(), expected, "{name}");
+        assert_eq!(!exported(&name).entries.is_empty(), expected, "{name}");
     }
 }
 

@@ -6,6 +6,7 @@ use model::random::{any_sheet, largest_sheet, small_sheet, Random};
 use model::sheet::{Sheet, Solved};
 use model::tally::Tally;
 use model::{cases, computed, effort, enumerated, page, seed};
+use tugrokt::entry::{self, Printing};
 
 /// Prints from some place on, counts the case, and fails where anything differs from the model.
 fn hold(tally: &mut Tally, r: &mut Random, sheet: &Sheet, solved: Option<&Solved>) {
@@ -29,8 +30,8 @@ fn document_cases() {
     }
     let printed = |i: usize| {
         let sheet = &cases::all()[i].sheet;
-        let Printed { page, place, .. } = print(&Lists::from(sheet), &Lengths::exact(sheet), 1_000, 0);
-        String::from_utf8_lossy(&page[..place]).into_owned()
+        let Printed { page, reply, .. } = print(&Lists::from(sheet), &Lengths::exact(sheet), 1_000, 0);
+        String::from_utf8_lossy(&page[..reply.place]).into_owned()
     };
     assert_eq!(printed(1), cases::P2_PAGE);
     assert_eq!(printed(3), cases::P4_PAGE);
@@ -63,7 +64,7 @@ fn sheets_of_all_sizes() {
 fn pages_that_do_not_hold_the_answer() {
     for case in cases::all() {
         let (lists, lengths) = (Lists::from(&case.sheet), Lengths::exact(&case.sheet));
-        let whole = print(&lists, &lengths, 1_000, 0).place;
+        let whole = print(&lists, &lengths, 1_000, 0).reply.place;
         for length in 0..whole {
             assert_eq!(refused_print_fault(&print(&lists, &lengths, length, 0), 15, &lengths, 0), None, "{}", case.name);
             assert_eq!(
@@ -122,10 +123,10 @@ fn a_running_place() {
     let mut place = 0;
     for sheet in &sheets {
         let (lists, mut rooms) = (Lists::from(sheet), model::calls::Rooms::marked(&Lengths::exact(sheet)));
-        let start = place;
-        let reply = tugrokt::entry::print(model::calls::lent(&lists), rooms.lend(), &mut whole, &mut place, &mut 0);
-        assert_eq!(reply, 0);
-        assert_eq!(page::fault(sheet, enumerated::solve(sheet).as_ref(), &whole[start..place]), None);
+        let reply = entry::print(model::calls::lent(&lists), rooms.lend(), &mut whole, place);
+        assert_eq!(reply.number, 0);
+        assert_eq!(page::fault(sheet, enumerated::solve(sheet).as_ref(), &whole[place..reply.place]), None);
+        place = reply.place;
     }
     assert!(whole[place..].iter().all(|&b| b == 0));
 }
@@ -137,8 +138,7 @@ fn the_longest_page() {
     let rules: Vec<(u16, u16, u16, u16)> = (29..=48).map(|slot| (slot, slot, 10, 300)).collect();
     let sheet = Sheet::new(48, &[(10, 48); 300], &rules);
     let printed = print(&Lists::from(&sheet), &Lengths::exact(&sheet), 12_657, 0);
-    assert_eq!(printed.reply, 0);
-    assert_eq!(printed.place, printed.page.len());
-    assert!(printed.place <= tugrokt::MAX_PAGE);
+    assert_eq!(printed.reply, Printing { number: 0, line: 0, length: 0, place: printed.page.len() });
+    assert!(printed.page.len() <= tugrokt::MAX_PAGE);
     assert_eq!(page::fault(&sheet, computed::solve(&sheet).as_ref(), &printed.page), None);
 }

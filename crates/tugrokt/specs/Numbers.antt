@@ -2,45 +2,44 @@
 use mathlib.Core.Path.{_≡_}
 use mathlib.Core.List.{List}
 use Prim.Native.Nat.{ℕ}
-use Rattle.questions.specs.Questions.{numberOf}
 use Rattle.sheet.specs.Sheet.{Sheet}
-use Rattle.read_ask.specs.Reading.{Answer as ReadingAnswer, refused, read}
 use Rattle.sheet.specs.Lists.{Lists}
+use Rattle.read_ask.specs.Reading as reading
 use Rattle.plan_ask.specs.Questions.{Rooms}
-use Rattle.plan_solve.specs.Planning.{Conclusion, Settled, refusalOf, ringLength}
-use Rattle.plan_solve.specs.declared.Answer.{Answer}
-use Rattle.print.specs.Printing.{Printing, placeAfter, refusalOf as printedRefusal, ringLength as printedLength}
-use Rattle.print.specs.declared.Printed.{Printed}
+use Rattle.plan_solve.specs.Planning.{Conclusion, Settled}
+use Rattle.plan_solve.specs.Reply as planning
+use Rattle.print.specs.Printing as print
+use Rattle.print.specs.Reply as printing
+use Rattle.tugrokt.specs.declared.reading.Reading.{Reading}
+use Rattle.tugrokt.specs.declared.planning.Planning.{Planning}
+use Rattle.tugrokt.specs.declared.printing.Printing.{Printing}
 
 -- ---- reading
 
-pub record Numbers : Type 0 where
-  pub number : ℕ
-  pub line : ℕ
-  pub span : ℕ
-  pub units : ℕ
-  pub rules : ℕ
-
-abbrev pub numbers : ℕ → ℕ → ℕ → ℕ → ℕ → Numbers
-numbers q n p u r = record { number = q; line = n; span = p; units = u; rules = r }
-
-abbrev pub numbersOf : ReadingAnswer → Numbers
-numbersOf (refused q n) = numbers q n 0 0 0
-numbersOf (read p u r) = numbers 0 0 p u r
+abbrev pub readingOf : reading.Reply → Reading
+readingOf (reading.refused q n) = record { number = q; line = n; span = 0; units = 0; rules = 0 }
+readingOf (reading.read p u r) = record { number = 0; line = 0; span = p; units = u; rules = r }
 
 -- ---- planning: some reply with these numbers, and the rooms as it leaves them
 
-pub record PlanTold (v : Conclusion) (s : Sheet) (before : Rooms) (number length : ℕ) (after : Rooms) : Type 0 where
-  pub reply : Answer
+abbrev pub planningOf : planning.Reply → Planning
+planningOf (planning.refused q n) = record { number = q; line = n; length = 0 }
+planningOf planning.plan = record { number = 0; line = 0; length = 0 }
+planningOf (planning.none k) = record { number = 0; line = 0; length = k }
+
+pub record PlanTold (v : Conclusion) (s : Sheet) (before : Rooms) (numbers : Planning) (after : Rooms) : Type 0 where
+  pub reply : planning.Reply
   pub left : Settled v s before reply after
-  pub number-is : number ≡ numberOf (refusalOf reply)
-  pub length-is : length ≡ ringLength reply
+  pub told : numbers ≡ planningOf reply
 
--- ---- printing
+-- ---- printing: likewise, and the page; the place of a refusal is the one that was given
 
-pub record PrintTold (l : Lists) (before : Rooms) (page : List ℕ) (at : ℕ) (number place length : ℕ) (after : Rooms) (left : List ℕ) : Type 0 where
-  pub reply : Printed
-  pub call : Printing l before page at reply after left
-  pub number-is : number ≡ numberOf (printedRefusal reply)
-  pub place-is : place ≡ placeAfter at reply
-  pub length-is : length ≡ printedLength reply
+abbrev pub printingOf : ℕ → printing.Reply → Printing
+printingOf at (printing.refused q n) = record { number = q; line = n; length = 0; place = at }
+printingOf at (printing.plan next) = record { number = 0; line = 0; length = 0; place = next }
+printingOf at (printing.none k next) = record { number = 0; line = 0; length = k; place = next }
+
+pub record PrintTold (l : Lists) (before : Rooms) (page : List ℕ) (at : ℕ) (numbers : Printing) (after : Rooms) (left : List ℕ) : Type 0 where
+  pub reply : printing.Reply
+  pub call : print.Printing l before page at reply after left
+  pub told : numbers ≡ printingOf at reply

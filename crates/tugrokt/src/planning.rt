@@ -1,0 +1,77 @@
+ghost use mathlib.Core.Path.{_≡_};
+ghost use Rattle.sheet.specs.Lists.{listed, given};
+ghost use Rattle.plan_ask.specs.Questions.{lent};
+ghost use Rattle.plan_solve.specs.Planning.{conclusion};
+ghost use Rattle.plan_solve.specs.Reply.{replyOf};
+ghost use Rattle.tugrokt.specs.Numbers.{planningOf, PlanTold};
+use plan_solve::Answer;
+
+// What planning replies: the length of the ring, which a plan does not have.
+#[repr(C)]
+pub struct Planning {
+    pub number: usize,
+    pub line: usize,
+    pub length: usize,
+}
+
+// The reply as numbers.
+fn numbers_of(answer: Answer) -> Planning
+    ensures { λ r. ⌜ r ≡ planningOf (replyOf answer) ⌝ }
+{
+    match answer {
+        Answer::Refused(refusal) => Planning {
+            number: refusal.number,
+            line: refusal.line,
+            length: 0,
+        },
+        Answer::Plan => Planning {
+            number: 0,
+            line: 0,
+            length: 0,
+        },
+        Answer::None(k) => Planning {
+            number: 0,
+            line: 0,
+            length: k,
+        },
+    }
+}
+
+// Plans from lists.
+#[no_mangle]
+pub extern "C" fn tugrokt_plan(
+    span: usize,
+    first: &[u16],
+    last: &[u16],
+    from: &[u16],
+    to: &[u16],
+    low: &[u16],
+    high: &[u16],
+    table: &mut [i16],
+    plan: &mut [u16],
+    earliest: &mut [u16],
+    latest: &mut [u16],
+    ring: &mut [u16],
+) -> Planning
+    ensures { λ r.
+        let l = listed span (now (first .entry)) (now (last .entry)) (now (from .entry)) (now (to .entry)) (now (low .entry)) (now (high .entry)) in
+        let before = lent (now (table .entry)) (now (plan .entry)) (now (earliest .entry)) (now (latest .entry)) (now (ring .entry)) in
+        ⌜ PlanTold (conclusion l before) (given l) before r
+        (lent (now (table .exit)) (now (plan .exit)) (now (earliest .exit)) (now (latest .exit)) (now (ring .exit))) ⌝ }
+{
+    let answer = plan::plan(
+        span,
+        first,
+        last,
+        from,
+        to,
+        low,
+        high,
+        table,
+        plan,
+        earliest,
+        latest,
+        ring,
+    );
+    numbers_of(answer)
+}

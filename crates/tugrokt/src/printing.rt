@@ -1,0 +1,83 @@
+ghost use mathlib.Core.Path.{_≡_};
+ghost use Rattle.sheet.specs.Lists.{listed};
+ghost use Rattle.plan_ask.specs.Questions.{lent};
+ghost use Rattle.print.specs.Reply.{replyOf};
+ghost use Rattle.tugrokt.specs.Numbers.{printingOf, PrintTold};
+use print::Printed;
+
+// What printing replies: the length of the ring, and the place just past the answer, or the place that was given where the call was refused.
+#[repr(C)]
+pub struct Printing {
+    pub number: usize,
+    pub line: usize,
+    pub length: usize,
+    pub place: usize,
+}
+
+// The reply as numbers, to a call that was given this place.
+fn numbers_of(at: usize, printed: Printed) -> Printing
+    ensures { λ r. ⌜ r ≡ printingOf at (replyOf printed) ⌝ }
+{
+    match printed {
+        Printed::Refused(refusal) => Printing {
+            number: refusal.number,
+            line: refusal.line,
+            length: 0,
+            place: at,
+        },
+        Printed::Plan(next) => Printing {
+            number: 0,
+            line: 0,
+            length: 0,
+            place: next,
+        },
+        Printed::None(k, next) => Printing {
+            number: 0,
+            line: 0,
+            length: k,
+            place: next,
+        },
+    }
+}
+
+// Plans from lists, and prints the answer on the page from the place on.
+#[no_mangle]
+pub extern "C" fn tugrokt_print(
+    span: usize,
+    first: &[u16],
+    last: &[u16],
+    from: &[u16],
+    to: &[u16],
+    low: &[u16],
+    high: &[u16],
+    table: &mut [i16],
+    plan: &mut [u16],
+    earliest: &mut [u16],
+    latest: &mut [u16],
+    ring: &mut [u16],
+    page: &mut [u8],
+    place: usize,
+) -> Printing
+    ensures { λ r.
+        ⌜ PrintTold (listed span (now (first .entry)) (now (last .entry)) (now (from .entry)) (now (to .entry)) (now (low .entry)) (now (high .entry)))
+        (lent (now (table .entry)) (now (plan .entry)) (now (earliest .entry)) (now (latest .entry)) (now (ring .entry))) (now (page .entry)) place r
+        (lent (now (table .exit)) (now (plan .exit)) (now (earliest .exit)) (now (latest .exit)) (now (ring .exit))) (now (page .exit)) ⌝ }
+{
+    let printed = print::print(
+        span,
+        first,
+        last,
+        from,
+        to,
+        low,
+        high,
+        table,
+        plan,
+        earliest,
+        latest,
+        ring,
+        page,
+        place,
+    );
+    numbers_of(place, printed)
+}

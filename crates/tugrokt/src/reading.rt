@@ -1,0 +1,57 @@
+ghost use mathlib.Core.Path.{_≡_};
+ghost use Rattle.read_ask.specs.Reading.{reading, rooms, replyOf};
+ghost use Rattle.read.specs.Rooms.{sizesOf, roomsAfter};
+ghost use Rattle.tugrokt.specs.Numbers.{readingOf};
+
+// What reading replies: the span and the numbers of units and rules of the sheet that was read.
+#[repr(C)]
+pub struct Reading {
+    pub number: usize,
+    pub line: usize,
+    pub span: usize,
+    pub units: usize,
+    pub rules: usize,
+}
+
+// The reply as numbers.
+fn numbers_of(reply: read_ask::Reading) -> Reading
+    ensures { λ r. ⌜ r ≡ readingOf (replyOf reply) ⌝ }
+{
+    match reply {
+        read_ask::Reading::Refused(refusal) => Reading {
+            number: refusal.number,
+            line: refusal.line,
+            span: 0,
+            units: 0,
+            rules: 0,
+        },
+        read_ask::Reading::Sheet(s) => Reading {
+            number: 0,
+            line: 0,
+            span: s.span,
+            units: s.units,
+            rules: s.rules,
+        },
+    }
+}
+
+// Reads a sheet from its text into the lent lists.
+#[no_mangle]
+pub extern "C" fn tugrokt_read(
+    text: &[u8],
+    first: &mut [u16],
+    last: &mut [u16],
+    from: &mut [u16],
+    to: &mut [u16],
+    low: &mut [u16],
+    high: &mut [u16],
+) -> Reading
+    ensures { λ r. ⌜ r ≡ readingOf (reading (now (text .entry))
+        (sizesOf (rooms (now (first .entry)) (now (last .entry)) (now (from .entry)) (now (to .entry)) (now (low .entry)) (now (high .entry))))) ⌝ }
+    ensures { λ _. ⌜ rooms (now (first .exit)) (now (last .exit)) (now (from .exit)) (now (to .exit)) (now (low .exit)) (now (high .exit))
+        ≡ roomsAfter (now (text .entry))
+        (rooms (now (first .entry)) (now (last .entry)) (now (from .entry)) (now (to .entry)) (now (low .entry)) (now (high .entry))) ⌝ }
+{
+    let reply = read::read(text, first, last, from, to, low, high);
+    numbers_of(reply)
+}

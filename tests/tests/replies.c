@@ -1,0 +1,88 @@
+/*
+ * Reads, plans and prints, and shows each reply field by field, as C sees it.
+ *
+ *     replies UNITS PLACE PAGE <sheet
+ *
+ * The rooms for units have UNITS places, and the page has PAGE, printed on from PLACE. All that is lent lies in one block with
+ * a guard on either side, and a refused call must leave every byte of it.
+ */
+#include <stdio.h>
+#include <stdlib.h>
+#include <string.h>
+
+#include "tugrokt.h"
+
+struct block {
+    uint8_t guard_before[64];
+    uint8_t text[TUGROKT_MAX_BYTES + 1];
+    uint16_t first[TUGROKT_MAX_UNITS], last[TUGROKT_MAX_UNITS];
+    uint16_t from[TUGROKT_MAX_RULES], to[TUGROKT_MAX_RULES], low[TUGROKT_MAX_RULES], high[TUGROKT_MAX_RULES];
+    int16_t table[TUGROKT_MAX_CELLS];
+    uint16_t plan[TUGROKT_MAX_UNITS], earliest[TUGROKT_MAX_UNITS], latest[TUGROKT_MAX_UNITS];
+    uint16_t ring[TUGROKT_MAX_BOUNDARIES];
+    uint8_t page[TUGROKT_MAX_PAGE];
+    uint8_t guard_after[64];
+};
+
+static struct block lent, before;
+
+/* How a line ends: refused calls tell whether the block is as it was. */
+static const char *left(size_t number)
+{
+    if (number == 0)
+        return "";
+    return memcmp(&lent, &before, sizeof lent) == 0 ? " unchanged" : " CHANGED";
+}
+
+/* The caller's own numbers on both sides of a reply, which no call may touch. */
+struct kept_reading { size_t before; struct tugrokt_reading reply; size_t after; };
+struct kept_planning { size_t before; struct tugrokt_planning reply; size_t after; };
+struct kept_printing { size_t before; struct tugrokt_printing reply; size_t after; };
+
+#define MARK ((size_t)0xdeadbeef)
+
+int main(int argc, char **argv)
+{
+    struct kept_reading read = { MARK, { MARK, MARK, MARK, MARK, MARK }, MARK };
+    struct kept_planning planned = { MARK, { MARK, MARK, MARK }, MARK };
+    struct kept_printing printed = { MARK, { MARK, MARK, MARK, MARK }, MARK };
+    size_t text_length, units, place, page, n, r;
+
+    if (argc != 4)
+        return 2;
+    units = strtoul(argv[1], NULL, 10);
+    place = strtoul(argv[2], NULL, 10);
+    page = strtoul(argv[3], NULL, 10);
+    if (units > TUGROKT_MAX_UNITS || page > TUGROKT_MAX_PAGE)
+        return 2;
+    memset(&lent, 0xa5, sizeof lent);
+    text_length = fread(lent.text, 1, sizeof lent.text, stdin);
+
+    before = lent;
+    read.reply = tugrokt_read(lent.text, text_length, lent.first, TUGROKT_MAX_UNITS, lent.last, TUGROKT_MAX_UNITS, lent.from,
+                              TUGROKT_MAX_RULES, lent.to, TUGROKT_MAX_RULES, lent.low, TUGROKT_MAX_RULES, lent.high,
+                              TUGROKT_MAX_RULES);
+    printf("reading %zu %zu %zu %zu %zu%s\n", read.reply.number, read.reply.line, read.reply.span, read.reply.units,
+           read.reply.rules, left(read.reply.number));
+
+    n = read.reply.units;
+    r = read.reply.rules;
+    before = lent;
+    planned.reply = tugrokt_plan(read.reply.span, lent.first, n, lent.last, n, lent.from, r, lent.to, r, lent.low, r, lent.high, r,
+                                 lent.table, TUGROKT_MAX_CELLS, lent.plan, units, lent.earliest, units, lent.latest, units,
+                                 lent.ring, TUGROKT_MAX_BOUNDARIES);
+    printf("planning %zu %zu %zu%s\n", planned.reply.number, planned.reply.line, planned.reply.length,
+           left(planned.reply.number));
+
+    before = lent;
+    printed.reply = tugrokt_print(read.reply.span, lent.first, n, lent.last, n, lent.from, r, lent.to, r, lent.low, r, lent.high,
+                                  r, lent.table, TUGROKT_MAX_CELLS, lent.plan, units, lent.earliest, units, lent.latest, units,
+                                  lent.ring, TUGROKT_MAX_BOUNDARIES, lent.page, page, place);
+    printf("printing %zu %zu %zu %zu%s\n", printed.reply.number, printed.reply.line, printed.reply.length, printed.reply.place,
+           left(printed.reply.number));
+
+    return read.before == MARK && read.after == MARK && planned.before == MARK && planned.after == MARK &&
+                   printed.before == MARK && printed.after == MARK
+               ? 0
+               : 1;
+}
