@@ -1,5 +1,6 @@
 //! The program, through pipes.
 
+use std::fs;
 use std::time::Duration;
 
 use model::damage::{any_text, note_of_depth, valid, with_notes};
@@ -64,6 +65,21 @@ fn cases_that_are_run() {
     for text in taken {
         assert!(written(&text).starts_with("(answer plan "), "{:?}", &text[..text.len().min(100)]);
         assert_eq!(fault(text.as_bytes()), None);
+    }
+}
+
+/// The texts that the check runs the program on are as long as docs/ARCHITECTURE.md says, and their pages are the model's.
+#[test]
+fn texts_of_the_check() {
+    for (name, length) in [("wave", 143), ("wave_longest", 16_000), ("wave_too_long", 16_001)] {
+        let file = |kind: &str| fs::read(format!("{}/crates/{name}/{kind}", env!("ROOT"))).unwrap();
+        let text = file("stdin");
+        assert_eq!(text.len(), length, "{name}");
+        assert_eq!(output_fault(&text, &file("stdout")), None, "{name}");
+        // What is read of it before its last byte has another answer.
+        if read(&text).is_err() {
+            assert_ne!(output_fault(&text[..length - 1], &file("stdout")), None, "{name}");
+        }
     }
 }
 

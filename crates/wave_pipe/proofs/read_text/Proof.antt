@@ -3,8 +3,8 @@ use mathlib.Core.Path.{_≡_}
 use Prim.Native.Nat.{_-_, _≤_}
 use lib.ListN.{length}
 use borrow.Author.Needs.{needs}
-use Rattle.wave.proofs.read_text.Statement.{statement}
-use Rattle.wave.proofs.read_text.Tie as tie
+use Rattle.wave_pipe.proofs.read_text.Statement.{statement}
+use Rattle.wave_pipe.proofs.read_text.Tie as tie
 
 abbrev Inv-loop : tie.InvT-loop
 Inv-loop buffer₀ done₀ buffer done = (length buffer ≡ length buffer₀) × (done ≤ length buffer)
