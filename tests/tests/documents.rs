@@ -66,7 +66,7 @@ fn documents() -> Vec<PathBuf> {
 fn defines(file: &str, name: &str) -> bool {
     file.lines().map(str::trim_start).any(|line| {
         let Some(public) = line.trim_start_matches("abbrev ").trim_start_matches("unfoldable ").strip_prefix("pub ") else { return false };
-        let plain = ["record ", "data ", "extern \"C\" fn ", "fn "].iter().fold(public, |l, word| l.trim_start_matches(word));
+        let plain = ["record ", "data ", "struct ", "extern \"C\" fn ", "fn "].iter().fold(public, |l, word| l.trim_start_matches(word));
         plain.strip_prefix(name).is_some_and(|rest| [" :", " (", " {", "("].iter().any(|start| rest.starts_with(start)))
     })
 }
@@ -103,16 +103,40 @@ fn theorems_stand_where_the_promises_say() {
     }
     let conditions = text.split("## ").find(|part| part.starts_with("The user's conditions")).expect("the table of conditions");
     for row in conditions.lines().filter(|l| l.starts_with("| ")).skip(1) {
-        let meets = row.trim_matches('|').rsplit(" | ").next().unwrap();
+        let meets = row.trim_matches('|').split(" | ").nth(1).unwrap();
         let bare = meets.split("[`").map(|part| part.split_once(']').map_or(part, |p| p.1)).collect::<String>();
         assert!(meets.contains("[`") && !bare.contains('`'), "docs/PROMISES.md: a row without a link for each name: {row}");
     }
 }
 
+/// The wrong programs of every crate, as `crate/label`.
+fn wrong_programs() -> BTreeSet<String> {
+    let mut all = BTreeSet::new();
+    for folder in fs::read_dir(root().join("crates")).unwrap().map(|e| e.unwrap()) {
+        let Ok(edits) = fs::read_dir(folder.path().join("must-fail")) else { continue };
+        for edit in edits.map(|e| e.unwrap().path()) {
+            let label = edit.file_stem().unwrap().to_str().unwrap();
+            all.insert(format!("{}/{label}", folder.file_name().to_str().unwrap()));
+        }
+    }
+    all
+}
+
+#[test]
+fn the_promises_name_every_wrong_program() {
+    let text = fs::read_to_string(root().join("docs/PROMISES.md")).unwrap();
+    let is_name = |part: &str| part.contains('/') && part.chars().all(|c| c.is_ascii_lowercase() || c.is_ascii_digit() || "_/".contains(c));
+    let named: BTreeSet<String> = text.split('`').skip(1).step_by(2).filter(|part| is_name(part) && !part.ends_with('/')).map(str::to_string).collect();
+    let there = wrong_programs();
+    assert!(there.len() > 100, "only {} wrong programs were found", there.len());
+    assert_eq!(named.difference(&there).collect::<Vec<_>>(), Vec::<&String>::new(), "named, and not there");
+    assert_eq!(there.difference(&named).collect::<Vec<_>>(), Vec::<&String>::new(), "there, and not named");
+}
+
 #[test]
 fn what_counts_as_a_definition() {
-    let file = "abbrev pub small : ℕ\n  pub big : (n : ℕ) → ⊥\nunfoldable pub known : ℕ\npub record Whole (n : ℕ) : Type 0 where\nhidden : ℕ\npub fn read(\n";
-    for name in ["small", "big", "known", "Whole", "read"] {
+    let file = "abbrev pub small : ℕ\n  pub big : (n : ℕ) → ⊥\nunfoldable pub known : ℕ\npub record Whole (n : ℕ) : Type 0 where\nhidden : ℕ\npub fn read(\npub struct Slot(pub usize);\n";
+    for name in ["small", "big", "known", "Whole", "read", "Slot"] {
         assert!(defines(file, name), "{name}");
     }
     for name in ["smal", "hidden", "n", "rea", "pub"] {
