@@ -11,7 +11,7 @@ use native.Mathlib.Decide.{decLe}
 use lib.Dec.{T, ltb, leb→le, le→leb, ltb→lt, lt→ltb, nltb→le}
 use lib.IntN.{ℤ, pos, negsuc, negℤ, subℕ, _+ℤ_, _-ℤ_}
 use lib.Signed.{leZ, ltZ, mag, _≤ℤ_, _<ℤ_}
-use mir.Syntax.{Width, w16, w32}
+use mir.Syntax.{Width}
 use mir.Val.{SFits, hbits}
 
 -- the positive part
@@ -23,6 +23,10 @@ up (negsuc n) = 0
 abbrev pub dn : ℤ → ℕ
 dn (pos n) = 0
 dn (negsuc n) = suc n
+
+-- z is at most k away from 0
+abbrev pub Within : ℕ → ℤ → Type 0
+Within k z = (up z ≤ k) × (dn z ≤ k)
 
 -- ---- orders
 le-to : (a b : ℤ) → T (leZ a b) → up a + dn b ≤ up b + dn a
@@ -92,14 +96,8 @@ leZ-true a b e = le-to a b (holds (leZ a b) e)
 pub true-ltZ : (a b : ℤ) → up a + dn b < up b + dn a → ltZ a b ≡ true
 true-ltZ a b h = raised (ltZ a b) (to-lt a b h)
 
-pub true-leZ : (a b : ℤ) → up a + dn b ≤ up b + dn a → leZ a b ≡ true
-true-leZ a b h = raised (leZ a b) (to-le a b h)
-
 pub false-ltZ : (a b : ℤ) → up b + dn a ≤ up a + dn b → ltZ a b ≡ false
 false-ltZ a b h = unraised (ltZ a b) (λ t. omega (arith, lt-to a b t))
-
-pub false-leZ : (a b : ℤ) → up b + dn a < up a + dn b → leZ a b ≡ false
-false-leZ a b h = unraised (leZ a b) (λ t. omega (arith, le-to a b t))
 
 pub ltZ-false : (a b : ℤ) → ltZ a b ≡ false → up b + dn a ≤ up a + dn b
 ltZ-false a b e = elim (decLe (up b + dn a) (up a + dn b)) [ yes h ↦ h | no h ↦ absurd (subst T e (to-lt a b (omega arith))) ]
@@ -141,12 +139,9 @@ apart (negsuc n) = inl refl
 pub nonneg : {a : ℤ} → pos 0 ≤ℤ a → dn a ≡ 0
 nonneg {a} h = ⊎-elim (λ e. omega ints) (λ e. e) (apart a)
 
--- ---- the smaller and the greater of two
+-- ---- the smaller of two
 abbrev pub minℤ : ℤ → ℤ → ℤ
 minℤ a b = cond (ltZ b a) b a
-
-abbrev pub maxℤ : ℤ → ℤ → ℤ
-maxℤ a b = cond (ltZ a b) b a
 
 -- what holds of both, with what the test says, holds of the one that is chosen
 chosen : (t : Bool) (a b : ℤ) (Q : ℤ → Type 0) → (t ≡ true → Q a) → (t ≡ false → Q b) → Q (cond t a b)
@@ -156,9 +151,6 @@ chosen false a b Q p q = q refl
 pub min-cases : (a b : ℤ) (Q : ℤ → Type 0) → (a ≤ℤ b → Q a) → (b <ℤ a → Q b) → Q (minℤ a b)
 min-cases a b Q p q = chosen (ltZ b a) b a Q (λ e. q (omega ints)) (λ e. p (omega ints))
 
-pub max-cases : (a b : ℤ) (Q : ℤ → Type 0) → (b ≤ℤ a → Q a) → (a <ℤ b → Q b) → Q (maxℤ a b)
-max-cases a b Q p q = chosen (ltZ a b) b a Q (λ e. q (omega ints)) (λ e. p (omega ints))
-
 pub min-is : (a b : ℤ) → ((minℤ a b ≡ a) × (a ≤ℤ b)) ⊎ ((minℤ a b ≡ b) × (b <ℤ a))
 min-is a b = min-cases a b (λ z. ((z ≡ a) × (a ≤ℤ b)) ⊎ ((z ≡ b) × (b <ℤ a))) (λ h. inl (refl, h)) (λ h. inr (refl, h))
 
@@ -167,12 +159,6 @@ min≤l a b = min-cases a b (λ z. z ≤ℤ a) (λ h. omega ints) (λ h. omega i
 
 pub min≤r : (a b : ℤ) → minℤ a b ≤ℤ b
 min≤r a b = min-cases a b (λ z. z ≤ℤ b) (λ h. omega ints) (λ h. omega ints)
-
-pub max≥l : (a b : ℤ) → a ≤ℤ maxℤ a b
-max≥l a b = max-cases a b (λ z. a ≤ℤ z) (λ h. omega ints) (λ h. omega ints)
-
-pub max≥r : (a b : ℤ) → b ≤ℤ maxℤ a b
-max≥r a b = max-cases a b (λ z. b ≤ℤ z) (λ h. omega ints) (λ h. omega ints)
 
 -- ---- a width's range: z is within k of 0, so it fits
 pub fits-within : (w : Width) (z : ℤ) (k : ℕ) → T (ltb k (2 ^ hbits w)) → up z ≤ k + dn z → dn z ≤ k + up z → SFits w z
@@ -185,10 +171,3 @@ fits-parts {w} {z} f = go z (f .sfits)
     go : (z : ℤ) → mag z < 2 ^ hbits w → (up z < 2 ^ hbits w) × (dn z ≤ 2 ^ hbits w)
     go (pos n) h = omega arith
     go (negsuc n) h = omega arith
-
--- the sum of two numbers of 16 bits fits 32 bits
-pub sum-fits-wide : {x y : ℤ} → SFits w16 x → SFits w16 y → SFits w32 (x +ℤ y)
-sum-fits-wide {x} {y} f g =
-    let p = fits-parts f in
-    let q = fits-parts g in
-    fits-within w32 (x +ℤ y) 70000 tt (omega (arith, p, q, sum x y)) (omega (arith, p, q, sum x y))

@@ -1,6 +1,6 @@
 ghost use mathlib.Core.Path.{_≡_};
 ghost use lib.Signed.{ltZ};
-ghost use Rattle.integers.specs.Parts.{minℤ, maxℤ};
+ghost use Rattle.integers.specs.Parts.{minℤ};
 
 // Signed comparisons as leaves: a caller branches on a flag that a definition names.
 
@@ -14,10 +14,4 @@ pub fn lesser(a: i16, b: i16) -> i16
     ensures { λ r. ⌜ r ≡ minℤ a b ⌝ }
 {
     if b < a { b } else { a }
-}
-
-pub fn greater(a: i16, b: i16) -> i16
-    ensures { λ r. ⌜ r ≡ maxℤ a b ⌝ }
-{
-    if a < b { b } else { a }
 }

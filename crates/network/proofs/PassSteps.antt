@@ -1,6 +1,7 @@
 -- The three loops of the pass, one turn at a time.
 -- Key idea: while the rows are rewritten, the table is its new rows in front and its old ones behind; while a row's stretches are rewritten, the row is its
--- new values in front and its old ones behind. What is still to be asked of the rows left gives the pass's whole answer, so a break keeps it at hand.
+-- new values in front and its old ones behind. What the rows left will say gives the pass's whole answer, so a break keeps it at hand; and the table at
+-- which a middle boundary begins is one that the pass reaches, so it is small and every sum of two of its numbers fits.
 use mathlib.Core.Path.{_≡_, refl, sym, ap, ap₂, _∙_, subst}
 use mathlib.Core.Bool.{Bool, true, false, _&&_, cond}
 use mathlib.Core.List.{List, _++_, map}
@@ -10,43 +11,43 @@ use native.Mathlib.Numerals.{add-one}
 use native.Mathlib.Decide.{decLe}
 use lib.Dec.{T, leb, ltb, ltb→lt}
 use lib.ListN.{length, getD, take, drop, length-take, replicate, List·getD-append}
-use lib.IntN.{ℤ, pos, negsuc, _+ℤ_}
-use lib.Signed.{leZ, ltZ}
+use lib.IntN.{ℤ, pos, _+ℤ_}
+use lib.Signed.{ltZ}
+use mir.Syntax.{w16}
+use mir.Val.{SFits}
 use borrow.Author.Tests.{lt-ltb, le-leb}
 use Rattle.integers.specs.Parts.{minℤ}
 use Rattle.lists.specs.Lists.{run, joined}
-use Rattle.lists.specs.Members.{and-left, and-right, every-at}
+use Rattle.lists.specs.Members.{and-left, and-right}
 use Rattle.lists.specs.Slices.{part-at, part-length, back, back-length}
 use Rattle.lists.specs.Values.{listOf, length-listOf, listOf-at, listOf-is, values-are}
 use Rattle.lists.specs.Values.{Filled, filled-old, filled-new, filled-part, front-rest, front-past, front-part}
 use Rattle.network.specs.Closure.{step}
-use Rattle.network.specs.Table.{maxBoundaries, entry, middle, sumInRange, rowInRange}
-use Rattle.network.specs.Table.{Passed, finished, stopped, outOfRange, afterRows, passFrom, outcomeOf, cleared, After}
+use Rattle.network.specs.Table.{maxBoundaries, entry, middle}
+use Rattle.network.specs.Table.{Passed, finished, stopped, afterRows, passFrom, outcomeOf, cleared, After}
 use Rattle.network.specs.TableLaws.{length-rows, rows-snoc, drop-middle}
-use Rattle.network.specs.RowStep.{leastOf, greatestOf, relaxedAt, relaxed, fallsIn, SumsInRange, Loaded, Ran}
+use Rattle.network.specs.PassLaws.{pass-more}
+use Rattle.network.specs.RowStep.{relaxedAt, relaxed, fallsIn, SumsFit, Ran}
+use Rattle.network.specs.Bounds.{Small, StaysSmall}
+use Rattle.network.specs.BoundLaws.{sum-fits}
 use Rattle.network.specs.declared.Outcome.{Outcome}
-use Rattle.network.specs.declared.Outcome.the-variants.{Finished}
-use Rattle.network.specs.RowStepLaws.{ends-ask-all}
+use Rattle.network.specs.declared.Outcome.the-variants.{Finished, Stopped}
 
--- ---- the middle row, copied, and its extremes
-pub record MidIs (w m : ℕ) (t mid : List ℤ) (least greatest : ℤ) : Type 0 where
-  pub room : w ≤ length mid
+-- ---- the middle row, copied
+pub record MidIs (w m : ℕ) (t mid : List ℤ) : Type 0 where
+  pub inside : m < w
+  pub small : Small w t
   pub at : (j : ℕ) → j < w → getD mid j (pos 0) ≡ entry w t m j
-  pub least-is : least ≡ leastOf (listOf w (entry w t m))
-  pub greatest-is : greatest ≡ greatestOf (listOf w (entry w t m))
 
-pub mid-is : {w m : ℕ} {t mid₀ mid : List ℤ} {least greatest : ℤ} → m * w + w ≤ length t → w ≤ length mid
-    → Loaded (take w (drop (m * w) t)) mid₀ least greatest mid → MidIs w m t mid least greatest
-mid-is {w} {m} {t} {mid₀} h r v =
+pub mid-is : {w m : ℕ} {t mid : List ℤ} (mid₀ : List ℤ) → m < w → Small w t → m * w + w ≤ length t
+    → mid ≡ take w (drop (m * w) t) ++ drop w mid₀ → MidIs w m t mid
+mid-is {w} {m} {t} mid₀ hm S h v =
     let xs = take w (drop (m * w) t) in
     let long : length xs ≡ w = part-length (m * w) w t h in
-    let is : xs ≡ listOf w (entry w t m) = listOf-is (entry w t m) (pos 0) w xs long (λ j l. part-at (m * w) w t (pos 0) j l) in
     record {
-      room = r;
-      at = λ j l. ap (λ (x : List ℤ). getD x j (pos 0)) (v .front) ∙ List·getD-append xs (drop (length xs) mid₀) (pos 0) j (omega arith)
-          ∙ part-at (m * w) w t (pos 0) j l;
-      least-is = v .low ∙ ap leastOf is;
-      greatest-is = v .high ∙ ap greatestOf is;
+      inside = hm;
+      small = S;
+      at = λ j l. ap (λ (x : List ℤ). getD x j (pos 0)) v ∙ List·getD-append xs (drop w mid₀) (pos 0) j (omega arith) ∙ part-at (m * w) w t (pos 0) j l;
     }
 
 -- ---- one row, before it is rewritten
@@ -55,9 +56,9 @@ pub record RowIs (w a : ℕ) (t row : List ℤ) : Type 0 where
   pub at : (j : ℕ) → j < w → getD row j (pos 0) ≡ entry w t a j
 
 -- that row over the middle boundary m
-pub record RowOver (w m a : ℕ) (t mid old : List ℤ) (least greatest am : ℤ) : Type 0 where
+pub record RowOver (w m a : ℕ) (t mid old : List ℤ) (am : ℤ) : Type 0 where
   pub inside : a < w
-  pub middle : MidIs w m t mid least greatest
+  pub middle : MidIs w m t mid
   pub row : RowIs w a t old
   pub over : am ≡ entry w t a m
 
@@ -126,27 +127,13 @@ module _ {am : ℤ} {mid old : List ℤ} {w a : ℕ} {outcome : Outcome} {row : 
 abbrev pub newRow : ℕ → ℕ → List ℤ → ℕ → List ℤ
 newRow w m t a = listOf w (step m (entry w t) a)
 
-module _ {w m a : ℕ} {t mid old : List ℤ} {least greatest am : ℤ} (s : RowOver w m a t mid old least greatest am) where
-  -- asking the extremes asks every sum of the row
-  pub row-asked : rowInRange w m t a ≡ (leZ (negsuc 29999) (am +ℤ least) && leZ (am +ℤ greatest) (pos 30000))
-  unfolding rowInRange
-  row-asked =
-      let xs = listOf w (entry w t m) in
-      let v = s .middle in
-      ends-ask-all (entry w t a m) xs (omega (arith, length-listOf (entry w t m) w, s .inside))
-      ∙ ap (λ (z : ℤ). leZ (negsuc 29999) (z +ℤ leastOf xs) && leZ (z +ℤ greatestOf xs) (pos 30000)) (sym (s .over))
-      ∙ ap₂ (λ (x y : ℤ). leZ (negsuc 29999) (am +ℤ x) && leZ (am +ℤ y) (pos 30000)) (sym (v .least-is)) (sym (v .greatest-is))
-
-  -- so the sums with a stretch of the middle row are in range
-  pub stretch-in-range : rowInRange w m t a ≡ true → (b k : ℕ) → b + k ≤ w → SumsInRange am (take k (drop b mid))
-  unfolding rowInRange
-  stretch-in-range r b k h j l =
+module _ {w m a : ℕ} {t mid old : List ℤ} {am : ℤ} (s : RowOver w m a t mid old am) where
+  -- the sums with a stretch of the middle row fit
+  pub stretch-fits : (b k : ℕ) → b + k ≤ w → SumsFit am (take k (drop b mid))
+  stretch-fits b k h j l =
       let hj : j < k = omega (arith, length-take k (drop b mid)) in
-      let g = entry w t m in
-      let y : getD (take k (drop b mid)) j (pos 0) ≡ getD (listOf w g) (b + j) (pos 0) =
-      part-at b k mid (pos 0) j hj ∙ s .middle .at (b + j) (omega arith) ∙ sym (listOf-at g w (b + j) (pos 0) (omega arith)) in
-      let test = every-at (λ x. sumInRange (entry w t a m +ℤ x)) (pos 0) (listOf w g) (subst T (sym r) tt) (b + j) (omega (arith, length-listOf g w)) in
-      subst T (ap₂ (λ (x y : ℤ). sumInRange (x +ℤ y)) (sym (s .over)) (sym y)) test
+      let y : getD (take k (drop b mid)) j (pos 0) ≡ entry w t m (b + j) = part-at b k mid (pos 0) j hj ∙ s .middle .at (b + j) (omega arith) in
+      subst (SFits w16) (sym (ap₂ _+ℤ_ (s .over) y)) (sum-fits w m (s .middle .inside) t (s .middle .small) a (b + j) (s .inside) (omega arith))
 
   relaxed-is : (j : ℕ) → j < w → relaxedAt am mid old j ≡ step m (entry w t) a j
   unfolding step
@@ -197,20 +184,16 @@ module _ {w m : ℕ} {t₁ t : List ℤ} {outcome : Outcome} {a : ℕ} (v : Rows
     left = omega arith
 
     next-row : (next : Passed) → afterRows w 0 w m t₁ next
-        ≡ cond (rowInRange w m t₁ a) (cond (ltZ (step m (entry w t₁) a a) (pos 0)) stopped (afterRows (w - (a + 1)) (suc a) w m t₁ next)) outOfRange
+        ≡ cond (ltZ (step m (entry w t₁) a a) (pos 0)) stopped (afterRows (w - (a + 1)) (suc a) w m t₁ next)
     unfolding afterRows
     next-row next = v .rest next ∙ ap (λ (i : ℕ). afterRows i a w m t₁ next) left
 
-    pub rows-out : rowInRange w m t₁ a ≡ false → (next : Passed) → afterRows w 0 w m t₁ next ≡ outOfRange
-    rows-out r next = next-row next ∙ (rw r refl)
-
-    pub rows-low : rowInRange w m t₁ a ≡ true → ltZ (step m (entry w t₁) a a) (pos 0) ≡ true → (next : Passed) → afterRows w 0 w m t₁ next ≡ stopped
-    rows-low r l next = next-row next ∙ (rw (r, l) refl)
+    pub rows-low : ltZ (step m (entry w t₁) a a) (pos 0) ≡ true → (next : Passed) → afterRows w 0 w m t₁ next ≡ stopped
+    rows-low l next = next-row next ∙ (rw l refl)
 
     pub rows-again : {next-outcome : Outcome} (k : ℕ) {ys : List ℤ} → next-outcome ≡ Finished → k ≡ w → a * w + k ≤ length t
-        → ys ≡ newRow w m t₁ a → rowInRange w m t₁ a ≡ true
-        → ltZ (step m (entry w t₁) a a) (pos 0) ≡ false → RowsInv w m t₁ next-outcome (back (a * w) k ys t) (a + 1)
-    rows-again k {ys} n e fits y r l =
+        → ys ≡ newRow w m t₁ a → ltZ (step m (entry w t₁) a a) (pos 0) ≡ false → RowsInv w m t₁ next-outcome (back (a * w) k ys t) (a + 1)
+    rows-again k {ys} n e fits y l =
         let long : length ys ≡ k = ap length y ∙ wide w m t₁ a ∙ sym e in
         let i : a * w + k ≡ (a + 1) * w = omega arith in
         let z : 0 + a ≡ a = omega arith in
@@ -224,7 +207,7 @@ module _ {w m : ℕ} {t₁ t : List ℤ} {outcome : Outcome} {a : ℕ} (v : Rows
               ∙ ap (λ (x : List ℤ). (xs ++ x) ++ drop ((a + 1) * w) t₁) (y ∙ ap (newRow w m t₁) (sym z))
               ∙ ap (λ (x : List ℤ). x ++ drop ((a + 1) * w) t₁)
               (sym (rows-snoc w (newRow w m t₁) (wide w m t₁) 0 a) ∙ ap (λ (n : ℕ). joined (map (newRow w m t₁) (run 0 n))) (sym (add-one a)));
-          rest = λ next. next-row next ∙ (rw (r, l) (ap (λ (n : ℕ). afterRows (w - (a + 1)) n w m t₁ next) (sym (add-one a))));
+          rest = λ next. next-row next ∙ (rw l (ap (λ (n : ℕ). afterRows (w - (a + 1)) n w m t₁ next) (sym (add-one a))));
         }
 
   module _ (h : w ≤ a) where
@@ -247,12 +230,33 @@ pub record PassInv (t₀ : List ℤ) (w from to : ℕ) (t : List ℤ) (outcome :
   pub room : length mid ≡ maxBoundaries
   pub long : length t ≡ length t₀
   pub past : drop (w * w) t ≡ drop (w * w) t₀
+  pub reached : passFrom (m - from) from w t₀ ≡ finished t
   pub rest : passFrom (to - from) from w t₀ ≡ passFrom (to - m) m w t
+
+pub pass-start : {t₀ : List ℤ} {w from to : ℕ} {outcome : Outcome} {mid : List ℤ} → from ≤ to → outcome ≡ Finished → length mid ≡ maxBoundaries
+    → PassInv t₀ w from to t₀ outcome mid from
+unfolding passFrom
+pass-start {t₀} {w} {from} h n l =
+    let z : from - from ≡ 0 = omega arith in
+    record {
+      at-least = omega arith;
+      at-most = h;
+      none = n;
+      room = l;
+      long = refl;
+      past = refl;
+      reached = ap (λ (i : ℕ). passFrom i from w t₀) z;
+      rest = refl;
+    }
 
 module _ {t₀ t₁ : List ℤ} {w from to : ℕ} {outcome₁ : Outcome} {mid₁ : List ℤ} {m : ℕ} (p : PassInv t₀ w from to t₁ outcome₁ mid₁ m) where
   next-middle : m < to → passFrom (to - from) from w t₀ ≡ afterRows w 0 w m t₁ (passFrom (to - (m + 1)) (suc m) w (middle w m t₁))
   unfolding passFrom
   next-middle h = let k : to - m ≡ suc (to - (m + 1)) = omega arith in p .rest ∙ ap (λ (i : ℕ). passFrom i m w t₁) k
+
+  -- the table at which this middle boundary begins is one that the pass reaches
+  pub begins-small : m < to → StaysSmall w from (to - from) t₀ → Small w t₁
+  begins-small h S = S (m - from) t₁ (omega (arith, p .at-least)) (p .reached)
 
   pub middle-again : m < to → {t : List ℤ} {outcome : Outcome} {a : ℕ} → RowsInv w m t₁ outcome t a → w ≤ a → {mid : List ℤ} → length mid ≡ maxBoundaries
       → PassInv t₀ w from to t outcome mid (m + 1)
@@ -263,6 +267,12 @@ module _ {t₀ t₁ : List ℤ} {w from to : ℕ} {outcome₁ : Outcome} {mid₁
     room = l;
     long = v .long ∙ p .long;
     past = ap (drop (w * w)) (rows-done v ha) ∙ drop-middle w m t₁ ∙ p .past;
+    reached =
+        let k : m + 1 - from ≡ suc (m - from) = omega (arith, p .at-least) in
+        let i : from + (m - from) ≡ m = omega (arith, p .at-least) in
+        ap (λ (n : ℕ). passFrom n from w t₀) k ∙ pass-more w (m - from) from t₀ t₁ (p .reached)
+        ∙ ap (λ (n : ℕ). afterRows w 0 w n t₁ (finished (middle w n t₁))) i
+        ∙ rows-on v ha (finished (middle w m t₁)) ∙ ap finished (sym (rows-done v ha));
     rest = next-middle h ∙ rows-on v ha (passFrom (to - (m + 1)) (suc m) w (middle w m t₁))
         ∙ ap (λ (x : List ℤ). passFrom (to - (m + 1)) (suc m) w x) (sym (rows-done v ha))
         ∙ ap (λ (n : ℕ). passFrom (to - (m + 1)) n w t) (sym (add-one m));
@@ -280,22 +290,24 @@ module _ {t₀ t₁ : List ℤ} {w from to : ℕ} {outcome₁ : Outcome} {mid₁
         past = p .past;
       }
 
-  -- the pass ends at a row, with the table half done
-  pub pass-left : m < to → (end : Passed) (r : Outcome) (u : List ℤ) → ((x : List ℤ) → end ≡ finished x → ⊥)
-      → ((next : Passed) → afterRows w 0 w m t₁ next ≡ end) → r ≡ outcomeOf end
-      → length u ≡ length t₁ → drop (w * w) u ≡ drop (w * w) t₁ → Ran w t₀ (passFrom (to - from) from w t₀) r u
-  pass-left h end r u other e o l q =
+  -- the pass stops at a row, with the table half done
+  pub pass-left : m < to → (u : List ℤ) → ((next : Passed) → afterRows w 0 w m t₁ next ≡ stopped)
+      → length u ≡ length t₁ → drop (w * w) u ≡ drop (w * w) t₁ → Ran w t₀ (passFrom (to - from) from w t₀) Stopped u
+  pass-left h u e l q =
       let g = next-middle h ∙ e (passFrom (to - (m + 1)) (suc m) w (middle w m t₁)) in
-      record { outcome = o ∙ sym (ap outcomeOf g); table = λ x y. absurd (other x (sym g ∙ y)); long = l ∙ p .long; past = q ∙ p .past }
+      record {
+        outcome = sym (ap outcomeOf g);
+        table = λ x y. let r : stopped ≡ finished x = sym g ∙ y in let z : _≡_ {A = ℕ} 0 1 = cc in let f : ⊥ = omega arith in absurd f;
+        long = l ∙ p .long;
+        past = q ∙ p .past;
+      }
 
 -- ---- what the caller finds: the table of a pass that finished, and zeros otherwise
 pub after-finished : {w : ℕ} {t : List ℤ} {p : Passed} {r : Outcome} {u : List ℤ} → Ran w t p r u → r ≡ Finished → After w t p r u
 after-finished {p = finished x} v e = record { outcome = v .outcome; table = v .table x refl }
 after-finished {p = stopped} v e = let o = v .outcome in let z : _≡_ {A = ℕ} 0 1 = cc in let f : ⊥ = omega arith in absurd f
-after-finished {p = outOfRange} v e = let o = v .outcome in let z : _≡_ {A = ℕ} 0 1 = cc in let f : ⊥ = omega arith in absurd f
 
 pub after-cleared : {w : ℕ} {t : List ℤ} {p : Passed} {r : Outcome} {u x : List ℤ} → Ran w t p r u → (r ≡ Finished → ⊥)
     → x ≡ cleared (w * w) u → After w t p r x
 after-cleared {p = finished y} v other e = absurd (other (v .outcome))
 after-cleared {w} {p = stopped} v other e = record { outcome = v .outcome; table = e ∙ ap (λ (l : List ℤ). replicate (w * w) (pos 0) ++ l) (v .past) }
-after-cleared {w} {p = outOfRange} v other e = record { outcome = v .outcome; table = e ∙ ap (λ (l : List ℤ). replicate (w * w) (pos 0) ++ l) (v .past) }

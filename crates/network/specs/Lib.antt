@@ -7,4 +7,5 @@ pub mod TableLaws
 pub mod PassLaws
 pub mod PassFront
 pub mod RowStep
-pub mod RowStepLaws
+pub mod Bounds
+pub mod BoundLaws

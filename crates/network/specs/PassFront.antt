@@ -9,12 +9,12 @@ use lib.ListN.{length, drop, drop-of-length-le, List·getD-append}
 use lib.Seq.{drop-at}
 use lib.IntN.{ℤ, pos, _+ℤ_}
 use lib.Signed.{ltZ}
-use Rattle.lists.specs.Lists.{every, joined}
+use Rattle.lists.specs.Lists.{joined}
 use Rattle.lists.specs.Values.{listOf, values-same, listOf-same}
 use Rattle.integers.specs.Parts.{minℤ}
 use Rattle.network.specs.Network.{Weights}
 use Rattle.network.specs.Closure.{step}
-use Rattle.network.specs.Table.{tableOf, entry, middle, sumInRange, rowInRange, Passed, finished, stopped, outOfRange, afterRows, passFrom, passOf}
+use Rattle.network.specs.Table.{tableOf, entry, middle, Passed, finished, stopped, afterRows, passFrom, passOf}
 use Rattle.network.specs.TableLaws.{length-middle, row-inside}
 
 -- ---- tables that agree place by place
@@ -27,7 +27,6 @@ tableOf-same w f g h =
 abbrev pub withRest : List ℤ → Passed → Passed
 withRest r (finished t) = finished (t ++ r)
 withRest r stopped = stopped
-withRest r outOfRange = outOfRange
 
 module _ (w m : ℕ) (hm : m < w) (t r : List ℤ) (size : length t ≡ w * w) where
   entry-same : (a b : ℕ) → a < w → b < w → entry w (t ++ r) a b ≡ entry w t a b
@@ -45,26 +44,18 @@ module _ (w m : ℕ) (hm : m < w) (t r : List ℤ) (size : length t ≡ w * w) w
       ap₂ _++_ (tableOf-same w (step m (entry w (t ++ r))) (step m (entry w t)) step-same) (drop-at t r (w * w) size)
       ∙ sym (ap (λ (x : List ℤ). (T ++ x) ++ r) none ∙ ap (λ (x : List ℤ). x ++ r) (append-nil T))
 
-  row-same : (a : ℕ) → a < w → rowInRange w m (t ++ r) a ≡ rowInRange w m t a
-  unfolding rowInRange
-  row-same a ha =
-      ap₂ (λ (x : ℤ) (ys : List ℤ). every (λ y. sumInRange (x +ℤ y)) ys) (entry-same a m ha hm)
-      (listOf-same w (entry w (t ++ r) m) (entry w t m) (λ b hb. entry-same m b hm hb))
-
-  chosen : (ok low : Bool) (next : Passed) → cond ok (cond low stopped (withRest r next)) outOfRange ≡ withRest r (cond ok (cond low stopped next) outOfRange)
-  chosen true true next = refl
-  chosen true false next = refl
-  chosen false low next = refl
+  chosen : (low : Bool) (next : Passed) → cond low stopped (withRest r next) ≡ withRest r (cond low stopped next)
+  chosen true next = refl
+  chosen false next = refl
 
   rows-front : (k a : ℕ) → a + k ≤ w → (next : Passed) → afterRows k a w m (t ++ r) (withRest r next) ≡ withRest r (afterRows k a w m t next)
   unfolding afterRows
   rows-front zero a h next = refl
   rows-front (suc k) a h next =
-      ap₂ (λ (ok low : Bool). cond ok (cond low stopped (afterRows k (suc a) w m (t ++ r) (withRest r next))) outOfRange)
-      (row-same a (omega arith)) (ap (λ (z : ℤ). ltZ z (pos 0)) (step-same a a (omega arith) (omega arith)))
-      ∙ ap (λ (p : Passed). cond (rowInRange w m t a) (cond (ltZ (step m (entry w t) a a) (pos 0)) stopped p) outOfRange)
-      (rows-front k (suc a) (omega arith) next)
-      ∙ chosen (rowInRange w m t a) (ltZ (step m (entry w t) a a) (pos 0)) (afterRows k (suc a) w m t next)
+      let low = ltZ (step m (entry w t) a a) (pos 0) in
+      ap (λ (z : ℤ). cond (ltZ z (pos 0)) stopped (afterRows k (suc a) w m (t ++ r) (withRest r next))) (step-same a a (omega arith) (omega arith))
+      ∙ ap (cond low stopped) (rows-front k (suc a) (omega arith) next)
+      ∙ chosen low (afterRows k (suc a) w m t next)
 
 from-front : (w k m : ℕ) → m + k ≤ w → (t r : List ℤ) → length t ≡ w * w → passFrom k m w (t ++ r) ≡ withRest r (passFrom k m w t)
 unfolding passFrom

@@ -1,17 +1,17 @@
 -- The table of a network as a list of numbers, row by row, and the pass over it. Definitions only.
 use mathlib.Core.Path.{_≡_}
-use mathlib.Core.Bool.{Bool, _&&_, cond}
+use mathlib.Core.Bool.{cond}
 use mathlib.Core.List.{List, _++_}
 use Prim.Native.Nat.{ℕ, zero, suc, _+_, _*_}
 use lib.ListN.{getD, drop, replicate}
-use lib.IntN.{ℤ, pos, negsuc, _+ℤ_}
-use lib.Signed.{leZ, ltZ}
-use Rattle.lists.specs.Lists.{every, joined}
+use lib.IntN.{ℤ, pos}
+use lib.Signed.{ltZ}
+use Rattle.lists.specs.Lists.{joined}
 use Rattle.lists.specs.Values.{listOf}
 use Rattle.network.specs.Network.{Weights}
 use Rattle.network.specs.Closure.{step}
 use Rattle.network.specs.declared.Outcome.{Outcome}
-use Rattle.network.specs.declared.Outcome.the-variants.{Finished, Stopped, OutOfRange}
+use Rattle.network.specs.declared.Outcome.the-variants.{Finished, Stopped}
 
 -- the largest number of boundaries
 abbrev pub maxBoundaries : ℕ
@@ -29,25 +29,15 @@ entry w t a b = getD t (a * w + b) (pos 0)
 unfoldable pub middle : ℕ → ℕ → List ℤ → List ℤ
 middle w m t = tableOf w (step m (entry w t)) ++ drop (w * w) t
 
--- a sum lies from -30000 to 30000 (question 14)
-abbrev pub sumInRange : ℤ → Bool
-sumInRange z = leZ (negsuc 29999) z && leZ z (pos 30000)
-
--- every sum made in row a over middle boundary m is in range
-unfoldable pub rowInRange : ℕ → ℕ → List ℤ → ℕ → Bool
-rowInRange w m t a = every (λ y. sumInRange (entry w t a m +ℤ y)) (listOf w (entry w t m))
-
--- how a pass ends: with its table, at a diagonal entry below 0, or at a sum out of range
+-- how a pass ends: with its table, or at a diagonal entry below 0
 pub data Passed : Type 0 where
   finished : List ℤ → Passed
   stopped : Passed
-  outOfRange : Passed
 
--- k rows from row a on, in order, over middle boundary m of the table t: each has its sums in range and its new diagonal entry not below 0, or ends the pass
+-- k rows from row a on, in order, over middle boundary m of the table t: each has its new diagonal entry not below 0, or ends the pass
 unfoldable pub afterRows : ℕ → ℕ → ℕ → ℕ → List ℤ → Passed → Passed
 afterRows zero a w m t next = next
-afterRows (suc k) a w m t next =
-    cond (rowInRange w m t a) (cond (ltZ (step m (entry w t) a a) (pos 0)) stopped (afterRows k (suc a) w m t next)) outOfRange
+afterRows (suc k) a w m t next = cond (ltZ (step m (entry w t) a a) (pos 0)) stopped (afterRows k (suc a) w m t next)
 
 -- k middle boundaries from m on
 unfoldable pub passFrom : ℕ → ℕ → ℕ → List ℤ → Passed
@@ -62,7 +52,6 @@ passOf w t = passFrom w 0 w t
 abbrev pub outcomeOf : Passed → Outcome
 outcomeOf (finished t) = Finished
 outcomeOf stopped = Stopped
-outcomeOf outOfRange = OutOfRange
 
 abbrev pub cleared : ℕ → List ℤ → List ℤ
 cleared n t = replicate n (pos 0) ++ drop n t
@@ -70,7 +59,6 @@ cleared n t = replicate n (pos 0) ++ drop n t
 abbrev pub tableAfter : ℕ → List ℤ → Passed → List ℤ
 tableAfter w t (finished u) = u
 tableAfter w t stopped = cleared (w * w) t
-tableAfter w t outOfRange = cleared (w * w) t
 
 -- the answer r and the list u that a pass p leaves where t was lent
 pub record After (w : ℕ) (t : List ℤ) (p : Passed) (r : Outcome) (u : List ℤ) : Type 0 where

@@ -1,12 +1,10 @@
 ghost use mathlib.Core.Path.{_≡_};
-ghost use mathlib.Core.Bool.{_&&_};
 ghost use mathlib.Core.List.{_++_};
 ghost use Prim.Native.Nat.{_+_, _-_, _*_, _≤_, _<_, min};
 ghost use lib.ListN.{length, take, drop};
-ghost use lib.IntN.{ℤ, pos, negsuc, _+ℤ_};
-ghost use lib.Signed.{leZ};
 ghost use Rattle.network.specs.Table.{maxBoundaries, entry, passFrom, passOf, After, cleared};
-ghost use Rattle.network.specs.RowStep.{leastOf, greatestOf, stretch, relaxed, fallsIn, SumsInRange, Loaded, Ran};
+ghost use Rattle.network.specs.RowStep.{stretch, relaxed, fallsIn, SumsFit, Ran};
+ghost use Rattle.network.specs.Bounds.{Small, Limited, StaysSmall};
 
 // The largest number of boundaries, as sheets have them (sheet/specs/Sizes.antt ties the two).
 pub const MAX_BOUNDARIES: usize = 49;
@@ -18,11 +16,7 @@ const STRETCH: usize = 32;
 pub enum Outcome {
     Finished,
     Stopped,
-    OutOfRange,
 }
-
-// The least and the greatest entry of a row.
-struct Extremes(i16, i16);
 
 // The row, at the front of out.
 pub fn copy_row(row: &[i16], out: &mut [i16])
@@ -34,46 +28,14 @@ pub fn copy_row(row: &[i16], out: &mut [i16])
     }
 }
 
-fn ends_of(row: &[i16]) -> Extremes
-    requires { ⌜ 0 < length (now row) ⌝ }
-    ensures { λ r. ⌜ (r .0 ≡ leastOf (now (row .entry))) × (r .1 ≡ greatestOf (now (row .entry))) ⌝ }
-{
-    let mut least = row[0];
-    let mut greatest = row[0];
-    for b in 0..row.len() {
-        let x = row[b];
-        least = integers::lesser(least, x);
-        greatest = integers::greater(greatest, x);
-    }
-    Extremes(least, greatest)
-}
-
-// Row m as it is before the table changes, and its extremes.
-fn load_row(t: &[i16], m: usize, w: usize, out: &mut [i16]) -> Extremes
+// Row m as it is before the table changes.
+fn load_row(t: &[i16], m: usize, w: usize, out: &mut [i16])
     requires { ⌜ (m < w) × (w * w ≤ length (now t)) × (w ≤ length (now out)) ⌝ }
-    ensures { λ r. ⌜ Loaded (take w (drop (m * w) (now (t .entry)))) (now (out .entry)) (r .0) (r .1) (now (out .exit)) ⌝ }
+    ensures { λ r. ⌜ now (out .exit) ≡ take w (drop (m * w) (now (t .entry))) ++ drop w (now (out .entry)) ⌝ }
 {
     let first = m * w;
     let last = first + w;
     copy_row(&t[first..last], out);
-    ends_of(&t[first..last])
-}
-
-// All sums of a row fit exactly when the two extreme ones do, so asking these asks every sum (question 14).
-fn sums_fit(ends: Extremes, am: i16) -> bool
-    ensures { λ r. ⌜ r ≡ (leZ (negsuc 29999) (am +ℤ ends .0) && leZ (am +ℤ ends .1) (pos 30000)) ⌝ }
-{
-    let least = ends.0;
-    let greatest = ends.1;
-    let low = (am as i32) + (least as i32);
-    let high = (am as i32) + (greatest as i32);
-    if low < -30000 {
-        return false;
-    }
-    if 30000 < high {
-        return false;
-    }
-    true
 }
 
 // How many stretches a row has. Two are enough, and the count is a test and no division: so the compiler sees that a second stretch is not empty.
@@ -94,7 +56,7 @@ fn stretch_end(b: usize, w: usize) -> usize
 
 // The row step: each entry becomes the smaller of itself and the sum over the middle boundary. Every entry is stored, so that no branch is left.
 pub fn relax_row(row: &mut [i16], mid: &[i16], am: i16)
-    requires { ⌜ (length (now row) ≤ length (now mid)) × SumsInRange am (now mid) ⌝ }
+    requires { ⌜ (length (now row) ≤ length (now mid)) × SumsFit am (now mid) ⌝ }
     ensures { λ r. ⌜ now (row .exit) ≡ relaxed am (now (mid .entry)) (now (row .entry)) ⌝ }
 {
     for b in 0..row.len() {
@@ -131,24 +93,20 @@ pub fn clear(n: usize, t: &mut [i16])
     }
 }
 
-// The middle boundaries from..to, until a diagonal entry falls below 0 or a sum is out of range. The table is then left half done.
+// The middle boundaries from..to, until a diagonal entry falls below 0. The table is then left half done.
 fn run_middles(t: &mut [i16], w: usize, from: usize, to: usize) -> Outcome
-    requires { ⌜ (0 < w) × (w ≤ maxBoundaries) × (w * w ≤ length (now t)) × (from ≤ to) × (to ≤ w) ⌝ }
+    requires { ⌜ (0 < w) × (w ≤ maxBoundaries) × (w * w ≤ length (now t)) × (from ≤ to) × (to ≤ w) × StaysSmall w from (to - from) (now t) ⌝ }
     ensures { λ r. ⌜ Ran w (now (t .entry)) (passFrom (to - from) from w (now (t .entry))) r (now (t .exit)) ⌝ }
 {
     let mut outcome = Outcome::Finished;
     let mut mid = [0i16; MAX_BOUNDARIES];
     'pass: for m in from..to {
-        let ends = load_row(t, m, w, &mut mid);
+        load_row(t, m, w, &mut mid);
         for a in 0..w {
             let start = a * w;
             let end = start + w;
             let row = &mut t[start..end];
             let am = row[m];
-            if sums_fit(ends, am) {} else {
-                outcome = Outcome::OutOfRange;
-                break 'pass;
-            }
             let n = stretches(w);
             for k in 0..n {
                 let b = k * STRETCH;
@@ -178,21 +136,28 @@ fn capped(w: usize) -> usize
 
 // The middle boundaries from..to. Where they do not all finish, the table's places become 0; places past the table never change.
 pub fn pass_middles(t: &mut [i16], w: usize, from: usize, to: usize) -> Outcome
-    requires { ⌜ (0 < w) × (w ≤ maxBoundaries) × (w * w ≤ length (now t)) × (from ≤ to) × (to ≤ w) ⌝ }
+    requires { ⌜ (0 < w) × (w ≤ maxBoundaries) × (w * w ≤ length (now t)) × (from ≤ to) × (to ≤ w) × StaysSmall w from (to - from) (now t) ⌝ }
     ensures { λ r. ⌜ After w (now (t .entry)) (passFrom (to - from) from w (now (t .entry))) r (now (t .exit)) ⌝ }
 {
     let outcome = run_middles(t, capped(w), from, to);
     match outcome {
         Outcome::Finished => {}
         Outcome::Stopped => clear(w * w, t),
-        Outcome::OutOfRange => clear(w * w, t),
     }
     outcome
 }
 
+// One middle boundary, of a table that may come from anywhere as long as its numbers are small.
+pub fn pass_middle(t: &mut [i16], w: usize, m: usize) -> Outcome
+    requires { ⌜ (m < w) × (w ≤ maxBoundaries) × (w * w ≤ length (now t)) × Small w (now t) ⌝ }
+    ensures { λ r. ⌜ After w (now (t .entry)) (passFrom 1 m w (now (t .entry))) r (now (t .exit)) ⌝ }
+{
+    pass_middles(t, w, m, m + 1)
+}
+
 // The whole pass.
 pub fn pass(t: &mut [i16], w: usize) -> Outcome
-    requires { ⌜ (0 < w) × (w ≤ maxBoundaries) × (w * w ≤ length (now t)) ⌝ }
+    requires { ⌜ (0 < w) × (w ≤ maxBoundaries) × (w * w ≤ length (now t)) × Limited w (now t) ⌝ }
     ensures { λ r. ⌜ After w (now (t .entry)) (passOf w (now (t .entry))) r (now (t .exit)) ⌝ }
 {
     pass_middles(t, w, 0, w)

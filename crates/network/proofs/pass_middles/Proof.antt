@@ -29,12 +29,7 @@ returns-2 c =
     after-cleared (ran-here (c .before .before .before .before .before .before))
     (λ e. let o = c .before .before .before .enum-told2 .given in let z : _≡_ {A = ℕ} 0 1 = cc in omega arith) (c .before .clear .ensures)
 
-returns-3 : tie.Need-returns-3
-returns-3 c =
-    after-cleared (ran-here (c .before .before .before .before .before .before))
-    (λ e. let o = c .before .before .before .enum-told3 .given in let z : _≡_ {A = ℕ} 0 1 = cc in omega arith) (c .before .clear2 .ensures)
-
 pub pass-middles-spec : {M : Type 1} → statement M
 pass-middles-spec = tie.close (tie.spec (λ c κs. search needs) run-middles-requires (λ c. search needs) (λ c. search needs) (λ c. search needs)
-    (λ c κs. search needs) (λ c. search needs) (λ c. search needs) (λ c κs. search needs) (λ c. search needs)
-    (λ c. after-finished (ran-here (c .before .before .before)) (c .enum-told .given .1)) (λ c. search needs) returns-2 (λ c. search needs) returns-3)
+    (λ c κs. search needs) (λ c. search needs)
+    (λ c. after-finished (ran-here (c .before .before .before)) (c .enum-told .given .1)) (λ c. search needs) returns-2)

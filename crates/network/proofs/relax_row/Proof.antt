@@ -1,4 +1,4 @@
--- The places in front hold the smaller numbers, and the others what they had; the sum is in range at each place, so it fits 16 bits.
+-- The places in front hold the smaller numbers, and the others what they had; the caller answers for the sums.
 use Prim.Native.Nat.{_-_, _<_}
 use native.Mathlib.Omega.{arith}
 use mathlib.Core.Path.{_≡_, refl, ap, _∙_}
@@ -12,7 +12,6 @@ use Rattle.integers.specs.Parts.{minℤ}
 use Rattle.lists.specs.Values.{filled-old, filled-all}
 use Rattle.lists.specs.Fill.{FillInv, fill-start, fill-next, fill-end}
 use Rattle.network.specs.RowStep.{relaxedAt}
-use Rattle.network.specs.RowStepLaws.{range-fits}
 use Rattle.network.proofs.relax_row.Statement.{statement}
 use Rattle.network.proofs.relax_row.Tie as tie
 
@@ -29,7 +28,7 @@ add-lesser c =
     let b = c .before .before .before .loop .b in
     let h : b < length mid = omega arith in
     let f : SFits w16 (getD mid b (pos 0)) = search needs in
-    rw (toZ-ofZ (st .fits .am), toZ-ofZ f) (range-fits (st .args .am +ℤ getD mid b (pos 0)) (st .pre .1 b h))
+    rw (toZ-ofZ (st .fits .am), toZ-ofZ f) (st .pre .1 b h)
 
 loop-again : tie.Need-loop-again Inv-loop μ-loop
 loop-again c =
@@ -41,7 +40,7 @@ loop-again c =
     let h : l .b < length mid = omega arith in
     let fx : SFits w16 (getD (l .row) (l .b) (pos 0)) = search needs in
     let fm : SFits w16 (getD mid (l .b) (pos 0)) = search needs in
-    let fs = range-fits (am +ℤ getD mid (l .b) (pos 0)) (st .pre .1 (l .b) h) in
+    let fs = st .pre .1 (l .b) h in
     let fr : SFits w16 (c .lesser .result) = search needs in
     let inv : FillInv (relaxedAt am mid row₀) (length row₀) row₀ (l .b) (l .row) = simp (toZ-ofZ (st .fits .am)) at (l .inv .1) in
     let old = filled-old (relaxedAt am mid row₀) (l .b) row₀ (l .row) (inv .form) (l .b) (pos 0) (omega arith) in

@@ -12,29 +12,28 @@ use mir.Val.{SFits, toZ, ofZ}
 use mir.Facts.{toZ-ofZ}
 use borrow.Author.Needs.{needs}
 use Rattle.lists.specs.Slices.{back, back-length, back-past, part-length}
-use Rattle.network.specs.Table.{maxBoundaries, rowInRange, Passed, finished, stopped, outOfRange, afterRows, passFrom, outcomeOf}
+use Rattle.network.specs.Table.{maxBoundaries, Passed, stopped, afterRows, passFrom}
 use Rattle.network.specs.TableLaws.{row-inside}
 use Rattle.network.specs.RowStep.{stretch, Ran}
-use Rattle.network.specs.declared.Outcome.{Outcome}
-use Rattle.network.specs.declared.Outcome.the-variants.{Stopped, OutOfRange}
-use Rattle.network.proofs.PassSteps.{MidIs, mid-is, RowIs, RowOver, row-asked, stretch-in-range, row-is, row-done, row-low}
+use Rattle.network.specs.declared.Outcome.the-variants.{Stopped}
+use Rattle.network.proofs.PassSteps.{MidIs, mid-is, RowIs, RowOver, stretch-fits, row-is, row-done, row-low}
 use Rattle.network.proofs.PassSteps.{ColsInv, cols-start, cols-long, cols-again, cols-low}
-use Rattle.network.proofs.PassSteps.{RowsInv, rows-start, rows-past, rows-out, rows-low, rows-again}
-use Rattle.network.proofs.PassSteps.{PassInv, middle-again, pass-ended, pass-left}
+use Rattle.network.proofs.PassSteps.{RowsInv, rows-start, rows-past, rows-low, rows-again}
+use Rattle.network.proofs.PassSteps.{PassInv, pass-start, begins-small, middle-again, pass-ended, pass-left}
 use Rattle.network.proofs.run_middles.Statement.{statement}
 use Rattle.network.proofs.run_middles.Tie as tie
 
 abbrev Inv-loop2 : tie.InvT-loop2
-Inv-loop2 w from to outcome₀ mid m ends a start end row₀ am n k₀ outcome row k = ColsInv (toZ w16 am) mid row₀ w a outcome row (min (k * stretch) w)
+Inv-loop2 w from to outcome₀ mid m a start end row₀ am n k₀ outcome row k = ColsInv (toZ w16 am) mid row₀ w a outcome row (min (k * stretch) w)
 
 abbrev μ-loop2 : tie.MeasureT-loop2
-μ-loop2 w from to outcome₀ mid m ends a start end row₀ am n k₀ outcome row k = n - k
+μ-loop2 w from to outcome₀ mid m a start end row₀ am n k₀ outcome row k = n - k
 
 abbrev Inv-loop : tie.InvT-loop
-Inv-loop t₀ w from to outcome₀ mid m ends a₀ t outcome a = RowsInv w m t₀ outcome t a
+Inv-loop t₀ w from to outcome₀ mid m a₀ t outcome a = RowsInv w m t₀ outcome t a
 
 abbrev μ-loop : tie.MeasureT-loop
-μ-loop t₀ w from to outcome₀ mid m ends a₀ t outcome a = w - a
+μ-loop t₀ w from to outcome₀ mid m a₀ t outcome a = w - a
 
 abbrev Inv-pass : tie.InvT-pass
 Inv-pass t₀ w from to outcome₀ mid₀ m₀ t outcome mid m = PassInv t₀ w from to t outcome mid m
@@ -64,12 +63,6 @@ started c = turn c .pass .t
 abbrev copy : InMiddle → List ℤ
 copy c = c .load-row .last .1 .1 .1 .0
 
-abbrev least : InMiddle → ℤ
-least c = c .load-row .result .0
-
-abbrev greatest : InMiddle → ℤ
-greatest c = c .load-row .result .1
-
 copy-room : (c : InMiddle) → length (copy c) ≡ maxBoundaries
 copy-room c = c .load-row .kept .1 .1 .1 .0 ∙ turn c .pass .inv .room
 
@@ -80,10 +73,11 @@ below c = c .before .before .before .pass-test .taken
 middle-below : (c : InMiddle) → middleAt c < width c
 middle-below c = omega (arith, below c, start c .pre)
 
-mid-here : (c : InMiddle) → MidIs (width c) (middleAt c) (started c) (copy c) (least c) (greatest c)
+mid-here : (c : InMiddle) → MidIs (width c) (middleAt c) (started c) (copy c)
 mid-here c =
     let inside = row-inside (middleAt c) (width c) (middle-below c) in
-    mid-is (omega (arith, start c .pre, turn c .pass .inv .long)) (omega (arith, copy-room c, start c .pre)) (c .load-row .ensures)
+    let S = begins-small (turn c .pass .inv) (below c) (start c .pre .5) in
+    mid-is (turn c .pass .mid) (middle-below c) S (omega (arith, start c .pre, turn c .pass .inv .long)) (c .load-row .ensures)
 
 -- ---- in a turn of the loop over rows
 abbrev InRow : Type 0
@@ -128,62 +122,45 @@ put-long c row n =
     back-length (from c) (size c) row (table c) (omega (arith, row-room c)) (omega (arith, row-room c))
     ∙ c .before .loop .inv .long ∙ turn (middleOf c) .pass .inv .long
 
-broken : (c : InRow) (row : List ℤ) → length row ≡ width (middleOf c) → (end : Passed) (o : Outcome) → ((x : List ℤ) → end ≡ finished x → ⊥)
-    → ((next : Passed) → afterRows (width (middleOf c)) 0 (width (middleOf c)) (middleAt (middleOf c)) (started (middleOf c)) next ≡ end) → o ≡ outcomeOf end
+broken : (c : InRow) (row : List ℤ) → length row ≡ width (middleOf c)
+    → ((next : Passed) → afterRows (width (middleOf c)) 0 (width (middleOf c)) (middleAt (middleOf c)) (started (middleOf c)) next ≡ stopped)
     → (let a = start (middleOf c) .args in
-    Ran (a .w) (a .t .now) (passFrom (a .to - a .from) (a .from) (a .w) (a .t .now)) o (put c row))
-broken c row n end o other e is =
+    Ran (a .w) (a .t .now) (passFrom (a .to - a .from) (a .from) (a .w) (a .t .now)) Stopped (put c row))
+broken c row n e =
     let m = middleOf c in
     let l = c .before .loop in
     let inside = row-inside (rowAt c) (width m) (c .loop-test .taken) in
     let fits : from c + size c ≤ length (table c) = omega (arith, row-room c) in
     let n′ : length row ≡ size c = omega (arith, row-room c) in
-    pass-left (turn m .pass .inv) (below m) end o (put c row) other e is
+    pass-left (turn m .pass .inv) (below m) (put c row) e
     (back-length (from c) (size c) row (table c) fits n′ ∙ l .inv .long)
     (back-past (from c) (size c) row (table c) fits n′ (width m * width m) (omega (arith, row-room c)) ∙ rows-past (l .inv) (omega arith))
 
--- ---- a row whose sums were asked
-abbrev Asked : Type 0
-Asked = tie.After-sums-fit Inv-loop2 μ-loop2 Inv-loop μ-loop Inv-pass μ-pass
+-- ---- a row over the middle boundary
+abbrev Over : Type 0
+Over = tie.After-stretches Inv-loop2 μ-loop2 Inv-loop μ-loop Inv-pass μ-pass
 
-abbrev askedRow : Asked → InRow
-askedRow c = c .before .before .before
+abbrev overRow : Over → InRow
+overRow c = c .before .before .before
 
-over : (c : Asked)
-    → (let r = askedRow c in let m = middleOf r in
-    RowOver (width m) (middleAt m) (rowAt r) (started m) (copy m) (part r) (least m) (greatest m) (am r))
+over : (c : Over)
+    → (let r = overRow c in let m = middleOf r in
+    RowOver (width m) (middleAt m) (rowAt r) (started m) (copy m) (part r) (am r))
 over c =
-    let r = askedRow c in
+    let r = overRow c in
     let m = middleOf r in
     let f : SFits w16 (getD (part r) (middleAt m) (pos 0)) = search needs in
     record { inside = r .loop-test .taken; middle = mid-here m; row = row-here r; over = toZ-ofZ f ∙ row-here r .at (middleAt m) (middle-below m) }
-
-asked-here : (c : Asked)
-    → (let r = askedRow c in let m = middleOf r in
-    rowInRange (width m) (middleAt m) (started m) (rowAt r) ≡ c .sums-fit .result)
-asked-here c = row-asked (over c) ∙ sym (c .sums-fit .ensures)
-
--- ---- a row whose sums are in range
-abbrev Fine : Type 0
-Fine = tie.After-stretches Inv-loop2 μ-loop2 Inv-loop μ-loop Inv-pass μ-pass
-
-abbrev fineRow : Fine → InRow
-fineRow c = askedRow (c .before .before)
-
-fine-here : (c : Fine)
-    → (let r = fineRow c in let m = middleOf r in
-    rowInRange (width m) (middleAt m) (started m) (rowAt r) ≡ true)
-fine-here c = asked-here (c .before .before) ∙ c .before .if1 .taken
 
 -- ---- in a turn of the loop over stretches
 abbrev InStretch : Type 0
 InStretch = tie.After-stretch-end Inv-loop2 μ-loop2 Inv-loop μ-loop Inv-pass μ-pass
 
-abbrev fineOf : InStretch → Fine
-fineOf c = c .before .before .before
+abbrev overOf : InStretch → Over
+overOf c = c .before .before .before
 
 abbrev stretchRow : InStretch → InRow
-stretchRow c = fineRow (fineOf c)
+stretchRow c = overRow (overOf c)
 
 abbrev first : InStretch → ℕ
 first c = c .before .before .loop2 .k * stretch
@@ -194,7 +171,7 @@ stop c = c .stretch-end .result
 stretch-here : (c : InStretch)
     → (first c < stop c) × (stop c ≤ width (middleOf (stretchRow c))) × (width (middleOf (stretchRow c)) ≤ maxBoundaries)
 stretch-here c =
-    let h : first c < width (middleOf (stretchRow c)) = omega (arith, c .before .loop2-test .taken, fineOf c .stretches .ensures) in
+    let h : first c < width (middleOf (stretchRow c)) = omega (arith, c .before .loop2-test .taken, overOf c .stretches .ensures) in
     (omega (arith, c .stretch-end .ensures), omega (arith, c .stretch-end .ensures), row-room (stretchRow c) .2)
 
 cols-here : (c : InStretch)
@@ -236,8 +213,7 @@ relaxedOf c = c .before .before .before
 
 -- ---- the needs
 pass-holds : tie.Need-pass-holds Inv-loop2 μ-loop2 Inv-loop μ-loop Inv-pass μ-pass
-pass-holds c =
-    record { at-least = omega arith; at-most = omega arith; none = refl; room = refl; long = refl; past = refl; rest = refl }
+pass-holds c = pass-start (omega arith) refl refl
 
 load-row-requires : tie.Need-load-row-requires Inv-loop2 μ-loop2 Inv-loop μ-loop Inv-pass μ-pass
 load-row-requires c κs =
@@ -247,7 +223,7 @@ load-row-requires c κs =
 
 loop2-holds : tie.Need-loop2-holds Inv-loop2 μ-loop2 Inv-loop μ-loop Inv-pass μ-pass
 loop2-holds c =
-    let r = fineRow c in
+    let r = overRow c in
     let m = middleOf r in
     let o = r .before .loop in
     let e : 0 ≡ min (0 * stretch) (width m) = omega arith in
@@ -262,7 +238,7 @@ relax-row-requires c κs =
     let s = stretch-here at in
     let n = part-length b (e - b) (at .before .before .loop2 .row) (omega (arith, s, cols-here at .long)) in
     let o = part-length b (e - b) (copy m) (omega (arith, s, copy-room m)) in
-    (omega (arith, n, o), stretch-in-range (over (fineOf at .before .before)) (fine-here (fineOf at)) b (e - b) (omega (arith, s)))
+    (omega (arith, n, o), stretch-fits (over (overOf at)) b (e - b) (omega (arith, s)))
 
 loop2-again : tie.Need-loop2-again Inv-loop2 μ-loop2 Inv-loop μ-loop Inv-pass μ-pass
 loop2-again c =
@@ -274,17 +250,17 @@ loop2-again c =
     let s = stretch-here at in
     let n : stop at ≡ min ((q .k + 1) * stretch) (width m) = omega (arith, at .stretch-end .ensures) in
     subst (λ (b : ℕ). ColsInv (am r) (copy m) (part r) (width m) (rowAt r) (q .outcome) (stepped x) b) n
-    (cols-again (cols-here at) (stop at) (s .0) (s .1) (x .relax-row .ensures) (c .before .falls .ensures) (c .if2 .left))
+    (cols-again (cols-here at) (stop at) (s .0) (s .1) (x .relax-row .ensures) (c .before .falls .ensures) (c .if1 .left))
 
 loop-again : tie.Need-loop-again Inv-loop2 μ-loop2 Inv-loop μ-loop Inv-pass μ-pass
 loop-again c =
-    let f : Fine = c .before .before .before in
-    let r = fineRow f in
-    let s = over (f .before .before) in
+    let f : Over = c .before .before .before in
+    let r = overRow f in
+    let s = over f in
     let q = c .before .before .loop2 in
     let hb : width (middleOf r) ≤ min (q .k * stretch) (width (middleOf r)) = omega (arith, c .before .loop2-test .left, f .stretches .ensures) in
     rows-again (r .before .loop .inv) (r .loop-test .taken) (size r) (q .inv .none) (row-room r .1) (omega (arith, row-room r))
-    (row-done s (q .inv) hb) (fine-here f) (row-low s false (q .inv .fine (omega (arith, r .loop-test .taken, hb))))
+    (row-done s (q .inv) hb) (row-low s false (q .inv .fine (omega (arith, r .loop-test .taken, hb))))
 
 pass-again : tie.Need-pass-again Inv-loop2 μ-loop2 Inv-loop μ-loop Inv-pass μ-pass
 pass-again c =
@@ -293,28 +269,21 @@ pass-again c =
 
 returns-2 : tie.Need-returns-2 Inv-loop2 μ-loop2 Inv-loop μ-loop Inv-pass μ-pass
 returns-2 c =
-    let r = askedRow (c .before .before) in
-    broken r (part r) (row-here r .long) outOfRange OutOfRange (λ x e. let z : _≡_ {A = ℕ} 0 1 = cc in omega arith)
-    (rows-out (r .before .loop .inv) (r .loop-test .taken) (asked-here (c .before .before) ∙ c .before .if1 .left)) refl
-
-returns-3 : tie.Need-returns-3 Inv-loop2 μ-loop2 Inv-loop μ-loop Inv-pass μ-pass
-returns-3 c =
     let x : Relaxed = relaxedOf (c .before .before) in
     let at = stretchOf x in
     let r = stretchRow at in
     let s = stretch-here at in
-    let low = cols-low (cols-here at) (stop at) (s .0) (s .1) (x .relax-row .ensures) (c .before .before .falls .ensures) (c .before .if2 .taken) in
-    broken r (stepped x) (stepped-long x) stopped Stopped (λ x e. let z : _≡_ {A = ℕ} 0 1 = cc in omega arith)
-    (rows-low (r .before .loop .inv) (r .loop-test .taken) (fine-here (fineOf at)) (row-low (over (fineOf at .before .before)) true low)) refl
+    let low = cols-low (cols-here at) (stop at) (s .0) (s .1) (x .relax-row .ensures) (c .before .before .falls .ensures) (c .before .if1 .taken) in
+    broken r (stepped x) (stepped-long x) (rows-low (r .before .loop .inv) (r .loop-test .taken) (row-low (over (overOf at)) true low))
 
 pub run-middles-spec : {M : Type 1} → statement M
 run-middles-spec = tie.close (tie.spec Inv-loop2 μ-loop2 Inv-loop μ-loop Inv-pass μ-pass pass-holds
     (λ c. sym (c .before .before .before .pass .inv .room)) load-row-requires (λ c. rows-start (turn (c .before) .pass .inv .none))
     (λ c. omega (arith, row-room c)) (λ c. omega (arith, row-room c)) (λ c. omega (arith, row-room c)) (λ c. omega arith) (λ c. omega arith)
     (λ c. row-room c .0) (λ c. omega (arith, middle-below (middleOf (c .before)), row-room (c .before)))
-    (λ c. omega (arith, middle-below (middleOf (c .before)), row-here (c .before) .long)) (λ c κs. tt)
-    (λ c κs. let r = askedRow (c .before) in (omega (arith, r .loop-test .taken), row-room r .2))
-    loop2-holds (λ c. omega (arith, c .loop2-test .taken, c .before .before .stretches .ensures, row-room (fineRow (c .before .before)) .2))
+    (λ c. omega (arith, middle-below (middleOf (c .before)), row-here (c .before) .long))
+    (λ c κs. let r : InRow = c .before .before in (omega (arith, r .loop-test .taken), row-room r .2))
+    loop2-holds (λ c. omega (arith, c .loop2-test .taken, c .before .before .stretches .ensures, row-room (overRow (c .before .before)) .2))
     (λ c κs. omega (arith, c .loop2-test .taken, c .before .before .stretches .ensures))
     (λ c. omega (arith, stretch-here c)) (λ c. omega (arith, stretch-here c)) (λ c. omega (arith, stretch-here c))
     (λ c. omega (arith, stretch-here c, cols-here c .long))
@@ -323,9 +292,8 @@ run-middles-spec = tie.close (tie.spec Inv-loop2 μ-loop2 Inv-loop μ-loop Inv-p
     (λ c κs. let x : Relaxed = c .before .before in omega (arith, stepped-long x, relaxedRow x .loop-test .taken))
     (λ c. omega (arith, stretch-here (stretchOf (relaxedOf (c .before)))))
     (λ c. omega (arith, stretchOf (relaxedOf (c .before)) .before .loop2-test .taken)) loop2-again
-    (λ c. let r = fineRow (c .before .before .before) in omega (arith, r .loop-test .taken, row-room r))
-    (λ c. let r = fineRow (c .before .before .before) in omega (arith, r .loop-test .taken)) loop-again
+    (λ c. let r = overRow (c .before .before .before) in omega (arith, r .loop-test .taken, row-room r))
+    (λ c. let r = overRow (c .before .before .before) in omega (arith, r .loop-test .taken)) loop-again
     (λ c. let m : InMiddle = c .before .before .before in omega (arith, below m, start m .pre)) (λ c. omega (arith, below (c .before .before .before)))
     pass-again (λ c. c .before .pass .inv .long) (λ c. pass-ended (c .before .pass .inv) (c .pass-test .left))
-    (λ c. let r = askedRow (c .before .before) in put-long r (part r) (row-here r .long)) returns-2
-    (λ c. let x = relaxedOf (c .before .before) in put-long (relaxedRow x) (stepped x) (stepped-long x)) returns-3)
+    (λ c. let x = relaxedOf (c .before .before) in put-long (relaxedRow x) (stepped x) (stepped-long x)) returns-2)
