@@ -5,12 +5,11 @@ use Prim.Native.Nat.{ℕ}
 use lib.IntN.{ℤ}
 use Rattle.network.specs.Table.{Passed, After}
 use Rattle.network.specs.declared.Outcome.{Outcome}
-use Rattle.network.specs.declared.Outcome.the-variants.{Finished, Stopped, OutOfRange}
+use Rattle.network.specs.declared.Outcome.the-variants.{Finished, Stopped}
 
 abbrev pub codeOf : Outcome → ℕ
 codeOf Finished = 0
 codeOf Stopped = 1
-codeOf OutOfRange = 2
 
 -- some outcome with this code, and the table as it leaves it
 pub record PassTold (w : ℕ) (t : List ℤ) (p : Passed) (code : ℕ) (u : List ℤ) : Type 0 where

@@ -10,16 +10,16 @@ use native.Mathlib.Decide.{ℕ-discrete}
 use lib.ListN.{length, take, drop}
 use lib.IntN.{ℤ, pos, _+ℤ_}
 use lib.Signed.{_≤ℤ_, ltZ}
-use Rattle.integers.specs.Parts.{up, dn, ints, sum, apart, minℤ}
+use Rattle.integers.specs.Parts.{up, dn, Within, ints, sum, apart, minℤ}
 use Rattle.lists.specs.Slices.{part-length as length-of-part, part-at as place-of-part}
 use Rattle.lists.specs.Values.{length-listOf, listOf-at}
 use Rattle.network.specs.Table.{entry}
 use Rattle.network.specs.TableLaws.{row-inside}
-use Rattle.network.specs.RowStep.{relaxedAt, relaxed, SumsInRange}
-use Rattle.network_cuts.specs.Sink.{Within}
+use Rattle.network.specs.RowStep.{relaxedAt, relaxed, SumsFit}
+use Rattle.network.specs.Bounds.{maxWeight}
 use Rattle.network_cuts.specs.Decider.{valueAt, into, Modest, LeastSum, CutNetwork, Cuts, Sinking, AdmitsAt, heightAt, Settling, fell}
 use Rattle.network_cuts.specs.declared.Settled.the-variants.{Still, Lower, Lost}
-use Rattle.network_cuts.proofs.SumLaws.{sum-in-range}
+use Rattle.network_cuts.proofs.SumLaws.{sum-fits}
 use Rattle.network_cuts.proofs.SinkLaws.{sunk-row, sunk-small, carried-lost, carried-sunk, carried-falls}
 
 -- the part of a list from s to e
@@ -59,7 +59,7 @@ module _ {w : ℕ} {d m : List ℤ} {f v l : ℕ} {z : List ℤ} (q : Sinking w 
   cuts : Cuts w f v l
   cuts = q .cuts
 
-  small : (c : ℕ) → c ≤ w - 1 → Within 300 (valueAt z c)
+  small : (c : ℕ) → c ≤ w - 1 → Within maxWeight (valueAt z c)
   small = sunk-small (net .closed) (omega (arith, cuts)) (omega (arith, cuts)) (q .sunk)
 
   pub still-admits : (z′ : List ℤ) → Settling w d m f v l 0 f z z′ Still → AdmitsAt w d m f v l
@@ -122,13 +122,13 @@ module _ {w : ℕ} {d m : List ℤ} {f v l : ℕ} {z : List ℤ} (q : Sinking w 
       row-length : length row ≡ w
       row-length = part-length (b * w) (b * w + w) d (omega arith) (omega (arith, inside, net .size)) ∙ (omega arith)
 
-      pub relax-asks : (length z ≤ length row) × SumsInRange k row
+      pub relax-asks : (length z ≤ length row) × SumsFit k row
       relax-asks = (
         omega (arith, row-length, q .long),
         λ i h.
             let p = net .closed .small b i (omega (arith, cuts)) (omega (arith, row-length)) in
             let e = part-at (b * w) (b * w + w) d i (omega (arith, row-length)) in
-            sum-in-range k (valueAt row i) forced-modest (subst (Within 1000) (sym e) (omega arith)),
+            sum-fits k (valueAt row i) forced-modest (subst (Within 1000) (sym e) (omega arith)),
       )
 
       pub settled-still : ltZ k (valueAt z b) ≡ false → Settling w d m f v l b (b + 1) z z Still

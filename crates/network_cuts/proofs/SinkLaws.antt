@@ -9,11 +9,12 @@ use native.Mathlib.Omega.{arith}
 use native.Mathlib.Nat.{eq-or-lt-of-le, le-of-suc-le-suc}
 use lib.IntN.{ℤ, pos, _+ℤ_}
 use lib.Signed.{_≤ℤ_, _<ℤ_}
-use Rattle.integers.specs.Parts.{up, dn, ints, sum, apart, nonneg, minℤ, min-cases, min≤l, min≤r}
+use Rattle.integers.specs.Parts.{up, dn, Within, ints, sum, apart, nonneg, minℤ, min-cases, min≤l, min≤r}
 use Rattle.network.specs.Network.{Weights, Potential, Feasible}
 use Rattle.network.specs.NetworkLaws.{lesser-feasible}
+use Rattle.network.specs.Bounds.{maxWeight}
 use Rattle.network_cuts.specs.Cut.{Keeps, Admits}
-use Rattle.network_cuts.specs.Sink.{Within, Closed, Sunk, height}
+use Rattle.network_cuts.specs.Sink.{Closed, Sunk, height}
 
 -- every row of a closed table is feasible
 row : {top : ℕ} {D : Weights} → Closed top D → (b : ℕ) → b ≤ top → Feasible top D (D b)
@@ -33,7 +34,7 @@ module _ {top : ℕ} {D E : Weights} {f v l : ℕ} (net : Closed top D) (hf : 1 
     sunk-low : (c : ℕ) → c ≤ top → pos 0 ≤ℤ (z c +ℤ D c (f - 1))
     sunk-low c hc = omega (ints, s .feasible c (f - 1) hc (omega arith), s .start)
 
-    pub sunk-small : (c : ℕ) → c ≤ top → Within 300 (z c)
+    pub sunk-small : (c : ℕ) → c ≤ top → Within maxWeight (z c)
     sunk-small c hc =
         let p = net .small c (f - 1) hc (omega arith) in
         let q = net .small (f - 1) c (omega arith) hc in

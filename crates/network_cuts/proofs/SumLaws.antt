@@ -1,4 +1,4 @@
--- Sums of two modest numbers are in range, and the least of several is found one place at a time.
+-- Sums of two modest numbers fit 16 bits, and the least of several is found one place at a time.
 -- Key idea: the smaller of the least sum so far and of the sum at place i bounds the sums of the places below i + 1, and is one of them.
 use mathlib.Core.Path.{refl, _∙_}
 use mathlib.Core.Logic.{⊎-elim}
@@ -6,23 +6,16 @@ use mathlib.Core.List.{List}
 use Prim.Native.Nat.{ℕ, _+_, _<_}
 use native.Mathlib.Omega.{arith}
 use native.Mathlib.Decide.{ℕ-discrete}
-use lib.Dec.{T}
 use lib.ListN.{length}
 use lib.IntN.{ℤ, _+ℤ_}
 use lib.Signed.{_≤ℤ_}
 use mir.Syntax.{w16}
 use mir.Val.{SFits}
-use Rattle.integers.specs.Parts.{ints, sum, minℤ, min-is}
-use Rattle.network.specs.Table.{sumInRange}
-use Rattle.network.specs.RowStepLaws.{in-range, range-fits}
-use Rattle.network_cuts.specs.Sink.{Within}
+use Rattle.integers.specs.Parts.{Within, ints, sum, minℤ, min-is, fits-within}
 use Rattle.network_cuts.specs.Decider.{valueAt, LeastSum}
 
-pub sum-in-range : (a b : ℤ) → Within 1000 a → Within 1000 b → T (sumInRange (a +ℤ b))
-sum-in-range a b p q = in-range (a +ℤ b) (omega (ints, sum a b)) (omega (ints, sum a b))
-
 pub sum-fits : (a b : ℤ) → Within 1000 a → Within 1000 b → SFits w16 (a +ℤ b)
-sum-fits a b p q = range-fits (a +ℤ b) (sum-in-range a b p q)
+sum-fits a b p q = fits-within w16 (a +ℤ b) 2000 tt (omega (arith, sum a b)) (omega (arith, sum a b))
 
 -- ---- least sums
 pub least-first : (xs ys : List ℤ) → 0 < length xs → LeastSum 0 xs ys (valueAt xs 0 +ℤ valueAt ys 0)

@@ -3,15 +3,17 @@
 use mathlib.Core.Path.{_≡_}
 use mathlib.Core.Bool.{Bool, true, false}
 use mathlib.Core.List.{List}
-use Prim.Native.Nat.{ℕ, suc, _-_, _*_, _≤_, _<_}
+use Prim.Native.Nat.{ℕ, suc, _+_, _-_, _*_, _≤_, _<_}
 use lib.ListN.{length, getD}
 use lib.IntN.{ℤ, pos, _+ℤ_}
 use lib.Signed.{_≤ℤ_}
+use Rattle.integers.specs.Parts.{Within}
 use Rattle.slots.specs.Slots.{Slot, Boundary, slotEnd, slotStart}
 use Rattle.network.specs.Network.{Weights, Potential}
 use Rattle.network.specs.Table.{maxBoundaries, entry}
+use Rattle.network.specs.Bounds.{maxWeight}
 use Rattle.network_cuts.specs.Cut.{Admits, LeastCut}
-use Rattle.network_cuts.specs.Sink.{Within, Closed, Sunk, height}
+use Rattle.network_cuts.specs.Sink.{Closed, Sunk, height}
 use Rattle.network_cuts.specs.declared.Settled.{Settled}
 use Rattle.network_cuts.specs.declared.Settled.the-variants.{Still, Lower, Lost}
 
@@ -32,14 +34,14 @@ pub record LeastSum (n : ℕ) (xs ys : List ℤ) (r : ℤ) : Type 0 where
   pub inside : place < length xs
   pub attained : r ≡ valueAt xs place +ℤ valueAt ys place
 
--- the network that cuts are asked of: a closed table, and the arcs that cuts add
+-- the network that cuts are asked of: a closed table, and the arcs that cuts add, one less than weights
 pub record CutNetwork (w : ℕ) (d m : List ℤ) : Type 0 where
   pub some : 1 ≤ w
   pub most : w ≤ maxBoundaries
   pub size : w * w ≤ length d
   pub sizeArcs : w * w ≤ length m
   pub closed : Closed (w - 1) (entry w d)
-  pub small : (a b : ℕ) → a < w → b < w → Within 301 (entry w m a b)
+  pub small : (a b : ℕ) → a < w → b < w → Within (maxWeight + 1) (entry w m a b)
 
 -- v cuts the window f..l
 abbrev pub Cuts : ℕ → Slot → Slot → Slot → Type 0

@@ -1,23 +1,20 @@
 -- The potential that the decider lowers until it keeps the arcs of a cut, or until none can. Definitions only.
 use mathlib.Core.Path.{_≡_}
 use Prim.Native.Nat.{ℕ, zero, suc, _+_, _≤_}
-use lib.IntN.{ℤ, pos, _+ℤ_}
+use lib.IntN.{pos, _+ℤ_}
 use lib.Signed.{_≤ℤ_}
-use Rattle.integers.specs.Parts.{up, dn}
+use Rattle.integers.specs.Parts.{up, Within}
 use Rattle.slots.specs.Slots.{Slot, Boundary, slotStart}
 use Rattle.network.specs.Network.{Weights, Potential, Feasible}
 use Rattle.network.specs.Closure.{ClosedBelow}
+use Rattle.network.specs.Bounds.{maxWeight}
 use Rattle.network_cuts.specs.Cut.{Keeps}
 
--- z is at most k away from 0
-abbrev pub Within : ℕ → ℤ → Type 0
-Within k z = (up z ≤ k) × (dn z ≤ k)
-
--- a closed table, with 0 from each boundary to itself, of weights within 300 of 0
+-- a closed table, with 0 from each boundary to itself, of entries no further from 0 than the largest weight
 pub record Closed (top : Boundary) (D : Weights) : Type 0 where
   pub closed : ClosedBelow top (suc top) D
   pub diagonal : (a : Boundary) → a ≤ top → D a a ≡ pos 0
-  pub small : (a b : Boundary) → a ≤ top → b ≤ top → Within 300 (D a b)
+  pub small : (a b : Boundary) → a ≤ top → b ≤ top → Within maxWeight (D a b)
 
 -- z is feasible for D and 0 where the window starts, and no feasible potential that keeps the arcs rises more from there
 pub record Sunk (top : Boundary) (D E : Weights) (f v l : Slot) (z : Potential) : Type 0 where

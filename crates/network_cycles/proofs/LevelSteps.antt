@@ -8,21 +8,22 @@ use native.Mathlib.Decide.{decLe}
 use mathlib.Core.Path.{_≡_, refl, sym, ap, subst, _∙_}
 use mathlib.Core.Bool.{Bool, true, false}
 use mathlib.Core.List.{List, _++_, append-nil}
-use lib.Dec.{T}
 use lib.ListN.{length, getD, take, drop, length-take, replicate, drop-of-length-le, List·getD-append}
 use lib.Seq.{getD-take}
 use lib.IntN.{ℤ, pos, _+ℤ_}
 use lib.Signed.{ltZ}
+use mir.Syntax.{w16}
+use mir.Val.{SFits}
 use Rattle.integers.specs.Parts.{ints}
 use Rattle.lists.specs.First.{firstPlace, first-before, first-at}
 use Rattle.lists.specs.Slices.{part-at, part-length, back, back-before, back-inside}
 use Rattle.lists.specs.Values.{listOf, length-listOf, listOf-at}
 use Rattle.network.specs.Network.{Potential, Feasible}
-use Rattle.network.specs.Table.{maxBoundaries, entry, sumInRange}
+use Rattle.network.specs.Table.{maxBoundaries, entry}
 use Rattle.network_cycles.specs.Levels.{leastOver, lower, level}
 use Rattle.network_cycles.specs.LevelLaws.{least-same, level-step, level-source, level-feasible}
-use Rattle.network_cycles.specs.Finder.{SumsFit, LevelsUpTo, Weighed, Leveled, Fallen, Source}
-use Rattle.network_cycles.proofs.LevelRange.{level-sum-in-range}
+use Rattle.network_cycles.specs.Finder.{StepsFit, LevelsUpTo, Weighed, Leveled, Fallen, Source}
+use Rattle.network_cycles.proofs.LevelRange.{level-sum-fits}
 
 pub copied-whole : (xs ys : List ℤ) → length ys ≤ length xs → xs ++ drop (length xs) ys ≡ xs
 copied-whole xs ys h = ap (λ (l : List ℤ). xs ++ l) (drop-of-length-le ys h) ∙ append-nil xs
@@ -48,10 +49,9 @@ row-copied w k n d levels copy old size fits room made v = record {
 }
 
 module _ {w k : ℕ} {d prev : List ℤ} (c : Copied w k d prev) where
-  pub copied-sums : Weighed w d → k < w → SumsFit w d prev
+  pub copied-sums : Weighed w d → k < w → StepsFit w d prev
   copied-sums q h a b ha hb =
-      subst (λ (x : ℤ). T (sumInRange (x +ℤ entry w d a b))) (sym (c .at a ha))
-      (level-sum-in-range w d (q .bounded) k a b (omega (arith, q .few)) ha hb)
+      subst (λ (x : ℤ). SFits w16 (x +ℤ entry w d a b)) (sym (c .at a ha)) (level-sum-fits w d (q .small) k a b (omega (arith, q .few)) ha hb)
 
   -- row k + 1 is made
   pub rows-next : (m : ℕ) (levels ys : List ℤ) → LevelsUpTo w d levels k → m ≡ w → k * w + w + m ≤ length levels
@@ -103,10 +103,9 @@ module _ {w : ℕ} {d levels : List ℤ} (q : Leveled w d levels) where
   pub left-is : (k u v : ℕ) → k < w → u < w → (entry w levels k u +ℤ entry w d u v) ≡ level w (entry w d) k u +ℤ entry w d u v
   left-is k u v hk hu = ap (λ (z : ℤ). z +ℤ entry w d u v) (q .levels-are k u (omega arith) hu)
 
-  pub left-in-range : (k u v : ℕ) → k < w → u < w → v < w → T (sumInRange (entry w levels k u +ℤ entry w d u v))
-  left-in-range k u v hk hu hv =
-      subst (λ (z : ℤ). T (sumInRange z)) (sym (left-is k u v hk hu))
-      (level-sum-in-range w d (q .weights .bounded) k u v (omega (arith, q .weights .few)) hu hv)
+  pub left-fits : (k u v : ℕ) → k < w → u < w → v < w → SFits w16 (entry w levels k u +ℤ entry w d u v)
+  left-fits k u v hk hu hv =
+      subst (SFits w16) (sym (left-is k u v hk hu)) (level-sum-fits w d (q .weights .small) k u v (omega (arith, q .weights .few)) hu hv)
 
 -- ---- the boundary from which v has its level
 -- the step from u leaves v more than its level k

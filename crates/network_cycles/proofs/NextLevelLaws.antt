@@ -5,16 +5,17 @@ use native.Mathlib.Omega.{arith}
 use native.Mathlib.Numerals.{add-one}
 use mathlib.Core.Path.{_≡_, refl, sym, ap, subst, _∙_}
 use mathlib.Core.List.{List}
-use lib.Dec.{T}
 use lib.ListN.{length, getD, take, drop, length-take}
 use lib.IntN.{ℤ, pos, _+ℤ_}
+use mir.Syntax.{w16}
+use mir.Val.{SFits}
 use Rattle.integers.specs.Parts.{minℤ}
 use Rattle.lists.specs.Slices.{part-at}
 use Rattle.lists.specs.Values.{listOf, length-listOf, listOf-at, listOf-is, listOf-same}
-use Rattle.network.specs.Table.{entry, sumInRange}
-use Rattle.network.specs.RowStep.{relaxedAt, relaxed, SumsInRange}
+use Rattle.network.specs.Table.{entry}
+use Rattle.network.specs.RowStep.{relaxedAt, relaxed, SumsFit}
 use Rattle.network_cycles.specs.Levels.{leastOver}
-use Rattle.network_cycles.specs.Finder.{SumsFit}
+use Rattle.network_cycles.specs.Finder.{StepsFit}
 
 -- the least of prev and of what the steps from the boundaries below u leave
 abbrev pub reachedBy : ℕ → List ℤ → List ℤ → ℕ → ℕ → ℤ
@@ -33,9 +34,9 @@ reached-next w u k d prev row am h ek fits ea er =
     ∙ ap (λ (x : ℤ). minℤ (reachedBy w d prev u j) (x +ℤ getD mid j (pos 0))) ea
     ∙ ap (λ (x : ℤ). minℤ (reachedBy w d prev u j) (getD prev u (pos 0) +ℤ x)) (part-at (u * w) k d (pos 0) j (omega arith))))
 
--- the sums of the step from u are in range
-pub row-sums : (w u k : ℕ) (d prev : List ℤ) (am : ℤ) → u < w → k ≡ w → am ≡ getD prev u (pos 0) → SumsFit w d prev → SumsInRange am (take k (drop (u * w) d))
+-- the sums of the steps from u fit 16 bits
+pub row-sums : (w u k : ℕ) (d prev : List ℤ) (am : ℤ) → u < w → k ≡ w → am ≡ getD prev u (pos 0) → StepsFit w d prev → SumsFit am (take k (drop (u * w) d))
 row-sums w u k d prev am h ek ea f j l =
     let hj : j < k = omega (arith, length-take k (drop (u * w) d)) in
-    subst (λ (x : ℤ). T (sumInRange (am +ℤ x))) (sym (part-at (u * w) k d (pos 0) j hj))
-    (subst (λ (x : ℤ). T (sumInRange (x +ℤ entry w d u j))) (sym ea) (f u j h (omega arith)))
+    subst (λ (x : ℤ). SFits w16 (am +ℤ x)) (sym (part-at (u * w) k d (pos 0) j hj))
+    (subst (λ (x : ℤ). SFits w16 (x +ℤ entry w d u j)) (sym ea) (f u j h (omega arith)))

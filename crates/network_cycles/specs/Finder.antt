@@ -6,18 +6,21 @@ use lib.Dec.{T}
 use lib.ListN.{length, getD, take, drop}
 use lib.IntN.{ℤ, pos, _+ℤ_}
 use lib.Signed.{_<ℤ_}
+use mir.Syntax.{w16}
+use mir.Val.{SFits}
 use Rattle.network.specs.Network.{Potential, Feasible, isNegativeCycle}
 use Rattle.network.specs.NetworkLaws.{Cycle}
-use Rattle.network.specs.Table.{maxBoundaries, entry, sumInRange}
-use Rattle.network_cycles.specs.Levels.{level, WeightsBounded}
+use Rattle.network.specs.Table.{maxBoundaries, entry}
+use Rattle.network.specs.Bounds.{Small}
+use Rattle.network_cycles.specs.Levels.{level}
 
 -- no potential is feasible for the table
 abbrev pub Infeasible : ℕ → List ℤ → Type 0
 Infeasible w t = (z : Potential) → Feasible (w - 1) (entry w t) z → ⊥
 
--- every step's sum from prev is in range
-abbrev pub SumsFit : ℕ → List ℤ → List ℤ → Type 0
-SumsFit w d prev = (u v : ℕ) → u < w → v < w → T (sumInRange (getD prev u (pos 0) +ℤ entry w d u v))
+-- what every step leaves, from prev, fits 16 bits
+abbrev pub StepsFit : ℕ → List ℤ → List ℤ → Type 0
+StepsFit w d prev = (u v : ℕ) → u < w → v < w → SFits w16 (getD prev u (pos 0) +ℤ entry w d u v)
 
 -- the levels 0 to k stand row by row
 abbrev pub LevelsUpTo : ℕ → List ℤ → List ℤ → ℕ → Type 0
@@ -28,7 +31,7 @@ pub record Weighed (w : ℕ) (d : List ℤ) : Type 0 where
   pub some : 2 ≤ w
   pub few : w ≤ maxBoundaries
   pub room : w * w ≤ length d
-  pub bounded : WeightsBounded w d
+  pub small : Small w d
   pub zeros : (a : ℕ) → a < w → entry w d a a ≡ pos 0
 
 -- the same with its levels made

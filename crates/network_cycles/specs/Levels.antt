@@ -1,11 +1,8 @@
 -- How low a potential can be pushed in k steps: the levels of the weights d over w boundaries (Bellman-Ford). Definitions only.
-use Prim.Native.Nat.{ℕ, zero, suc, _<_}
-use mathlib.Core.List.{List}
-use lib.IntN.{ℤ, pos, negsuc, _+ℤ_}
-use lib.Signed.{_≤ℤ_}
+use Prim.Native.Nat.{ℕ, zero, suc}
+use lib.IntN.{ℤ, pos, _+ℤ_}
 use Rattle.integers.specs.Parts.{minℤ}
 use Rattle.network.specs.Network.{Weights, Potential}
-use Rattle.network.specs.Table.{entry}
 
 -- the smallest of z and g 0, .., g (n - 1)
 abbrev pub leastOver : ℕ → (ℕ → ℤ) → ℤ → ℤ
@@ -20,7 +17,3 @@ lower w d z v = leastOver w (λ u. z u +ℤ d u v) (z v)
 unfoldable pub level : ℕ → Weights → ℕ → Potential
 level w d zero v = pos 0
 level w d (suc k) v = lower w d (level w d k) v
-
--- no entry of the table is larger than 600 or smaller than -600, so that the levels of as many boundaries as there can be fit 16 bits
-abbrev pub WeightsBounded : ℕ → List ℤ → Type 0
-WeightsBounded w t = (a b : ℕ) → a < w → b < w → (negsuc 599 ≤ℤ entry w t a b) × (entry w t a b ≤ℤ pos 600)

@@ -9,7 +9,7 @@ ghost use Rattle.lists.specs.First.{firstPlace, firstFrom};
 ghost use Rattle.lists.specs.Values.{listOf};
 ghost use Rattle.network.specs.Table.{maxBoundaries, entry};
 ghost use Rattle.network_cycles.specs.Levels.{lower, level};
-ghost use Rattle.network_cycles.specs.Finder.{Infeasible, SumsFit, LevelsUpTo, Weighed, Leveled, Fallen, Source, Lowest, Found, CycleAt};
+ghost use Rattle.network_cycles.specs.Finder.{Infeasible, StepsFit, LevelsUpTo, Weighed, Leveled, Fallen, Source, Lowest, Found, CycleAt};
 
 // The levels of all boundaries, one more than there are boundaries, row by row.
 const LEVEL_CELLS: usize = (network::MAX_BOUNDARIES + 1) * network::MAX_BOUNDARIES;
@@ -22,7 +22,7 @@ struct Stretch(usize, usize);
 
 // The level below prev. The row holds prev at first, and each boundary's steps lower it.
 fn next_level(d: &[i16], w: usize, prev: &[i16], row: &mut [i16])
-    requires { ⌜ (w ≤ maxBoundaries) × (w * w ≤ length (now d)) × (length (now prev) ≡ w) × (now row ≡ now prev) × SumsFit w (now d) (now prev) ⌝ }
+    requires { ⌜ (w ≤ maxBoundaries) × (w * w ≤ length (now d)) × (length (now prev) ≡ w) × (now row ≡ now prev) × StepsFit w (now d) (now prev) ⌝ }
     ensures { λ _. ⌜ now (row .exit) ≡ listOf w (lower w (entry w (now (d .entry))) (λ v. getD (now (prev .entry)) v (pos 0))) ⌝ }
 {
     for u in 0..w {
@@ -95,7 +95,7 @@ fn put_turned(c: &[u16], low: usize, out: &mut [u16])
 
 // The level below prev, into the row.
 fn make_level(d: &[i16], w: usize, prev: &[i16], row: &mut [i16])
-    requires { ⌜ (w ≤ maxBoundaries) × (w * w ≤ length (now d)) × (length (now prev) ≡ w) × (length (now row) ≡ w) × SumsFit w (now d) (now prev) ⌝ }
+    requires { ⌜ (w ≤ maxBoundaries) × (w * w ≤ length (now d)) × (length (now prev) ≡ w) × (length (now row) ≡ w) × StepsFit w (now d) (now prev) ⌝ }
     ensures { λ _. ⌜ now (row .exit) ≡ listOf w (lower w (entry w (now (d .entry))) (λ v. getD (now (prev .entry)) v (pos 0))) ⌝ }
 {
     network::copy_row(prev, row);

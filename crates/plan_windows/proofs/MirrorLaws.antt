@@ -4,16 +4,17 @@
 use mathlib.Core.Path.{_≡_, sym, ap₂, _∙_, subst}
 use mathlib.Core.Bool.{true, false}
 use mathlib.Core.List.{List}
-use Prim.Native.Nat.{ℕ, suc, _-_, _*_, _≤_}
+use Prim.Native.Nat.{ℕ, suc, _+_, _-_, _*_, _≤_}
 use native.Mathlib.Omega.{arith}
 use lib.ListN.{length, getD}
 use lib.IntN.{ℤ, negℤ}
-use Rattle.integers.specs.Parts.{ints, sum, neg}
+use Rattle.integers.specs.Parts.{Within, ints, sum, neg}
 use Rattle.lists.specs.Values.{Filled}
 use Rattle.network.specs.Network.{Weights, Potential, Feasible}
 use Rattle.network.specs.Table.{entry}
+use Rattle.network.specs.Bounds.{maxWeight}
 use Rattle.network_cuts.specs.Cut.{Admits, LeastCut}
-use Rattle.network_cuts.specs.Sink.{Within, Closed}
+use Rattle.network_cuts.specs.Sink.{Closed}
 use Rattle.network_cuts.specs.Decider.{into, CutNetwork}
 use Rattle.plan_windows.specs.CutSheet.{mirrored, HasEntries}
 use Rattle.plan_windows.specs.Windows.{Units, Admitted, LeastCuts, AdmittedLate, GreatestCuts}
@@ -38,7 +39,7 @@ module _ (top : ℕ) (D D′ : Weights) (same : IsMirrored top D D′) where
       sum (D′ a k) (D′ k b),
     );
     diagonal = λ a ha. same a a ha ha ∙ net .diagonal (top - a) (omega arith);
-    small = λ a b ha hb. subst (Within 300) (sym (same a b ha hb)) (net .small (top - b) (top - a) (omega arith) (omega arith));
+    small = λ a b ha hb. subst (Within maxWeight) (sym (same a b ha hb)) (net .small (top - b) (top - a) (omega arith) (omega arith));
   }
 
   pub turned-feasible : (z : Potential) → Feasible top D z → Feasible top D′ (turned top z)
@@ -95,7 +96,7 @@ module _ (w : ℕ) (d m d′ m′ : List ℤ) (net : CutNetwork w d m) (size : w
     size = size;
     sizeArcs = sizeArcs;
     closed = closed-mirrored (w - 1) (entry w d) (entry w d′) table-mirrored (net .closed);
-    small = λ a b ha hb. subst (Within 301) (sym (em a b ha hb)) (net .small (w - 1 - b) (w - 1 - a) (omega arith) (omega arith));
+    small = λ a b ha hb. subst (Within (maxWeight + 1)) (sym (em a b ha hb)) (net .small (w - 1 - b) (w - 1 - a) (omega arith) (omega arith));
   }
 
   module _ (first last plan : List ℕ) (units : Units false w first last plan) where

@@ -4,7 +4,7 @@ use mathlib.Core.Path.{_≡_, sym, ap, _∙_, subst}
 use mathlib.Core.Logic.{⊎-elim}
 use mathlib.Core.Bool.{false}
 use mathlib.Core.List.{List, _++_}
-use Prim.Native.Nat.{ℕ, suc, _-_, _*_, _≤_, _<_}
+use Prim.Native.Nat.{ℕ, suc, _+_, _-_, _*_, _≤_, _<_}
 use native.Mathlib.Omega.{arith}
 use native.Mathlib.Nat.{eq-or-lt-of-le}
 use native.Mathlib.Decide.{decLe}
@@ -12,12 +12,13 @@ use lib.ListN.{length, getD, take, drop, length-take}
 use lib.Seq.{getD-take}
 use lib.IntN.{ℤ, pos, negsuc, negℤ, _+ℤ_}
 use lib.Signed.{_≤ℤ_}
-use Rattle.integers.specs.Parts.{up, dn, ints, sum, neg, apart}
+use Rattle.integers.specs.Parts.{up, dn, Within, ints, sum, neg, apart}
 use Rattle.lists.specs.Lists.{howMany}
 use Rattle.lists.specs.Values.{listOf, Filled, listOf-same}
 use Rattle.network.specs.Network.{Weights}
 use Rattle.network.specs.ClosureLaws.{there-and-back}
 use Rattle.network.specs.Table.{entry}
+use Rattle.network.specs.Bounds.{maxWeight}
 use Rattle.sheet.specs.Sizes.{maxUnits}
 use Rattle.sheet.specs.Sheet.{Window, Sheet, noWindow, top, insideOf, limit, atLeast, earliest, latest, earliestSlots, latestSlots}
 use Rattle.sheet.specs.PlanLaws.{lawful-iff}
@@ -27,7 +28,7 @@ use Rattle.limits.specs.LimitTable.{WindowsFit, insideWeights}
 use Rattle.sheet.specs.Questions.{windowsOf}
 use Rattle.sheet.specs.QuestionLaws.{windowsOf-length, windowsOf-at}
 use Rattle.plan_windows.specs.CutSheet.{oneLess, addedArc, HasEntries}
-use Rattle.network_cuts.specs.Sink.{Within, Closed}
+use Rattle.network_cuts.specs.Sink.{Closed}
 use Rattle.network_cuts.specs.Decider.{into, CutNetwork}
 use Rattle.plan_windows.specs.Windows.{Units, Admitted, LeastCuts, AdmittedLate, GreatestCuts}
 use Rattle.plan_windows.specs.Narrowing.{Narrowable, earliestRoom, latestRoom}
@@ -107,7 +108,7 @@ module _ {s : Sheet} {first last plan : List ℕ} {table : List ℤ} {w : ℕ} (
             (λ (l : b < a). omega (ints, f, limit-back s a b l, neg (pos (atLeast s (suc b) a)))) (eq-or-lt-of-le g)
       ]
 
-  small : (a b : ℕ) → a ≤ top s → b ≤ top s → Within 300 (D a b)
+  small : (a b : ℕ) → a ≤ top s → b ≤ top s → Within maxWeight (D a b)
   unfolding D
   small a b ha hb =
       let p = most a b ha hb in
@@ -127,10 +128,10 @@ module _ {s : Sheet} {first last plan : List ℕ} {table : List ℤ} {w : ℕ} (
         e b a (omega (arith, h .boundaries)) (omega (arith, h .boundaries)) ∙ less-arc (insideWeights ws) b a hb ∙ inside-less ws a b
         ∙ ap (λ (us : List Window). negℤ (pos (suc (howMany (insideOf (suc b) a) us)))) (sym (h .units))
 
-    arcs-small : (a b : ℕ) → a < w → b < w → Within 301 (entry w m a b)
+    arcs-small : (a b : ℕ) → a < w → b < w → Within (maxWeight + 1) (entry w m a b)
     arcs-small a b ha hb =
         let ws = windowsOf first last in
-        subst (Within 301) (sym (e a b ha hb)) (elim (decLe b a) [
+        subst (Within (maxWeight + 1)) (sym (e a b ha hb)) (elim (decLe b a) [
           | yes l ↦ rw (less-other (insideWeights ws) a b l) (omega (arith, inside-within ws a b few))
           | no g ↦
               let k = suc (howMany (insideOf (suc a) b) ws) in

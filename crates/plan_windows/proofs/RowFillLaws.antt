@@ -12,12 +12,11 @@ use lib.IntN.{ℤ, negsuc, _+ℤ_}
 use mir.Syntax.{w16}
 use mir.Val.{SFits}
 use borrow.Author.Tests.{lt-ltb, le-ltb}
-use Rattle.integers.specs.Parts.{sum, fits-within}
+use Rattle.integers.specs.Parts.{Within, sum, fits-within}
 use Rattle.network.specs.Network.{Weights}
 use Rattle.network.specs.Table.{entry}
 use Rattle.sheet.specs.Sizes.{maxUnits}
 use Rattle.limits.specs.LentTableLaws.{entry-set-same, entry-set-other}
-use Rattle.network_cuts.specs.Sink.{Within}
 use Rattle.plan_windows.specs.CutSheet.{oneLess, HasEntries}
 
 -- old entries f, new entries g

@@ -1,4 +1,4 @@
--- The row of level k has the level, and the sum is one that the bound on the weights keeps in range.
+-- The row of level k has the level, and small weights keep the sum within 16 bits.
 use native.Mathlib.Omega.{arith}
 use mathlib.Core.Path.{_≡_}
 use lib.IntN.{_+ℤ_}
@@ -8,8 +8,7 @@ use mir.Facts.{toZ-ofZ}
 use borrow.Author.Needs.{needs}
 use Rattle.network.specs.Table.{entry}
 use Rattle.network.specs.TableLaws.{row-inside}
-use Rattle.network.specs.RowStepLaws.{range-fits}
-use Rattle.network_cycles.proofs.LevelSteps.{level-inside, left-is, left-in-range}
+use Rattle.network_cycles.proofs.LevelSteps.{level-inside, left-is, left-fits}
 use Rattle.network_cycles.proofs.left_by.Statement.{statement}
 use Rattle.network_cycles.proofs.left_by.Tie as tie
 
@@ -25,7 +24,7 @@ read c =
 add-result : tie.Need-add-result
 add-result c =
     let st = c .before .before in
-    rw (read c) (range-fits _ (left-in-range (st .pre .0) (st .args .k) (st .args .u) (st .args .v) (st .pre .1) (st .pre .2) (st .pre .3)))
+    rw (read c) (left-fits (st .pre .0) (st .args .k) (st .args .u) (st .args .v) (st .pre .1) (st .pre .2) (st .pre .3))
 
 returns : tie.Need-returns
 returns c =

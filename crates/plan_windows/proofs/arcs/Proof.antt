@@ -8,11 +8,11 @@ use mir.Syntax.{w16}
 use mir.Val.{SFits}
 use mir.Facts.{toZ-ofZ}
 use borrow.Author.Needs.{needs}
+use Rattle.integers.specs.Parts.{Within}
 use Rattle.network.specs.Network.{Weights}
 use Rattle.network.specs.Table.{entry}
 use Rattle.network.specs.TableLaws.{row-inside}
 use Rattle.sheet.specs.Sizes.{maxUnits}
-use Rattle.network_cuts.specs.Sink.{Within}
 use Rattle.plan_windows.specs.CutSheet.{oneLess}
 use Rattle.plan_windows.proofs.RowFillLaws.{RowsFilled, rows-start, rows-store, rows-next, rows-all, less-arc, less-other, one-less-fits}
 use Rattle.plan_windows.proofs.arcs.Statement.{statement}

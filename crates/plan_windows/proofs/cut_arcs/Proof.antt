@@ -3,6 +3,7 @@ use mathlib.Core.Path.{sym, _∙_, subst}
 use mathlib.Core.List.{List}
 use native.Mathlib.Omega.{arith}
 use borrow.Author.Needs.{needs}
+use Rattle.integers.specs.Parts.{Within}
 use Rattle.network.specs.Table.{entry}
 use Rattle.sheet.specs.Sizes.{maxUnits}
 use Rattle.sheet.specs.Sheet.{Window}
@@ -10,7 +11,6 @@ use Rattle.sheet.specs.Questions.{windowsOf}
 use Rattle.sheet.specs.QuestionLaws.{windowsOf-length}
 use Rattle.limits.specs.LimitTable.{insideWeights}
 use Rattle.limits.specs.LentTableLaws.{TableFilled, is-filled}
-use Rattle.network_cuts.specs.Sink.{Within}
 use Rattle.plan_windows.proofs.RowFillLaws.{less-same}
 use Rattle.plan_windows.proofs.NarrowLaws.{inside-within}
 use Rattle.plan_windows.proofs.cut_arcs.Statement.{statement}
