@@ -3,3 +3,4 @@ pub mod LimitTable
 pub mod LentTableLaws
 pub mod InsideLaws
 pub mod LimitTableLaws
+pub mod LimitedLaws

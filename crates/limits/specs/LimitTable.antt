@@ -9,15 +9,19 @@ use lib.IntN.{ℤ, pos, negℤ}
 use Rattle.integers.specs.Parts.{minℤ}
 use Rattle.lists.specs.Lists.{howMany}
 use Rattle.network.specs.Network.{Weights}
-use Rattle.network.specs.Table.{tableOf}
+use Rattle.network.specs.Table.{tableOf, finished, passFrom}
 use Rattle.sheet.specs.Sizes.{maxUnits}
-use Rattle.slots.specs.Slots.{Slot, slotEnd, slotAfter, slotBefore}
+use Rattle.slots.specs.Slots.{Slot, Boundary, slotEnd, slotAfter, slotBefore}
 use Rattle.sheet.specs.Sheet.{Window, Sheet, boundaries, insideOf, limit}
 use Rattle.sheet.specs.Questions.{sheetOf, listsAgree, accepted}
 
 -- the limits of all steps, in front of what stands past them
 abbrev pub limitTable : Sheet → List ℤ → List ℤ
 limitTable s t = tableOf (boundaries s) (limit s) ++ drop (boundaries s * boundaries s) t
+
+-- the pass over the limits begins middle boundary m with the table t; at the last, it ends with it
+abbrev pub Begins : Sheet → Boundary → List ℤ → Type 0
+Begins s m t = passFrom m 0 (boundaries s) (tableOf (boundaries s) (limit s)) ≡ finished t
 
 -- the units' windows, as first and last slots: at most `maxUnits`, each 1 ≤ first ≤ last, and last ends at one of w boundaries
 pub record WindowsFit (w : ℕ) (first last : List Slot) : Type 0 where

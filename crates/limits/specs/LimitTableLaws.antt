@@ -6,9 +6,8 @@ use native.Mathlib.Omega.{arith}
 use native.Mathlib.Decide.{decLe}
 use lib.Dec.{T}
 use lib.ListN.{length, getD, drop, length-append, length-drop}
-use lib.IntN.{ℤ, pos, negsuc}
-use lib.Signed.{_≤ℤ_}
-use Rattle.integers.specs.Parts.{up, dn, ints, neg}
+use lib.IntN.{ℤ, pos}
+use Rattle.integers.specs.Parts.{Within, neg}
 use Rattle.lists.specs.Members.{In}
 use Rattle.network.specs.Table.{maxBoundaries, tableOf, entry}
 use Rattle.network.specs.TableLaws.{length-tableOf, entry-front}
@@ -76,7 +75,7 @@ unfolding sheetOf top
 boundaries-are span first last from to low high = omega arith
 
 -- every limit of an accepted sheet is within the largest count of 0
-pub limit-small : (s : Sheet) → T (accepted s) → (a b : ℕ) → (up (limit s a b) ≤ maxCount) × (dn (limit s a b) ≤ maxCount)
+pub limit-small : (s : Sheet) → T (accepted s) → (a b : ℕ) → Within maxCount (limit s a b)
 limit-small s ok a b =
     let size = accepted-sized s ok in
     elim (decLe b a) [
@@ -105,15 +104,3 @@ module _ (s : Sheet) (t : List ℤ) where
   module _ (a b : ℕ) (ha : a < boundaries s) (hb : b < boundaries s) where
     pub limitTable-at : entry (boundaries s) (limitTable s t) a b ≡ limit s a b
     limitTable-at = entry-front (boundaries s) (limit s) (drop (boundaries s * boundaries s) t) a b ha hb
-
-    pub limitTable-small : T (accepted s)
-        → (negsuc 299 ≤ℤ entry (boundaries s) (limitTable s t) a b) × (entry (boundaries s) (limitTable s t) a b ≤ℤ pos 300)
-    limitTable-small ok =
-        let e = limitTable-at in
-        let k = limit-small s ok a b in
-        let p : negsuc 299 ≤ℤ limit s a b = omega ints in
-        let q : limit s a b ≤ℤ pos 300 = omega ints in
-        rw e (p, q)
-
-  pub limitTable-diagonal : (a : ℕ) → a < boundaries s → entry (boundaries s) (limitTable s t) a a ≡ pos 0
-  limitTable-diagonal a h = limitTable-at a a h h ∙ limit-same s a

@@ -1,9 +1,10 @@
 -- The sizes of a sheet, as its associated constants state them: the one place in specs where they stand. Boundaries are network's `maxBoundaries`, which
--- `boundaries-max` ties to the slots.
+-- `boundaries-max` ties to the slots, and a weight is at most network's `maxWeight`, which `weight-max` ties to the counts.
 use Prim.Native.Nat.{ℕ, _+_, _*_}
 use mathlib.Core.Path.{_≡_, refl}
 use Rattle.slots.specs.Slots.{Slot, Boundary, slotEnd}
 use Rattle.network.specs.Table.{maxBoundaries}
+use Rattle.network.specs.Bounds.{maxWeight}
 
 abbrev pub maxSlots : ℕ
 maxSlots = 48
@@ -36,3 +37,7 @@ boundariesOf span = topOf span + 1
 -- the network's constant is the number of boundaries of the longest span
 pub boundaries-max : maxBoundaries ≡ boundariesOf maxSlots
 boundaries-max = refl
+
+-- the network's largest weight is the largest count
+pub weight-max : maxWeight ≡ maxCount
+weight-max = refl
