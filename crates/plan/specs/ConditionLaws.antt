@@ -1,6 +1,6 @@
 -- What a call's conclusion says of its reply and its rooms, ready to be read as the user's conditions.
 -- Key idea: the pass over the limits either finishes, and the table it leaves is solved, or stops, and no plan is lawful.
--- There is no third way without a refusal.
+-- There is no third way.
 use mathlib.Core.Path.{_≡_, refl, ap, subst}
 use mathlib.Core.Logic.{_⊎_, inl, inr, ⊎-elim}
 use mathlib.Core.List.{List}
@@ -9,15 +9,17 @@ use native.Mathlib.Omega.{arith}
 use lib.Dec.{T}
 use lib.ListN.{length}
 use lib.IntN.{ℤ}
-use Rattle.network.specs.Table.{Passed, finished, stopped, outOfRange, entry}
+use Rattle.network.specs.Table.{Passed, finished, stopped, entry}
 use Rattle.questions.specs.Questions.{Verdict, no, allYes}
 use Rattle.sheet.specs.Sheet.{Sheet, boundaries, lawful, isRing}
 use Rattle.sheet.specs.Solved.{Solved}
 use Rattle.sheet.specs.QuestionLaws.{accepted-valid}
 use Rattle.sheet.specs.Lists.{Lists, given}
-use Rattle.plan_ask.specs.Questions.{Rooms, places, passed, inRange, refusal}
-use Rattle.plan_solve.specs.Planning.{refused, planned, ringed, byPass, concluding, conclusion, Settled}
-use Rattle.plan_solve.specs.PlanningLaws.{no-refusal, in-range, passed-size, passed-solved, stopped-unlawful}
+use Rattle.plan_ask.specs.Questions.{Rooms, places, fitsRooms, refusal}
+use Rattle.plan_ask.specs.SolvableLaws.{asked-yes}
+use Rattle.plan_solve.specs.Planning.{passed, planned, ringed, byPass, conclusion, Settled}
+use Rattle.plan_solve.specs.ConclusionLaws.{by-verdict}
+use Rattle.plan_solve.specs.PlanningLaws.{passed-size, passed-solved, stopped-unlawful}
 use Rattle.plan_solve.specs.Reply as says
 use Rattle.plan_solve.specs.Reply.{refusalOf}
 
@@ -38,28 +40,26 @@ pub record Ringed (s : Sheet) (before : Rooms) (reply : says.Reply) (after : Roo
   pub left : after ≡ ringed s ring before
 
 module _ (l : Lists) (before : Rooms) (reply : says.Reply) (after : Rooms) (call : Settled (conclusion l before) (given l) before reply after) where
-  by-verdict : (v : Verdict) → refusal l before ≡ v → Settled (concluding v (passed (given l))) (given l) before reply after
-  unfolding conclusion
-  by-verdict v e = subst (λ (x : Verdict). Settled (concluding x (passed (given l))) (given l) before reply after) e call
-
   -- ---- refused
-  pub call-refused : (q n : ℕ) → refusal l before ≡ no q n → (reply ≡ says.refused q n) × (after ≡ refused (given l) q before)
-  call-refused q n e = by-verdict (no q n) e
+  pub call-refused : (q n : ℕ) → refusal l before ≡ no q n → (reply ≡ says.refused q n) × (after ≡ before)
+  call-refused q n e = by-verdict l before (no q n) e reply after call
 
   -- ---- not refused
   module _ (asked : refusal l before ≡ allYes) where
-    by-pass : (p : Passed) → passed (given l) ≡ p → T (inRange p) → Planned (given l) before reply after ⊎ Ringed (given l) before reply after
-    by-pass (finished t) e h =
-        let q = subst (λ (x : Passed). Settled (byPass x) (given l) before reply after) e (by-verdict allYes asked) in
-        let ok = accepted-valid (given l) (no-refusal l before asked .sheet) in
+    left-by : (p : Passed) → passed (given l) ≡ p → Settled (byPass p) (given l) before reply after
+    left-by p e = subst (λ (x : Passed). Settled (byPass x) (given l) before reply after) e (by-verdict l before allYes asked reply after call)
+
+    by-pass : (p : Passed) → passed (given l) ≡ p → Planned (given l) before reply after ⊎ Ringed (given l) before reply after
+    by-pass (finished t) e =
+        let q = left-by (finished t) e in
+        let ok = accepted-valid (given l) (asked-yes l (fitsRooms (given l) before) asked .sheet) in
         inl (record { table = t; size = passed-size (given l) t e; solved = passed-solved (given l) ok t e; is = q .0; left = q .1 })
-    by-pass stopped e h =
-        let q = subst (λ (x : Passed). Settled (byPass x) (given l) before reply after) e (by-verdict allYes asked) in
+    by-pass stopped e =
+        let q = left-by stopped e in
         inr (record { unlawful = stopped-unlawful (given l) e; ring = q .0; closed = q .1; is = q .2; left = q .3 })
-    by-pass outOfRange e h = absurd h
 
     pub call-answered : Planned (given l) before reply after ⊎ Ringed (given l) before reply after
-    call-answered = by-pass (passed (given l)) refl (in-range l before asked)
+    call-answered = by-pass (passed (given l)) refl
 
   -- ---- the reply is a plan, or none
   not-refused : refusalOf reply ≡ allYes → refusal l before ≡ allYes

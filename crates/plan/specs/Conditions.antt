@@ -3,18 +3,17 @@
 -- `after` are the rooms lent, `s` the sheet in the lists.
 use mathlib.Core.Path.{_≡_, refl, sym, ap, _∙_, subst}
 use mathlib.Core.Logic.{⊎-elim, _↔_}
-use mathlib.Core.Bool.{Bool, false, cond}
 use mathlib.Core.List.{List, _++_, map}
 use Prim.Native.Nat.{ℕ, suc, _+_, _*_, _≤_, _<_}
 use native.Mathlib.Omega.{arith}
-use lib.Dec.{T, eqb}
+use lib.Dec.{T}
 use lib.ListN.{length, getD, take, drop, List·getD-append}
 use lib.Seq.{take-at}
 use lib.IntN.{ℤ, pos, negℤ}
 use lib.Signed.{_≤ℤ_}
 use Rattle.integers.specs.Parts.{up, dn, ints, neg, nonneg}
 use Rattle.network.specs.NetworkLaws.{cycle-infeasible}
-use Rattle.network.specs.Table.{entry, cleared}
+use Rattle.network.specs.Table.{entry}
 use Rattle.network.specs.TableLaws.{row-inside}
 use Rattle.lists.specs.Values.{values-at, length-values}
 use Rattle.questions.specs.Questions.{Verdict, no, allYes}
@@ -25,7 +24,7 @@ use Rattle.sheet.specs.PotentialLaws.{lawful-feasible}
 use Rattle.sheet.specs.PlanLaws.{lawful-iff, earliest-bound, earliest-attained, latest-bound, latest-attained, greatestIn-bound}
 use Rattle.plans.specs.PrintedLaws.{Printed, some-printed}
 use Rattle.plans.specs.CountLaws.{solved-plan, range, greatest-entry, least-entry}
-use Rattle.plan_ask.specs.Questions.{Rooms, lent, places, refusal}
+use Rattle.plan_ask.specs.Questions.{Rooms, places, refusal}
 use Rattle.sheet.specs.Lists.{Lists, given}
 use Rattle.plan_solve.specs.Planning.{conclusion, Settled}
 use Rattle.plan_solve.specs.Reply as says
@@ -53,12 +52,9 @@ module _ (l : Lists) (before : Rooms) (reply : says.Reply) (after : Rooms) (call
           ⊎-elim (λ (p : Planned s before reply after). ap refusalOf (p .is) ∙ sym e) (λ (r : Ringed s before reply after). ap refusalOf (r .is) ∙ sym e)
           (call-answered l before reply after call e)
 
-  -- A refusal changes no place lent, save the table by 14.
-  pub refused-changes-nothing : (q n : ℕ) → refusal l before ≡ no q n → eqb q 14 ≡ false → after ≡ before
-  refused-changes-nothing q n e f =
-      call-refused l before reply after call q n e .1
-      ∙ ap (λ (t : List ℤ). lent t (before .plan) (before .earliest) (before .latest) (before .ring))
-      (ap (λ (b : Bool). cond b (cleared (places s) (before .table)) (before .table)) f)
+  -- A refusal changes no place lent.
+  pub refused-changes-nothing : (q n : ℕ) → refusal l before ≡ no q n → after ≡ before
+  refused-changes-nothing q n e = call-refused l before reply after call q n e .1
 
   -- ---- 2. Plan or ring. A sheet that is not refused gets a plan exactly when some assignment meets all windows and all rules;
   pub plan-exactly-when-lawful : refusal l before ≡ allYes → (reply ≡ says.plan) ↔ ((x : List ℕ) × T (lawful s x))

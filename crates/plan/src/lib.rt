@@ -1,8 +1,21 @@
+ghost use mathlib.Core.Path.{_≡_};
 ghost use Rattle.sheet.specs.Lists.{listed, given};
 ghost use Rattle.plan_ask.specs.Questions.{lent};
 ghost use Rattle.plan_solve.specs.Planning.{conclusion, Settled};
-ghost use Rattle.plan_solve.specs.Reply.{replyOf};
+ghost use Rattle.plan_solve.specs.Reply.{replyOf, fitReply};
+use plan_solve::Answer;
+use plan_solve::Fit;
 use questions::Checked;
+
+// What solving gives, as an answer.
+fn answered(fit: Fit) -> Answer
+    ensures { λ r. ⌜ replyOf r ≡ fitReply fit ⌝ }
+{
+    match fit {
+        Fit::Fits => Answer::Plan,
+        Fit::None(k) => Answer::None(k),
+    }
+}
 
 // Plans from lists. The questions come first; then the sheet gets a plan, or none and a ring.
 pub fn plan(
@@ -18,7 +31,7 @@ pub fn plan(
     earliest: &mut [u16],
     latest: &mut [u16],
     ring: &mut [u16],
-) -> plan_solve::Answer
+) -> Answer
     ensures { λ r.
         let l = listed span (now (first .entry)) (now (last .entry)) (now (from .entry)) (now (to .entry)) (now (low .entry)) (now (high .entry)) in
         let before = lent (now (table .entry)) (now (plan .entry)) (now (earliest .entry)) (now (latest .entry)) (now (ring .entry)) in
@@ -26,10 +39,10 @@ pub fn plan(
         (lent (now (table .exit)) (now (plan .exit)) (now (earliest .exit)) (now (latest .exit)) (now (ring .exit))) ⌝ }
 {
     let rooms = plan_ask::lengths_of(table, plan, earliest, latest, ring);
-    let asked = plan_ask::ask_lists(span, first, last, from, to, low, high, rooms);
+    let asked = plan_ask::ask(span, first, last, from, to, low, high, rooms);
     match asked {
-        Checked::No(refusal) => plan_solve::Answer::Refused(refusal),
-        Checked::Yes => plan_solve::solve(
+        Checked::No(refusal) => Answer::Refused(refusal),
+        Checked::Yes => answered(plan_solve::solve(
             span,
             first,
             last,
@@ -42,6 +55,6 @@ pub fn plan(
             earliest,
             latest,
             ring,
-        ),
+        )),
     }
 }

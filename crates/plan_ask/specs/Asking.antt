@@ -5,12 +5,11 @@ use Prim.Native.Nat.{ℕ, _*_}
 use lib.Dec.{T, leb}
 use lib.ListN.{length}
 use Rattle.lists.specs.Lists.{every}
-use Rattle.questions.specs.Questions.{Question}
 use Rattle.sheet.specs.Sheet.{Sheet}
 use Rattle.sheet.specs.Questions.{windowsOf, rising, accepted}
 use Rattle.sheet.specs.Lists.{Lists, given, agree}
 use Rattle.plan_ask.specs.declared.Lengths.{Lengths}
-use Rattle.plan_ask.specs.Questions.{Rooms, fitsRooms, roomsFit, asked}
+use Rattle.plan_ask.specs.Questions.{Rooms, roomsFit}
 
 -- the lengths of the rooms
 abbrev pub lengthsOf : Rooms → Lengths
@@ -28,15 +27,12 @@ allRising least most fs ls = every (λ w. rising least most (w .first) (w .last)
 unfoldable pub lengthsFit : ℕ → ℕ → Lengths → Bool
 lengthsFit w n r = leb (w * w) (r .table) && (leb n (r .plan) && (leb n (r .earliest) && (leb n (r .latest) && leb w (r .ring))))
 
--- the questions before the pass, by the rooms' lengths
+-- question 12, by the rooms' lengths
 abbrev pub fitLengths : Sheet → Lengths → Bool
 fitLengths s r = roomsFit s (r .table) (r .plan) (r .earliest) (r .latest) (r .ring)
 
-abbrev pub askedFirst : Lists → Lengths → List Question
-askedFirst l r = asked (agree l) (given l) (fitLengths (given l) r)
-
--- every question before the pass is answered yes
-pub record Solvable (l : Lists) (r : Rooms) : Type 0 where
+-- every question is answered yes; `fit` is the answer to 12, whatever rooms the call asks for
+pub record Solvable (l : Lists) (fit : Bool) : Type 0 where
   pub lists : T (agree l)
   pub sheet : T (accepted (given l))
-  pub rooms : T (fitsRooms (given l) r)
+  pub rooms : T fit

@@ -1,7 +1,7 @@
 -- The questions as the code asks them are the questions of docs/RULES.md.
 -- Key idea: a test of each unit or rule that looks at two numbers of it is a test of two lists, place by place; and at each place what is left to ask
 -- gives the whole answer.
-use mathlib.Core.Path.{_≡_, refl, sym, ap, ap₂, subst, _∙_}
+use mathlib.Core.Path.{_≡_, refl, ap, ap₂, _∙_}
 use mathlib.Core.Bool.{Bool, true, false, _&&_}
 use mathlib.Core.List.{List, [], _∷_}
 use Prim.Native.Nat.{ℕ, suc, _+_, _≤_, _<_}
@@ -10,12 +10,11 @@ use lib.Dec.{T, leb}
 use lib.ListN.{length, getD, drop, drop-of-length-le}
 use lib.Seq.{drop-cons}
 use Rattle.lists.specs.Lists.{every}
-use Rattle.lists.specs.Members.{within-iff}
 use Rattle.sheet.specs.Sizes.{maxSlots, maxUnits, maxRules, maxCount, boundariesOf}
 use Rattle.sheet.specs.Sheet.{Window, top, noWindow}
-use Rattle.sheet.specs.Questions.{windowsOf, rulesOf, sheetOf, isSpan, rising, spanFits, unitsFit, rulesFit, windowsFit, stretchesFit, countsFit}
+use Rattle.sheet.specs.Questions.{windowsOf, rulesOf, sheetOf, isSpan, rising, spanFits, unitsFit, rulesFit, windowsFit, stretchesFit, countsFit, accepted}
 use Rattle.sheet.specs.Lists.{Lists, given, agree}
-use Rattle.sheet.specs.QuestionLaws.{Agree, listsAgree-read, windowsOf-length, windowsOf-at, rulesOf-length}
+use Rattle.sheet.specs.QuestionLaws.{Agree, listsAgree-read, windowsOf-length, windowsOf-at, rulesOf-length, accepted-sized}
 use Rattle.plan_ask.specs.Asking.{fitLengths, allRising, lengthsFit}
 use Rattle.plan_ask.specs.Questions.{roomsFit}
 use Rattle.plan_ask.specs.declared.Lengths.{Lengths}
@@ -73,11 +72,12 @@ module _ (t : ℕ → ℕ → Bool) where
       ap (λ b. t l h && b) (counts-as-windows fs ts ls hs (omega arith) (omega arith) (omega arith))
 
 module _ (l : Lists) where
-  pub lists-read : agree l ≡ true → Agree (l .first) (l .last) (l .from) (l .to) (l .low) (l .high)
-  lists-read e = listsAgree-read (l .first) (l .last) (l .from) (l .to) (l .low) (l .high) (subst T (sym e) tt)
+  pub lists-read : T (agree l) → Agree (l .first) (l .last) (l .from) (l .to) (l .low) (l .high)
+  lists-read = listsAgree-read (l .first) (l .last) (l .from) (l .to) (l .low) (l .high)
 
-  pub span-bound : isSpan (l .span) ≡ true → l .span ≤ maxSlots
-  span-bound e = within-iff 1 maxSlots (l .span) .0 (subst T (sym e) tt) .1
+  pub span-bound : T (accepted (given l)) → l .span ≤ maxSlots
+  unfolding sheetOf
+  span-bound ok = accepted-sized (given l) ok .slots .1
 
   pub asks-span : spanFits (given l) ≡ isSpan (l .span)
   unfolding spanFits sheetOf

@@ -4,9 +4,9 @@ ghost use lib.ListN.{length};
 ghost use Rattle.questions.specs.Questions.{firstNo, verdictOf};
 ghost use Rattle.network.specs.Table.{maxBoundaries};
 ghost use Rattle.sheet.specs.Questions.{listsAgree};
-ghost use Rattle.sheet.specs.Lists.{listed};
-ghost use Rattle.plan_ask.specs.Questions.{lent};
-ghost use Rattle.plan_ask.specs.Asking.{lengthsOf, allRising, lengthsFit, askedFirst};
+ghost use Rattle.sheet.specs.Lists.{listed, given};
+ghost use Rattle.plan_ask.specs.Questions.{lent, listQuestions, refusalBy};
+ghost use Rattle.plan_ask.specs.Asking.{lengthsOf, allRising, lengthsFit, fitLengths};
 use questions::Checked;
 use questions::Refusal;
 
@@ -102,7 +102,7 @@ fn rooms_fit(w: usize, units: usize, rooms: Lengths) -> bool
     w <= ring
 }
 
-// The questions before the pass, in their order: the first no, or none. No line is to blame.
+// What is asked of the lists, in its order: the first no, or none. No line is to blame. Every call asks this, and then for rooms of its own.
 pub fn ask_lists(
     span: usize,
     first: &[u16],
@@ -111,11 +111,10 @@ pub fn ask_lists(
     to: &[u16],
     low: &[u16],
     high: &[u16],
-    rooms: Lengths,
 ) -> Checked
     ensures { λ r.
-        ⌜ verdictOf r ≡ firstNo (askedFirst
-        (listed span (now (first .entry)) (now (last .entry)) (now (from .entry)) (now (to .entry)) (now (low .entry)) (now (high .entry))) rooms) ⌝ }
+        ⌜ verdictOf r ≡ firstNo (listQuestions
+        (listed span (now (first .entry)) (now (last .entry)) (now (from .entry)) (now (to .entry)) (now (low .entry)) (now (high .entry)))) ⌝ }
 {
     if lists_agree(first, last, from, to, low, high) {} else {
         return Checked::No(Refusal {
@@ -141,15 +140,40 @@ pub fn ask_lists(
     if all_rise(1, span, from, to) {} else {
         return Checked::No(Refusal { number: 7, line: 0 });
     }
-    if all_rise(0, sheet::Sheet::MAX_COUNT, low, high) {} else {
-        return Checked::No(Refusal { number: 8, line: 0 });
-    }
-    if rooms_fit(sheet::boundaries(span), first.len(), rooms) {
+    if all_rise(0, sheet::Sheet::MAX_COUNT, low, high) {
         Checked::Yes
     } else {
-        Checked::No(Refusal {
-            number: 12,
-            line: 0,
-        })
+        Checked::No(Refusal { number: 8, line: 0 })
+    }
+}
+
+// What planning asks: the lists first, and then for the rooms that it lends.
+pub fn ask(
+    span: usize,
+    first: &[u16],
+    last: &[u16],
+    from: &[u16],
+    to: &[u16],
+    low: &[u16],
+    high: &[u16],
+    rooms: Lengths,
+) -> Checked
+    ensures { λ r.
+        let l = listed span (now (first .entry)) (now (last .entry)) (now (from .entry)) (now (to .entry)) (now (low .entry)) (now (high .entry)) in
+        ⌜ verdictOf r ≡ refusalBy l (fitLengths (given l) rooms) ⌝ }
+{
+    let asked = ask_lists(span, first, last, from, to, low, high);
+    match asked {
+        Checked::No(refusal) => Checked::No(refusal),
+        Checked::Yes => {
+            if rooms_fit(sheet::boundaries(span), first.len(), rooms) {
+                Checked::Yes
+            } else {
+                Checked::No(Refusal {
+                    number: 12,
+                    line: 0,
+                })
+            }
+        }
     }
 }

@@ -5,15 +5,15 @@ use Prim.Native.Nat.{ℕ}
 use lib.Dec.{T}
 use lib.ListN.{length, drop}
 use lib.IntN.{ℤ}
-use Rattle.network.specs.Table.{Passed, finished, stopped, outOfRange, outcomeOf, cleared}
+use Rattle.network.specs.Table.{Passed, finished, stopped, outcomeOf, cleared}
 use Rattle.network.specs.declared.Outcome.{Outcome}
 use Rattle.sheet.specs.Sheet.{Sheet, isRing}
-use Rattle.plan_ask.specs.Questions.{places, passed}
+use Rattle.plan_ask.specs.Questions.{places}
+use Rattle.plan_solve.specs.Planning.{passed}
 
 abbrev pub tableLeft : Sheet → Passed → List ℤ → List ℤ
 tableLeft s (finished t) room = t ++ drop (places s) room
 tableLeft s stopped room = cleared (places s) room
-tableLeft s outOfRange room = cleared (places s) room
 
 -- the pass over the limits of s, in a room lent
 pub record Decided (s : Sheet) (before : List ℤ) (r : Outcome) (after : List ℤ) : Type 0 where

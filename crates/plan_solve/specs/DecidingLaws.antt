@@ -3,38 +3,45 @@ use mathlib.Core.Path.{_≡_, refl, sym, ap, _∙_, subst}
 use mathlib.Core.List.{List, _++_}
 use Prim.Native.Nat.{ℕ, _*_, _≤_}
 use native.Mathlib.Omega.{arith}
+use lib.Dec.{T}
 use lib.ListN.{length, drop, replicate}
 use lib.Seq.{drop-at}
 use lib.IntN.{ℤ, pos}
-use Rattle.network.specs.Table.{maxBoundaries, Passed, finished, stopped, outOfRange, tableOf, passOf, outcomeOf, cleared, tableAfter, After}
+use Rattle.network.specs.Table.{maxBoundaries, Passed, finished, stopped, tableOf, passOf, outcomeOf, cleared, tableAfter, After}
 use Rattle.network.specs.TableLaws.{length-tableOf}
 use Rattle.network.specs.PassFront.{withRest, pass-front}
+use Rattle.network.specs.Bounds.{Limited}
 use Rattle.network.specs.declared.Outcome.{Outcome}
-use Rattle.sheet.specs.Sizes.{maxSlots, boundariesOf}
+use Rattle.sheet.specs.Sizes.{boundariesOf}
 use Rattle.sheet.specs.Sheet.{Sheet, limit, boundaries}
+use Rattle.sheet.specs.Questions.{accepted}
 use Rattle.sheet.specs.Lists.{Lists, given}
-use Rattle.limits.specs.LimitTable.{limitTable, Fillable}
-use Rattle.limits.specs.LimitTableLaws.{accepted-span, boundaries-are, length-limitTable}
-use Rattle.plan_ask.specs.Questions.{places, passed}
+use Rattle.limits.specs.LimitTable.{limitTable}
+use Rattle.limits.specs.LimitTableLaws.{boundaries-are, length-limitTable}
+use Rattle.limits.specs.LimitedLaws.{limits-limited-room}
+use Rattle.plan_ask.specs.Questions.{places}
+use Rattle.plan_ask.specs.AskingLaws.{span-bound}
+use Rattle.plan_solve.specs.Planning.{passed}
 use Rattle.plan_solve.specs.Deciding.{tableLeft, Decided}
 
 -- ---- the table, filled with the limits
-module _ (l : Lists) (room : ℕ) (f : Fillable (l .span) (l .first) (l .last) (l .from) (l .to) (l .low) (l .high) room) where
-  pub span-few : l .span ≤ maxSlots
-  span-few = accepted-span (l .span) (l .first) (l .last) (l .from) (l .to) (l .low) (l .high) (f .ok) (f .agree)
 
-  -- as the code counts its boundaries
-  pub boundaries-counted : (w : ℕ) → w ≡ boundariesOf (l .span) → (boundaries (given l) ≡ w) × (w ≤ maxBoundaries)
-  boundaries-counted w e = (boundaries-are (l .span) (l .first) (l .last) (l .from) (l .to) (l .low) (l .high) ∙ sym e, omega (arith, span-few))
+-- as the code counts its boundaries
+pub boundaries-counted : (l : Lists) → T (accepted (given l)) → (w : ℕ) → w ≡ boundariesOf (l .span) → (boundaries (given l) ≡ w) × (w ≤ maxBoundaries)
+boundaries-counted l ok w e =
+    (boundaries-are (l .span) (l .first) (l .last) (l .from) (l .to) (l .low) (l .high) ∙ sym e, omega (arith, span-bound l ok))
 
 pub filled-room : (s : Sheet) (room filled : List ℤ) (w : ℕ) → boundaries s ≡ w → places s ≤ length room → filled ≡ limitTable s room → w * w ≤ length filled
 filled-room s room filled w e fits is = omega (arith, ap (λ (n : ℕ). n * n) e, ap length is, length-limitTable s room fits)
+
+pub filled-limited : (s : Sheet) → T (accepted s) → (room filled : List ℤ) (w : ℕ) → boundaries s ≡ w → filled ≡ limitTable s room → Limited w filled
+filled-limited s ok room filled w e is =
+    subst (λ (n : ℕ). Limited n filled) e (subst (Limited (boundaries s)) (sym is) (limits-limited-room s ok (drop (places s) room)))
 
 -- ---- the pass over it
 outcome-front : (r : List ℤ) (p : Passed) → outcomeOf (withRest r p) ≡ outcomeOf p
 outcome-front r (finished t) = refl
 outcome-front r stopped = refl
-outcome-front r outOfRange = refl
 
 pub cleared-limits : (s : Sheet) (room : List ℤ) → cleared (places s) (limitTable s room) ≡ cleared (places s) room
 cleared-limits s room =
@@ -44,7 +51,6 @@ cleared-limits s room =
 table-front : (s : Sheet) (room : List ℤ) (p : Passed) → tableAfter (boundaries s) (limitTable s room) (withRest (drop (places s) room) p) ≡ tableLeft s p room
 table-front s room (finished t) = refl
 table-front s room stopped = cleared-limits s room
-table-front s room outOfRange = cleared-limits s room
 
 decided-here : (s : Sheet) (room : List ℤ) (r : Outcome) (after : List ℤ)
     → After (boundaries s) (limitTable s room) (passOf (boundaries s) (limitTable s room)) r after → Decided s room r after

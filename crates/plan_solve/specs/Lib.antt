@@ -1,5 +1,6 @@
 pub mod Reply
 pub mod Planning
+pub mod ConclusionLaws
 pub mod PlanningLaws
 pub mod Deciding
 pub mod DecidingLaws

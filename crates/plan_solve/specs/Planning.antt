@@ -1,28 +1,21 @@
 -- What planning from lists answers and leaves, case by case: docs/RULES.md, "What a call leaves". Definitions only.
 use mathlib.Core.Path.{_≡_}
-use mathlib.Core.Bool.{cond}
+use mathlib.Core.Bool.{Bool}
 use mathlib.Core.List.{List, _++_}
 use Prim.Native.Nat.{ℕ}
-use lib.Dec.{T, eqb}
+use lib.Dec.{T}
 use lib.ListN.{length, drop}
 use lib.IntN.{ℤ}
-use Rattle.network.specs.Table.{Passed, finished, stopped, outOfRange, cleared}
+use Rattle.network.specs.Table.{Passed, finished, stopped, tableOf, passOf, cleared}
 use Rattle.questions.specs.Questions.{Verdict, no, allYes}
-use Rattle.sheet.specs.Sheet.{Sheet, printedPlan, earliestSlots, latestSlots, isRing}
+use Rattle.sheet.specs.Sheet.{Sheet, boundaries, limit, printedPlan, earliestSlots, latestSlots, isRing}
 use Rattle.sheet.specs.Lists.{Lists, given}
-use Rattle.plan_ask.specs.Questions.{Rooms, places, passed, refusal}
+use Rattle.plan_ask.specs.Questions.{Rooms, places, fitsRooms, refusalBy}
 use Rattle.plan_solve.specs.Reply as says
 
--- refused: nothing is changed, but 14 leaves the table's places 0
-abbrev pub refused : Sheet → ℕ → Rooms → Rooms
-refused s n r =
-    record {
-      table = cond (eqb n 14) (cleared (places s) (r .table)) (r .table);
-      plan = r .plan;
-      earliest = r .earliest;
-      latest = r .latest;
-      ring = r .ring;
-    }
+-- the pass over the table of the sheet's limits
+unfoldable pub passed : Sheet → Passed
+passed s = passOf (boundaries s) (tableOf (boundaries s) (limit s))
 
 -- a plan: the finished pass, the printed plan and the narrowed windows; the ring room is unchanged
 abbrev pub planned : Sheet → List ℤ → Rooms → Rooms
@@ -56,18 +49,22 @@ pub data Conclusion : Type 0 where
 abbrev pub byPass : Passed → Conclusion
 byPass (finished t) = plan t
 byPass stopped = none
-byPass outOfRange = refuse 14 0
 
 -- the first no of the questions decides, or the pass
 abbrev pub concluding : Verdict → Passed → Conclusion
 concluding (no q n) p = refuse q n
 concluding allYes p = byPass p
 
-unfoldable pub conclusion : Lists → Rooms → Conclusion
-conclusion l r = concluding (refusal l r) (passed (given l))
+unfoldable pub conclusionBy : Lists → Bool → Conclusion
+conclusionBy l rooms = concluding (refusalBy l rooms) (passed (given l))
 
--- The reply and the rooms after the call follow from the conclusion. The ring is the one freedom: it may be any ring of the sheet's own limits.
+-- that of planning, whose rooms are these
+abbrev pub conclusion : Lists → Rooms → Conclusion
+conclusion l r = conclusionBy l (fitsRooms (given l) r)
+
+-- The reply and the rooms after the call follow from the conclusion. A refusal changes nothing. The ring is the one freedom: it may be any ring of the
+-- sheet's own limits.
 abbrev pub Settled : Conclusion → Sheet → Rooms → says.Reply → Rooms → Type 0
-Settled (refuse q n) s before reply after = (reply ≡ says.refused q n) × (after ≡ refused s q before)
+Settled (refuse q n) s before reply after = (reply ≡ says.refused q n) × (after ≡ before)
 Settled (plan t) s before reply after = (reply ≡ says.plan) × (after ≡ planned s t before)
 Settled none s before reply after = (c : List ℕ) × T (isRing s c) × (reply ≡ says.none (length c)) × (after ≡ ringed s c before)

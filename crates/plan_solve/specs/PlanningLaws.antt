@@ -1,17 +1,13 @@
--- What a call that is not refused knows: every question was answered yes, and the pass over the sheet's limits finished or stopped.
+-- What the pass over a sheet's limits says of the sheet: where it finishes, its table is solved; where it stops, no plan is lawful.
 -- Key idea: the table of the limits has the limits as its entries, so what the pass says of its table it says of the sheet.
 use mathlib.Core.Path.{_≡_, refl, sym, _∙_, subst}
-use mathlib.Core.Bool.{true}
-use mathlib.Core.List.{List, [], _∷_}
+use mathlib.Core.List.{List}
 use Prim.Native.Nat.{ℕ, _≤_}
 use native.Mathlib.Omega.{arith}
 use lib.Dec.{T}
 use lib.ListN.{length}
 use lib.IntN.{ℤ, pos, _+ℤ_}
 use lib.Signed.{_≤ℤ_}
-use Rattle.lists.specs.Members.{both, left, right, every-both}
-use Rattle.questions.specs.Questions.{Question, ask, allYes, AllYes}
-use Rattle.questions.specs.FirstNoLaws.{yes-every, yes-front, yes-back, yes-at}
 use Rattle.network.specs.Network.{Potential, Feasible}
 use Rattle.network.specs.Table.{finished, stopped, tableOf, entry}
 use Rattle.network.specs.TableLaws.{entry-tableOf, length-tableOf}
@@ -20,48 +16,8 @@ use Rattle.sheet.specs.Sheet.{Sheet, top, boundaries, limit, lawful, countIn}
 use Rattle.sheet.specs.LimitLaws.{limit-same}
 use Rattle.sheet.specs.PotentialLaws.{Valid, lawful-feasible}
 use Rattle.sheet.specs.Solved.{Solved}
-use Rattle.sheet.specs.Questions.{sheetQuestions, accepted}
-use Rattle.sheet.specs.Lists.{Lists, given, agree}
-use Rattle.plan_ask.specs.Questions.{Rooms, fitsRooms, places, passed, inRange, asked, askedOfPass, questions, refusal}
-use Rattle.plan_ask.specs.Asking.{Solvable}
-
--- ---- the questions before the pass, and that of the pass
-
-module _ (l : Lists) (r : Rooms) where
-  abbrev first : List Question
-  first = asked (agree l) (given l) (fitsRooms (given l) r)
-
-  abbrev rooms : List Question
-  rooms = ask 12 0 (fitsRooms (given l) r) ∷ []
-
-  pub asked-yes : AllYes first → Solvable l r
-  unfolding accepted
-  asked-yes h =
-      let past = right (agree l) _ h in
-      record {
-        lists = left (agree l) _ h;
-        sheet = yes-front (sheetQuestions (given l)) rooms past;
-        rooms = yes-at rooms (yes-back (sheetQuestions (given l)) rooms past) 0 tt;
-      }
-
-  pub yes-asked : Solvable l r → AllYes first
-  unfolding accepted
-  yes-asked y =
-      both (agree l) _ (y .lists)
-      (every-both (λ q. q .yes) (sheetQuestions (given l)) rooms (y .sheet) (both (fitsRooms (given l) r) true (y .rooms) tt))
-
-  module _ (e : refusal l r ≡ allYes) where
-    pub no-refusal : Solvable l r
-    unfolding refusal
-    no-refusal = asked-yes (yes-front first (askedOfPass (passed (given l))) (yes-every (questions l r) e))
-
-    pub in-range : T (inRange (passed (given l)))
-    unfolding refusal
-    in-range =
-        let last = askedOfPass (passed (given l)) in
-        yes-at last (yes-back first last (yes-every (questions l r) e)) 0 tt
-
--- ---- the pass over the table of the limits
+use Rattle.plan_ask.specs.Questions.{places}
+use Rattle.plan_solve.specs.Planning.{passed}
 
 module _ (s : Sheet) where
   at : (a b : ℕ) → a ≤ top s → b ≤ top s → entry (boundaries s) (tableOf (boundaries s) (limit s)) a b ≡ limit s a b

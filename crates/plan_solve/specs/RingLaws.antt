@@ -10,7 +10,6 @@ use lib.ListN.{length, take, drop, take-append-drop}
 use lib.Seq.{length-take-le}
 use lib.IntN.{ℤ, pos, _+ℤ_}
 use lib.Signed.{_≤ℤ_, ltZ}
-use Rattle.integers.specs.Parts.{ints}
 use Rattle.lists.specs.Lists.{every}
 use Rattle.lists.specs.Members.{left, right}
 use Rattle.network.specs.Network.{Weights, Potential, Feasible, around, distinct, lowestFirst, isNegativeCycle}
@@ -19,12 +18,13 @@ use Rattle.network.specs.Table.{entry, stopped, cleared}
 use Rattle.network_cycles.specs.Finder.{Infeasible, Weighed, CycleAt}
 use Rattle.sheet.specs.Sheet.{Sheet, top, boundaries, limit, isRing}
 use Rattle.limits.specs.LimitTable.{limitTable}
-use Rattle.limits.specs.LimitTableLaws.{boundaries-fit, length-limitTable, limitTable-at, limitTable-small, limitTable-diagonal}
+use Rattle.limits.specs.LimitTableLaws.{boundaries-fit, limitTable-at}
 use Rattle.sheet.specs.Questions.{accepted}
-use Rattle.plan_ask.specs.Questions.{places, passed}
+use Rattle.plan_ask.specs.Questions.{places}
+use Rattle.plan_solve.specs.Planning.{passed}
 use Rattle.plan_solve.specs.PlanningLaws.{stopped-no-potential}
 use Rattle.plan_solve.specs.Deciding.{RingFound}
-use Rattle.plan_solve.specs.DecidingLaws.{cleared-limits}
+use Rattle.plan_solve.specs.DecidingLaws.{filled-room, filled-limited, cleared-limits}
 
 -- ---- two weights that agree up to the top boundary
 cycle-same : (top : ℕ) (d e : Weights) → ((a b : ℕ) → a ≤ top → b ≤ top → d a b ≡ e a b)
@@ -52,19 +52,17 @@ module _ (s : Sheet) (room : List ℤ) where
 -- what the finder of negative cycles asks of the room that the limits fill, and what it then shows
 module _ (s : Sheet) (ok : T (accepted s)) (room filled : List ℤ) (big : places s ≤ length room) (is : filled ≡ limitTable s room)
     (w : ℕ) (size : boundaries s ≡ w) where
-  weighed-here : Weighed (boundaries s) (limitTable s room)
-  weighed-here =
-      let fit = boundaries-fit s ok in
-      record {
-        some = fit .0;
-        few = fit .1;
-        room = omega (arith, length-limitTable s room big);
-        bounded = λ a b ha hb. let q = limitTable-small s room a b ha hb ok in (omega (ints, q .0), omega (ints, q .1));
-        zeros = limitTable-diagonal s room;
-      }
-
   pub weighed : Weighed w filled
-  weighed = subst (λ (n : ℕ). Weighed n filled) size (subst (Weighed (boundaries s)) (sym is) weighed-here)
+  weighed =
+      let fit = boundaries-fit s ok in
+      let limits = filled-limited s ok room filled w size is in
+      record {
+        some = omega (arith, fit .0);
+        few = omega (arith, fit .1);
+        room = filled-room s room filled w size big is;
+        small = limits .small;
+        zeros = limits .diagonal;
+      }
 
   pub no-potential : passed s ≡ stopped → Infeasible w filled
   no-potential e =

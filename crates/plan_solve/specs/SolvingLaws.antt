@@ -1,4 +1,4 @@
--- From the pass's outcome to what the call leaves: a sum out of range, no plan and a ring, or a plan.
+-- From the pass's outcome to what the call leaves: no plan and a ring, or a plan.
 -- Key idea: the outcome says which pass it was, and so which conclusion the rooms are left by.
 use mathlib.Core.Path.{_≡_, refl, sym, ap, ap₂, _∙_, subst}
 use mathlib.Core.Bool.{_&&_}
@@ -10,23 +10,24 @@ use lib.ListN.{length, drop, replicate, length-append, length-drop, length-repli
 use lib.Seq.{drop-at}
 use lib.IntN.{ℤ, pos}
 use Rattle.lists.specs.Members.{left, right}
-use Rattle.network.specs.Table.{Passed, finished, stopped, outOfRange, entry, outcomeOf, cleared}
+use Rattle.network.specs.Table.{Passed, finished, stopped, entry, outcomeOf, cleared}
 use Rattle.network.specs.declared.Outcome.{Outcome}
-use Rattle.network.specs.declared.Outcome.the-variants.{Finished, Stopped, OutOfRange}
+use Rattle.network.specs.declared.Outcome.the-variants.{Finished, Stopped}
 use Rattle.sheet.specs.Sizes.{boundariesOf}
 use Rattle.sheet.specs.Sheet.{Sheet, printedPlan, earliestSlots, latestSlots, isRing, boundaries}
 use Rattle.limits.specs.LimitTable.{Fillable}
 use Rattle.limits.specs.LentTableLaws.{cleared-length}
 use Rattle.sheet.specs.Questions.{accepted, windowsOf, sheetOf}
-use Rattle.sheet.specs.QuestionLaws.{Agree, listsAgree-read, windowsOf-length, accepted-valid}
+use Rattle.sheet.specs.QuestionLaws.{Agree, windowsOf-length, accepted-valid}
 use Rattle.sheet.specs.Solved.{Solved}
 use Rattle.sheet.specs.Lists.{Lists, given}
-use Rattle.plan_ask.specs.Questions.{Rooms, lent, fitsRooms, roomsFit, places, passed}
-use Rattle.plan_solve.specs.Planning.{ringed, byPass, Settled}
+use Rattle.plan_ask.specs.Questions.{Rooms, lent, fitsRooms, roomsFit, places}
+use Rattle.plan_solve.specs.Planning.{passed, ringed, byPass, Settled}
 use Rattle.plan_solve.specs.PlanningLaws.{passed-size, passed-solved}
 use Rattle.plan_solve.specs.Deciding.{tableLeft, Decided, RingFound}
 use Rattle.plan_solve.specs.DecidingLaws.{boundaries-counted}
 use Rattle.plan_ask.specs.Asking.{Solvable}
+use Rattle.plan_ask.specs.AskingLaws.{lists-read}
 use Rattle.plan_solve.specs.Filling.{Ready, PlanFilled}
 use Rattle.plan_solve.specs.FillingLaws.{solved-front}
 use Rattle.plan_solve.specs.Reply as says
@@ -35,33 +36,16 @@ use Rattle.plan_solve.specs.Reply as says
 is-finished : (p : Passed) → Finished ≡ outcomeOf p → (t : List ℤ) × (p ≡ finished t)
 is-finished (finished t) e = (t, refl)
 is-finished stopped e = let z : _≡_ {A = ℕ} 0 1 = cc in absurd (omega arith)
-is-finished outOfRange e = let z : _≡_ {A = ℕ} 0 1 = cc in absurd (omega arith)
 
 is-stopped : (p : Passed) → Stopped ≡ outcomeOf p → p ≡ stopped
 is-stopped (finished t) e = let z : _≡_ {A = ℕ} 0 1 = cc in absurd (omega arith)
 is-stopped stopped e = refl
-is-stopped outOfRange e = let z : _≡_ {A = ℕ} 0 1 = cc in absurd (omega arith)
-
-is-out-of-range : (p : Passed) → OutOfRange ≡ outcomeOf p → p ≡ outOfRange
-is-out-of-range (finished t) e = let z : _≡_ {A = ℕ} 0 1 = cc in absurd (omega arith)
-is-out-of-range stopped e = let z : _≡_ {A = ℕ} 0 1 = cc in absurd (omega arith)
-is-out-of-range outOfRange e = refl
-
--- the rooms with another table
-abbrev withTable : Rooms → List ℤ → Rooms
-withTable r t = record { table = t; plan = r .plan; earliest = r .earliest; latest = r .latest; ring = r .ring }
 
 rooms-same : (t t′ : List ℤ) (p p′ e e′ l l′ r : List ℕ) → t ≡ t′ → p ≡ p′ → e ≡ e′ → l ≡ l′
     → lent t p e l r ≡ lent t′ p′ e′ l′ r
 rooms-same t t′ p p′ e e′ l l′ r a b c d = rw (a, b, c, d)
 
 module _ (s : Sheet) (before : Rooms) (table : List ℤ) where
-  left-out-of-range : Decided s (before .table) OutOfRange table → Settled (byPass (passed s)) s before (says.refused 14 0) (withTable before table)
-  left-out-of-range d =
-      let e = is-out-of-range (passed s) (d .outcome) in
-      subst (λ (p : Passed). Settled (byPass p) s before (says.refused 14 0) (withTable before table)) (sym e)
-      (refl, ap (withTable before) (d .table ∙ ap (λ (p : Passed). tableLeft s p (before .table)) e))
-
   -- a ring at the front of its room, and the table cleared
   left-ring : Decided s (before .table) Stopped table → (c : List ℕ) → T (isRing s c) → (after : Rooms) → after ≡ ringed s c before
       → Settled (byPass (passed s)) s before (says.none (length c)) after
@@ -144,12 +128,12 @@ rooms-hold s r h =
 cleared-twice : (n : ℕ) (t : List ℤ) → cleared n (cleared n t) ≡ cleared n t
 cleared-twice n t = ap (λ (r : List ℤ). replicate n (pos 0) ++ r) (drop-at (replicate n (pos 0)) (drop n t) n (length-replicate n (pos 0)))
 
-module _ (l : Lists) (before : Rooms) (S : Solvable l before) where
+module _ (l : Lists) (before : Rooms) (S : Solvable l (fitsRooms (given l) before)) where
   holds : RoomsHold (given l) before
   holds = rooms-hold (given l) before (S .rooms)
 
   lists : Agree (l .first) (l .last) (l .from) (l .to) (l .low) (l .high)
-  lists = listsAgree-read (l .first) (l .last) (l .from) (l .to) (l .low) (l .high) (S .lists)
+  lists = lists-read l (S .lists)
 
   units-are : given l .units ≡ windowsOf (l .first) (l .last)
   unfolding sheetOf
@@ -162,11 +146,6 @@ module _ (l : Lists) (before : Rooms) (S : Solvable l before) where
   limits-asked = record { agree = S .lists; ok = S .sheet; fits = holds .table }
 
   module _ (r : Outcome) (table : List ℤ) (d : Decided (given l) (before .table) r table) where
-    pub range-left : r ≡ OutOfRange
-        → Settled (byPass (passed (given l))) (given l) before (says.refused 14 0)
-        (lent table (before .plan) (before .earliest) (before .latest) (before .ring))
-    range-left e = left-out-of-range (given l) before table (subst (λ (o : Outcome). Decided (given l) (before .table) o table) e d)
-
     module _ (e : r ≡ Stopped) where
       D : Decided (given l) (before .table) Stopped table
       D = subst (λ (o : Outcome). Decided (given l) (before .table) o table) e d
@@ -200,7 +179,7 @@ module _ (l : Lists) (before : Rooms) (S : Solvable l before) where
       pub plan-asked : (w : ℕ) → w ≡ boundariesOf (l .span) → Ready (given l) w (l .first) (l .last) table
       plan-asked w k =
           ready (given l) before table (S .sheet) F (holds .table) (l .first) (l .last) w
-          (boundaries-counted l (length (before .table)) limits-asked w k .0) units-are (lists .windows)
+          (boundaries-counted l (S .sheet) w k .0) units-are (lists .windows)
 
       pub plan-rooms : (length (l .first) ≤ length (before .plan)) × (length (l .first) ≤ length (before .earliest))
           × (length (l .first) ≤ length (before .latest))

@@ -6,11 +6,11 @@ ghost use Rattle.network.specs.Table.{stopped};
 ghost use Rattle.sheet.specs.Sheet.{Sheet, printedPlan, boundaries};
 ghost use Rattle.sheet.specs.Questions.{sheetOf};
 ghost use Rattle.limits.specs.LimitTable.{Fillable};
-ghost use Rattle.sheet.specs.Lists.{listed};
-ghost use Rattle.plan_ask.specs.Questions.{lent, passed};
+ghost use Rattle.sheet.specs.Lists.{listed, given};
+ghost use Rattle.plan_ask.specs.Questions.{lent, fitsRooms};
 ghost use Rattle.plan_ask.specs.Asking.{Solvable};
-ghost use Rattle.plan_solve.specs.Planning.{byPass, Settled};
-ghost use Rattle.plan_solve.specs.Reply.{replyOf};
+ghost use Rattle.plan_solve.specs.Planning.{passed, byPass, Settled};
+ghost use Rattle.plan_solve.specs.Reply.{fitReply};
 ghost use Rattle.plan_solve.specs.Deciding.{Decided, RingFound};
 ghost use Rattle.plan_solve.specs.Filling.{Ready, PlanFilled};
 use questions::Refusal;
@@ -19,6 +19,12 @@ use questions::Refusal;
 pub enum Answer {
     Refused(Refusal),
     Plan,
+    None(usize),
+}
+
+// What solving a sheet of which every question is answered yes gives: it cannot refuse.
+pub enum Fit {
+    Fits,
     None(usize),
 }
 
@@ -96,7 +102,7 @@ fn fill_plan(
     plan_windows::narrow(first, last, plan, table, w, earliest, latest);
 }
 
-// A sheet of which every question before the pass is answered yes.
+// A sheet of which every question is answered yes: a plan in the rooms, or none and a ring.
 pub fn solve(
     span: usize,
     first: &[u16],
@@ -110,29 +116,25 @@ pub fn solve(
     earliest: &mut [u16],
     latest: &mut [u16],
     ring: &mut [u16],
-) -> Answer
-    requires { ⌜ Solvable (listed span (now first) (now last) (now from) (now to) (now low) (now high))
-        (lent (now table) (now plan) (now earliest) (now latest) (now ring)) ⌝ }
+) -> Fit
+    requires { let l = listed span (now first) (now last) (now from) (now to) (now low) (now high) in
+        ⌜ Solvable l (fitsRooms (given l) (lent (now table) (now plan) (now earliest) (now latest) (now ring))) ⌝ }
     ensures { λ r.
         let s = sheetOf span (now (first .entry)) (now (last .entry)) (now (from .entry)) (now (to .entry)) (now (low .entry)) (now (high .entry)) in
         ⌜ Settled (byPass (passed s)) s
-        (lent (now (table .entry)) (now (plan .entry)) (now (earliest .entry)) (now (latest .entry)) (now (ring .entry))) (replyOf r)
+        (lent (now (table .entry)) (now (plan .entry)) (now (earliest .entry)) (now (latest .entry)) (now (ring .entry))) (fitReply r)
         (lent (now (table .exit)) (now (plan .exit)) (now (earliest .exit)) (now (latest .exit)) (now (ring .exit))) ⌝ }
 {
     let outcome = decide(span, first, last, from, to, low, high, table);
     match outcome {
-        network::Outcome::OutOfRange => Answer::Refused(Refusal {
-            number: 14,
-            line: 0,
-        }),
         network::Outcome::Stopped => {
             let n = find_ring(span, first, last, from, to, low, high, table, ring);
-            Answer::None(n)
+            Fit::None(n)
         }
         network::Outcome::Finished => {
             let w = sheet::boundaries(span);
             fill_plan(w, first, last, table, plan, earliest, latest);
-            Answer::Plan
+            Fit::Fits
         }
     }
 }

@@ -31,11 +31,6 @@ abbrev pub andThen : Verdict → Verdict → Verdict
 andThen (no q n) v = no q n
 andThen allYes v = v
 
--- the number of a verdict: 0 where every answer is yes
-abbrev pub numberOf : Verdict → ℕ
-numberOf (no q n) = q
-numberOf allYes = 0
-
 -- every answer is yes
 abbrev pub AllYes : List Question → Type 0
 AllYes qs = T (every (λ q. q .yes) qs)

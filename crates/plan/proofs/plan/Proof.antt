@@ -1,13 +1,15 @@
--- The questions before the pass decide, or what solving a sheet that passed them leaves.
+-- The questions decide, or what solving a sheet that passed them leaves.
 use borrow.Author.Needs.{needs}
-use mathlib.Core.Path.{_≡_, sym, ap, _∙_}
-use Rattle.questions.specs.Questions.{Verdict, allYes, firstNo, verdictOf}
-use Rattle.sheet.specs.Lists.{Lists, listed}
-use Rattle.plan_ask.specs.Questions.{Rooms, lent}
-use Rattle.plan_ask.specs.Asking.{lengthsOf, askedFirst}
+use mathlib.Core.Path.{_≡_, sym, ap, _∙_, subst}
+use Rattle.questions.specs.Questions.{Verdict, allYes, verdictOf}
+use Rattle.sheet.specs.Lists.{Lists, listed, given}
+use Rattle.plan_ask.specs.Questions.{Rooms, lent, fitsRooms, refusalBy, refusal}
+use Rattle.plan_ask.specs.Asking.{fitLengths}
+use Rattle.plan_ask.specs.SolvableLaws.{asked-yes}
 use Rattle.plan_ask.specs.declared.Lengths.{Lengths}
-use Rattle.plan_solve.specs.Reply.{replyOf}
-use Rattle.plan.specs.EntryLaws.{entry-refused, entry-solvable, entry-solved}
+use Rattle.plan_solve.specs.Planning.{passed, byPass, conclusion, Settled}
+use Rattle.plan_solve.specs.ConclusionLaws.{refused-settled, solved-settled}
+use Rattle.plan_solve.specs.Reply.{Reply, replyOf, fitReply}
 use Rattle.plan.proofs.plan.Statement.{statement}
 use Rattle.plan.proofs.plan.Tie as tie
 
@@ -22,39 +24,49 @@ before c =
     lent (a .table .now) (a .plan .now) (a .earliest .now) (a .latest .now) (a .ring .now)
 
 -- back to the start, from the questions' answer
-abbrev start : tie.After-ask-lists → tie.Start
+abbrev start : tie.After-ask → tie.Start
 start c = c .before .before .before .before .before .before .before .before .before .before .before .before .before .before .before .before .before
 
 -- which is that of the rooms' own lengths
-asked-of : (c : tie.After-ask-lists) (v : Verdict) → verdictOf (c .ask-lists .result) ≡ v
-    → v ≡ firstNo (askedFirst (lists (start c)) (lengthsOf (before (start c))))
+asked-of : (c : tie.After-ask) (v : Verdict) → verdictOf (c .ask .result) ≡ v → refusal (lists (start c)) (before (start c)) ≡ v
 asked-of c v e =
-    sym e ∙ c .ask-lists .ensures ∙ ap (λ (r : Lengths). firstNo (askedFirst (lists (start c)) r)) (c .before .lengths-of .ensures)
+    let l = lists (start c) in
+    let n = c .before .lengths-of in
+    sym (subst (λ (r : Lengths). verdictOf (c .ask .result) ≡ refusalBy l (fitLengths (given l) r)) (n .ensures) (c .ask .ensures)) ∙ e
 
 -- where the answer was yes
-answered : (c : tie.After-enum-told) → let s = start (c .before .before) in allYes ≡ firstNo (askedFirst (lists s) (lengthsOf (before s)))
-answered c = asked-of (c .before .before) allYes (ap verdictOf (c .enum-told .given .1))
+abbrev asked : tie.After-enum-told → tie.Start
+asked c = start (c .before .before)
+
+yes : (c : tie.After-enum-told) → refusal (lists (asked c)) (before (asked c)) ≡ allYes
+yes c = asked-of (c .before .before) allYes (ap verdictOf (c .enum-told .given .1))
 
 solve-requires : tie.Need-solve-requires
 solve-requires c κs =
     let p : tie.After-enum-told = c .before .before .before .before .before in
-    let s = start (p .before .before) in
-    entry-solvable (lists s) (before s) (answered p)
+    let s = asked p in
+    asked-yes (lists s) (fitsRooms (given (lists s)) (before s)) (yes p)
 
 returns : tie.Need-returns
 returns c =
-    let d : tie.After-ask-lists = c .before .before .before in
+    let d : tie.After-ask = c .before .before .before in
     let f = c .before .asked .given in
-    entry-refused (lists (start d)) (before (start d)) (f .0 .0 .number) (f .0 .0 .line) (asked-of d _ (ap verdictOf (f .1)))
+    refused-settled (lists (start d)) (before (start d)) (f .0 .0 .number) (f .0 .0 .line) (asked-of d _ (ap verdictOf (f .1)))
+
+-- what solving leaves, where the reply is what it gave
+solved : (l : Lists) (room after : Rooms) (reply fit : Reply) → refusal l room ≡ allYes → reply ≡ fit
+    → Settled (byPass (passed (given l))) (given l) room fit after → Settled (conclusion l room) (given l) room reply after
+solved l room after reply fit e same h =
+    solved-settled l room e reply after (subst (λ (x : Reply). Settled (byPass (passed (given l))) (given l) room x after) (sym same) h)
 
 returns-2 : tie.Need-returns-2
 returns-2 c =
-    let r = c .before .before .before .before .before .before .before .before .before in
+    let r = c .before .before .before .before .before .before .before .before .before .before in
     let p : tie.After-enum-told = r .before .before .before .before .before .before in
-    let s = start (p .before .before) in
-    entry-solved (lists s) (before s) (answered p) (replyOf (r .solve .result)) _ (r .solve .ensures)
+    let s = asked p in
+    solved (lists s) (before s) _ (replyOf (c .answered .result)) (fitReply (r .solve .result)) (yes p) (c .answered .ensures) (r .solve .ensures)
 
 pub plan-spec : {M : Type 1} → statement M
-plan-spec = tie.close (tie.spec (λ c κs. search needs) (λ c κs. search needs) (λ c. search needs) (λ c. search needs) solve-requires
+plan-spec = tie.close (tie.spec (λ c κs. search needs) (λ c κs. search needs) (λ c. search needs) (λ c. search needs) solve-requires (λ c κs. search needs)
     (λ c. search needs) (λ c. search needs) (λ c. search needs) (λ c. search needs) (λ c. search needs) returns
     (λ c. search needs) (λ c. search needs) (λ c. search needs) (λ c. search needs) (λ c. search needs) returns-2)

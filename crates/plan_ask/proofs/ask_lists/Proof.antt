@@ -1,20 +1,22 @@
 -- Each return is the first no: the questions asked before it were answered yes.
 -- Key idea: past a yes the questions that are left decide (`past-lists`, `past-span`, ..), each from the place just before it.
-use mathlib.Core.Path.{_≡_, sym, ap, _∙_}
+use mathlib.Core.Path.{_≡_, sym, _∙_, subst}
 use mathlib.Core.Bool.{true}
 use mathlib.Core.List.{[]}
-use Prim.Native.Nat.{ℕ, _≤_}
+use Prim.Native.Nat.{ℕ}
 use native.Mathlib.Omega.{arith}
+use lib.Dec.{T}
 use lib.ListN.{length, drop}
 use borrow.Author.Needs.{needs}
 use borrow.Author.Tests.{le-leb, lt-leb}
 use Rattle.questions.specs.Questions.{Verdict, firstNo}
 use Rattle.questions.specs.FirstNoLaws.{no-here, yes-here, every-yes}
-use Rattle.sheet.specs.Sizes.{maxSlots, maxUnits}
+use Rattle.sheet.specs.Sizes.{maxUnits}
+use Rattle.sheet.specs.Questions.{countsFit}
 use Rattle.sheet.specs.QuestionLaws.{Agree}
 use Rattle.sheet.specs.Lists.{Lists, listed, given, agree}
-use Rattle.plan_ask.specs.Asking.{fitLengths, lengthsFit, askedFirst}
-use Rattle.plan_ask.specs.AskingLaws.{lists-read, span-bound, asks-span, asks-units, asks-rules, asks-windows, asks-stretches, asks-counts, asks-rooms}
+use Rattle.plan_ask.specs.Questions.{listQuestions}
+use Rattle.plan_ask.specs.AskingLaws.{lists-read, asks-span, asks-units, asks-rules, asks-windows, asks-stretches, asks-counts}
 use Rattle.plan_ask.proofs.ask_lists.Statement.{statement}
 use Rattle.plan_ask.proofs.ask_lists.Tie as tie
 
@@ -25,7 +27,7 @@ lists c =
 
 -- the first no of the questions past the first k
 abbrev left : ℕ → tie.Start → Verdict
-left k c = firstNo (drop k (askedFirst (lists c) (c .args .rooms)))
+left k c = firstNo (drop k (listQuestions (lists c)))
 
 -- ---- the function's start, from the place past each yes
 abbrev s₁ : tie.Then1 → tie.Start
@@ -37,15 +39,15 @@ s₂ c = s₁ (c .before .before)
 abbrev s₄ : tie.Else4 → tie.Start
 s₄ c = s₂ (c .before .before)
 
-abbrev s₇ : tie.Then7 → tie.Start
-s₇ c = s₄ (c .before .before .before .before .before .before)
+abbrev s₆ : tie.Then6 → tie.Start
+s₆ c = s₄ (c .before .before .before .before)
 
 -- ---- the questions that are left there
 lists-agree : (c : tie.Then1) → agree (lists (s₁ c)) ≡ true
 lists-agree c = sym (c .before .lists-agree .ensures) ∙ c .if1 .taken
 
 agreed : (c : tie.Then1) → let l = lists (s₁ c) in Agree (l .first) (l .last) (l .from) (l .to) (l .low) (l .high)
-agreed c = lists-read (lists (s₁ c)) (lists-agree c)
+agreed c = lists-read (lists (s₁ c)) (subst T (sym (lists-agree c)) tt)
 
 past-lists : (c : tie.Then1) → left 0 (s₁ c) ≡ left 1 (s₁ c)
 past-lists c = yes-here _ 13 0 _ (lists-agree c)
@@ -68,22 +70,10 @@ past-windows c =
     let p = c .before .before in
     past-rules p ∙ yes-here _ 7 0 _ (asks-windows (lists (s₄ p)) ∙ sym (c .before .all-rise .ensures) ∙ c .if5 .taken)
 
-past-stretches : (c : tie.Then6) → let s = s₄ (c .before .before .before .before) in left 0 s ≡ left 6 s
+past-stretches : (c : tie.Then6) → left 0 (s₆ c) ≡ left 6 (s₆ c)
 past-stretches c =
-    let p = c .before .before .before .before in
-    past-windows (c .before .before)
-    ∙ yes-here _ 7 0 _ (asks-stretches (lists (s₄ p)) (agreed (p .before .before .before .before)) ∙ sym (c .before .all-rise2 .ensures) ∙ c .if6 .taken)
-
-past-counts : (c : tie.Then7) → left 0 (s₇ c) ≡ left 7 (s₇ c)
-past-counts c =
-    let p = c .before .before .before .before .before .before in
-    past-stretches (c .before .before)
-    ∙ yes-here _ 8 0 _ (asks-counts (lists (s₇ c)) (agreed (p .before .before .before .before)) ∙ sym (c .before .all-rise3 .ensures) ∙ c .if7 .taken)
-
-span-few : (c : tie.Then7) → lists (s₇ c) .span ≤ maxSlots
-span-few c =
-    let p : tie.Then2 = c .before .before .before .before .before .before .before .before in
-    span-bound (lists (s₂ p)) (sym (p .before .is-span .ensures) ∙ p .if2 .taken)
+    let e = asks-stretches (lists (s₆ c)) (agreed (c .before .before .before .before .before .before .before .before)) in
+    past-windows (c .before .before) ∙ yes-here _ 7 0 _ (e ∙ sym (c .before .all-rise2 .ensures) ∙ c .if6 .taken)
 
 -- ---- the needs
 returns-2 : tie.Need-returns-2
@@ -113,27 +103,15 @@ returns-6 c =
     let e = asks-stretches (lists (s₄ q)) (agreed (q .before .before .before .before)) in
     sym (past-windows p ∙ no-here _ 7 0 _ (e ∙ sym (c .before .all-rise2 .ensures) ∙ c .if6 .left))
 
-returns-7 : tie.Need-returns-7
-returns-7 c =
-    let p : tie.Then6 = c .before .before in
-    let q : tie.Else4 = p .before .before .before .before in
-    let e = asks-counts (lists (s₄ q)) (agreed (q .before .before .before .before)) in
-    sym (past-stretches p ∙ no-here _ 8 0 _ (e ∙ sym (c .before .all-rise3 .ensures) ∙ c .if7 .left))
-
--- the rooms, as they are asked
-rooms-asked : (c : tie.After-rooms-fit) → let s = s₇ (c .before .before) in fitLengths (given (lists s)) (s .args .rooms) ≡ c .rooms-fit .result
-rooms-asked c =
-    let p : tie.Then7 = c .before .before in
-    let s = s₇ p in
-    let b = c .before in
-    asks-rooms (lists s) (agreed (p .before .before .before .before .before .before .before .before .before .before)) (s .args .rooms)
-    ∙ ap (λ (w : ℕ). lengthsFit w (length (lists s .first)) (s .args .rooms)) (sym (b .boundaries .ensures)) ∙ sym (c .rooms-fit .ensures)
+-- the last question, as it is asked
+counts-asked : (c : tie.After-all-rise3) → countsFit (given (lists (s₆ (c .before)))) ≡ c .all-rise3 .result
+counts-asked c =
+    asks-counts (lists (s₆ (c .before))) (agreed (c .before .before .before .before .before .before .before .before .before)) ∙ sym (c .all-rise3 .ensures)
 
 pub ask-lists-spec : {M : Type 1} → statement M
 ask-lists-spec = tie.close (tie.spec (λ c κs. search needs) (λ c. sym (no-here _ 13 0 _ (sym (c .before .lists-agree .ensures) ∙ c .if1 .left)))
     (λ c κs. search needs) returns-2 returns-3 returns-4 (λ c κs. agreed (c .before .before .before .before) .windows) returns-5
     (λ c κs. agreed (c .before .before .before .before .before .before) .stretches) returns-6
-    (λ c κs. let e = agreed (c .before .before .before .before .before .before .before .before) in e .highs ∙ sym (e .lows)) returns-7
-    (λ c κs. span-few c) (λ c κs. omega (arith, c .boundaries .ensures, span-few (c .before)))
-    (λ c. sym (past-counts (c .before .before .before) ∙ yes-here _ 12 0 _ (rooms-asked (c .before) ∙ c .if8 .taken) ∙ every-yes [] tt))
-    (λ c. sym (past-counts (c .before .before .before) ∙ no-here _ 12 0 _ (rooms-asked (c .before) ∙ c .if8 .left))))
+    (λ c κs. let e = agreed (c .before .before .before .before .before .before .before .before) in e .highs ∙ sym (e .lows))
+    (λ c. sym (past-stretches (c .before .before) ∙ yes-here _ 8 0 _ (counts-asked (c .before) ∙ c .if7 .taken) ∙ every-yes [] tt))
+    (λ c. sym (past-stretches (c .before .before) ∙ no-here _ 8 0 _ (counts-asked (c .before) ∙ c .if7 .left))))

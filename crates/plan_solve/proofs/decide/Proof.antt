@@ -1,8 +1,9 @@
--- The table holds the limits, so the pass over it is the pass of the sheet.
+-- The table holds the limits, which are limited weights, so the pass over it is the pass of the sheet.
 use borrow.Author.Needs.{needs}
 use native.Mathlib.Omega.{arith}
 use Rattle.sheet.specs.Lists.{Lists, listed, given}
-use Rattle.plan_solve.specs.DecidingLaws.{span-few, boundaries-counted, filled-room, decided}
+use Rattle.plan_ask.specs.AskingLaws.{span-bound}
+use Rattle.plan_solve.specs.DecidingLaws.{boundaries-counted, filled-room, filled-limited, decided}
 use Rattle.plan_solve.proofs.decide.Statement.{statement}
 use Rattle.plan_solve.proofs.decide.Tie as tie
 
@@ -21,17 +22,18 @@ lists c =
 pass-requires : tie.Need-pass-requires
 pass-requires c κs =
     let st = start (filled c) in
-    let n = boundaries-counted (lists st) _ (st .pre) _ (c .boundaries .ensures) in
+    let n = boundaries-counted (lists st) (st .pre .ok) _ (c .boundaries .ensures) in
     let room = filled-room (given (lists st)) (st .args .table .now) _ _ (n .0) (st .pre .fits) (filled c .fill-limits .ensures) in
-    (omega (arith, n .0), n .1, room)
+    let L = filled-limited (given (lists st)) (st .pre .ok) (st .args .table .now) _ _ (n .0) (filled c .fill-limits .ensures) in
+    (omega (arith, n .0), n .1, room, L)
 
 returns : tie.Need-returns
 returns c =
     let b = c .before .before in
     let st = start (filled b) in
     decided (given (lists st)) (st .args .table .now) _ (c .before .pass .result) (c .before .pass .last .0) _
-    (boundaries-counted (lists st) _ (st .pre) _ (b .boundaries .ensures) .0) (filled b .fill-limits .ensures) (c .before .pass .ensures)
+    (boundaries-counted (lists st) (st .pre .ok) _ (b .boundaries .ensures) .0) (filled b .fill-limits .ensures) (c .before .pass .ensures)
 
 pub decide-spec : {M : Type 1} → statement M
-decide-spec = tie.close (tie.spec (λ c κs. search needs) (λ c κs. let st = start (c .before .before) in span-few (lists st) _ (st .pre))
+decide-spec = tie.close (tie.spec (λ c κs. search needs) (λ c κs. let st = start (c .before .before) in span-bound (lists st) (st .pre .ok))
     pass-requires (λ c. search needs) returns)

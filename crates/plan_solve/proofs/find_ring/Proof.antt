@@ -8,7 +8,8 @@ use Rattle.network.specs.Table.{maxBoundaries}
 use Rattle.sheet.specs.Sizes.{maxCells}
 use Rattle.sheet.specs.Sheet.{boundaries}
 use Rattle.sheet.specs.Lists.{Lists, listed, given}
-use Rattle.plan_solve.specs.DecidingLaws.{span-few, boundaries-counted, filled-room}
+use Rattle.plan_ask.specs.AskingLaws.{span-bound}
+use Rattle.plan_solve.specs.DecidingLaws.{boundaries-counted, filled-room}
 use Rattle.plan_solve.specs.RingLaws.{weighed, no-potential, ring-found}
 use Rattle.plan_solve.proofs.find_ring.Statement.{statement}
 use Rattle.plan_solve.proofs.find_ring.Tie as tie
@@ -26,7 +27,7 @@ lists c =
     listed (a .span) (a .first .now) (a .last .now) (a .from .now) (a .to .now) (a .low .now) (a .high .now)
 
 size : (c : tie.After-boundaries) → (boundaries (given (lists (start c))) ≡ c .boundaries .result) × (c .boundaries .result ≤ maxBoundaries)
-size c = boundaries-counted (lists (start c)) _ (start c .pre .0) _ (c .boundaries .ensures)
+size c = boundaries-counted (lists (start c)) (start c .pre .0 .ok) _ (c .boundaries .ensures)
 
 negative-cycle-requires : tie.Need-negative-cycle-requires
 negative-cycle-requires c κs =
@@ -65,5 +66,5 @@ returns c =
 
 pub find-ring-spec : {M : Type 1} → statement M
 find-ring-spec = tie.close (tie.spec
-    (λ c κs. let st = c .before .before .before .before .before .before .before in span-few (lists st) _ (st .pre .0)) (λ c κs. search needs)
+    (λ c κs. let st = c .before .before .before .before .before .before .before in span-bound (lists st) (st .pre .0 .ok)) (λ c κs. search needs)
     negative-cycle-requires mul-clear clear-requires (λ c. search needs) (λ c. search needs) returns)
