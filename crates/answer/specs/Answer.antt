@@ -4,11 +4,11 @@ use mathlib.Core.Path.{_≡_}
 use mathlib.Core.List.{List}
 use Prim.Native.Nat.{ℕ}
 use lib.Dec.{T}
-use Rattle.network.specs.Table.{Passed, finished, stopped, outOfRange}
+use Rattle.network.specs.Table.{Passed, finished, stopped}
 use Rattle.sheet.specs.Sheet.{Sheet, isRing}
 use Rattle.questions.specs.Questions.{Verdict, no, allYes, firstNo}
 use Rattle.read_ask.specs.Reading.{questions, roomsForAll, sheetIn}
-use Rattle.plan_ask.specs.Questions.{passed}
+use Rattle.plan_solve.specs.Planning.{passed}
 use Rattle.print_bytes.specs.Writing.{Written, refusedLine}
 use Rattle.print.specs.Printing.{planBytes, ringBytes}
 
@@ -16,11 +16,10 @@ use Rattle.print.specs.Printing.{planBytes, ringBytes}
 abbrev pub maxRefusal : ℕ
 maxRefusal = 26
 
--- the answer to a sheet, by the pass over its limits: the page of its plan; the page of a ring, which may be any; or 14, at no line
+-- the answer to a sheet, by the pass over its limits: the page of its plan, or the page of a ring, which may be any
 abbrev pub ByPass : Passed → Sheet → List ℕ → Type 0
 ByPass (finished t) s bytes = bytes ≡ planBytes s
 ByPass stopped s bytes = (ring : List ℕ) × T (isRing s ring) × (bytes ≡ ringBytes s ring)
-ByPass outOfRange s bytes = bytes ≡ refusedLine 14 0
 
 abbrev pub AnswerToSheet : Sheet → List ℕ → Type 0
 AnswerToSheet s bytes = ByPass (passed s) s bytes

@@ -10,7 +10,7 @@ use native.Mathlib.Omega.{arith}
 use lib.Dec.{T}
 use lib.ListN.{length}
 use Rattle.lists.specs.Members.{within-iff}
-use Rattle.network.specs.Table.{Passed, finished, stopped, outOfRange, entry}
+use Rattle.network.specs.Table.{Passed, finished, stopped, entry}
 use Rattle.sheet.specs.Sheet.{Sheet, lawful, boundaries, printedPlan}
 use Rattle.sheet.specs.Questions.{accepted}
 use Rattle.sheet.specs.QuestionLaws.{accepted-valid}
@@ -18,7 +18,7 @@ use Rattle.read_ask.specs.Reading.{questions, roomsForAll, sheetIn}
 use Rattle.questions.specs.Questions.{Verdict, no, allYes, firstNo}
 use Rattle.read_ask.specs.AcceptedLaws.{reading-accepts}
 use Rattle.read_ask.specs.RefusalLaws.{reading-refusals}
-use Rattle.plan_ask.specs.Questions.{passed}
+use Rattle.plan_solve.specs.Planning.{passed}
 use Rattle.plan_solve.specs.PlanningLaws.{passed-solved}
 use Rattle.print_page.specs.Page.{maxPage}
 use Rattle.print_page.specs.PageBounds.{plan-short, none-short}
@@ -42,7 +42,6 @@ bytes-short input bytes = by-reading (verdict input) refl
     by-pass : (p : Passed) → T (accepted (sheetIn input)) → ByPass p (sheetIn input) bytes → length bytes ≤ maxPage
     by-pass (finished t) ok a = omega (arith, ap length a, plan-short (sheetIn input) ok)
     by-pass stopped ok a = omega (arith, ap length (a .2), none-short (sheetIn input) ok (a .0) (a .1))
-    by-pass outOfRange ok a = omega (arith, ap length a, refused-short 14 0 (omega arith) (omega arith))
 
     by-reading : (v : Verdict) → verdict input ≡ v → ByReading v (sheetIn input) bytes → length bytes ≤ maxPage
     by-reading (no n l) e a =
@@ -70,11 +69,10 @@ module _ (input page left : List ℕ) (next : ℕ) (call : Answered (AnswerTo in
   pub answer-short : next ≤ maxPage
   answer-short = omega (arith, call .written .moved, bytes-short input (call .bytes) (call .answers))
 
-  -- ---- how a text that is not refused is answered: by a plan, by a ring, or by 14
+  -- ---- how a text that is not refused is answered: by a plan or by a ring
   data Way : Type 0 where
     plan : PlanPage s (printedPlan s) lines → Way
     none : (ring : List ℕ) → NonePage s ring lines → Way
-    range : lines ≡ refused 14 0 ∷ [] → Way
 
   way : verdict input ≡ allYes → Way
   way e = go (passed s) refl (subst (λ v. ByReading v s (call .bytes)) e (call .answers))
@@ -84,16 +82,14 @@ module _ (input page left : List ℕ) (next : ℕ) (call : Answered (AnswerTo in
           plan (subst (PlanPage s (printedPlan s)) (ap readLines (sym b) ∙ lines-are)
           (plan-page s (entry (boundaries s) t) (passed-solved s (accepted-valid s (reading-accepts input roomsForAll e)) t f)))
       go stopped f b = none (b .0) (subst (NonePage s (b .0)) (ap readLines (sym (b .2)) ∙ lines-are) (none-page s (b .0) (b .1)))
-      go outOfRange f b = range (sym lines-are ∙ ap readLines b ∙ refused-read 14 0)
 
   -- No text is refused by 12, and none by 15.
-  never : (q n : ℕ) → lines ≡ refused q n ∷ [] → (q ≤ 11 → ⊥) → (q ≡ 14 → ⊥) → ⊥
-  never q n f small other = by-reading (verdict input) refl
+  never : (q n : ℕ) → lines ≡ refused q n ∷ [] → (q ≤ 11 → ⊥) → ⊥
+  never q n f small = by-reading (verdict input) refl
     where
       by-way : Way → ⊥
       by-way (plan p) = let e = p .lines in let z : _≡_ {A = ℕ} 0 1 = cc in omega arith
       by-way (none ring p) = let e = p .lines in let z : _≡_ {A = ℕ} 0 1 = cc in omega arith
-      by-way (range e) = other cc
 
       by-reading : (v : Verdict) → verdict input ≡ v → ⊥
       by-reading (no k l) e =
@@ -103,13 +99,13 @@ module _ (input page left : List ℕ) (next : ℕ) (call : Answered (AnswerTo in
       by-reading allYes e = by-way (way e)
 
   pub never-12 : (n : ℕ) → lines ≡ refused 12 n ∷ [] → ⊥
-  never-12 n f = never 12 n f (λ h. omega arith) (λ h. omega arith)
+  never-12 n f = never 12 n f (λ h. omega arith)
 
   pub never-15 : (n : ℕ) → lines ≡ refused 15 n ∷ [] → ⊥
-  never-15 n f = never 15 n f (λ h. omega arith) (λ h. omega arith)
+  never-15 n f = never 15 n f (λ h. omega arith)
 
   -- ---- 2 and 3. A text that is not refused
-  module _ (all-yes : verdict input ≡ allYes) (in-range : lines ≡ refused 14 0 ∷ [] → ⊥) where
+  module _ (all-yes : verdict input ≡ allYes) where
     -- gets the page of a plan exactly when some assignment meets all windows and all rules of the sheet in the text. What the page says, whole, is
     -- `PlanPage`: the plan is lawful, has the seat property, and by the end of each slot no lawful plan has more; each narrowed window and each slot's range.
     pub plan-exactly-when-lawful : ((x : List ℕ) × PlanPage s x lines) ↔ ((x : List ℕ) × T (lawful s x))
@@ -118,7 +114,6 @@ module _ (input page left : List ℕ) (next : ℕ) (call : Answered (AnswerTo in
         go : (x : List ℕ) → T (lawful s x) → Way → (x : List ℕ) × PlanPage s x lines
         go x h (plan p) = (printedPlan s, p)
         go x h (none ring p) = absurd (p .unlawful x h)
-        go x h (range e) = absurd (in-range e)
 
     -- else the page of a ring of the sheet's own limits, whole.
     pub ring-otherwise : ((x : List ℕ) → T (lawful s x) → ⊥) → (ring : List ℕ) × NonePage s ring lines
@@ -127,4 +122,3 @@ module _ (input page left : List ℕ) (next : ℕ) (call : Answered (AnswerTo in
         go : Way → (ring : List ℕ) × NonePage s ring lines
         go (plan p) = absurd (unlawful (printedPlan s) (p .legal))
         go (none ring p) = (ring, p)
-        go (range e) = absurd (in-range e)

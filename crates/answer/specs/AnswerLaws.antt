@@ -4,14 +4,14 @@
 use mathlib.Core.Path.{_≡_, refl, sym, ap, ap₂, _∙_, subst}
 use mathlib.Core.Bool.{true}
 use mathlib.Core.List.{List, [], _∷_}
-use Prim.Native.Nat.{ℕ, _+_, _≤_}
+use Prim.Native.Nat.{ℕ, _+_, _≤_, _<_}
 use native.Mathlib.Omega.{arith}
 use lib.Dec.{T}
 use lib.ListN.{length, take, drop, length-append}
 use lib.Seq.{take-at}
 use borrow.Author.Tests.{le-leb}
 use Rattle.lists.specs.Members.{within-iff}
-use Rattle.network.specs.Table.{Passed, finished, stopped, outOfRange}
+use Rattle.network.specs.Table.{Passed, finished, stopped}
 use Rattle.sheet.specs.Sheet.{Sheet, isRing}
 use Rattle.sheet.specs.declared.Sheet.{Sheet as Read}
 use Rattle.questions.specs.Questions.{Verdict, no, allYes, firstNo}
@@ -21,15 +21,15 @@ use Rattle.read_ask.specs.AcceptedLaws.{reading-accepts}
 use Rattle.read_ask.specs.RefusalLaws.{reading-refusals}
 use Rattle.read.specs.Rooms.{sizesOf, leaves, roomsAfter}
 use Rattle.sheet.specs.Lists.{Lists, given}
-use Rattle.plan_ask.specs.Questions.{Rooms as Lent, passed}
-use Rattle.plan_solve.specs.Planning.{byPass, Settled}
+use Rattle.plan_ask.specs.Questions.{Rooms as Lent, fitsRooms}
+use Rattle.plan_solve.specs.Planning.{passed, byPass, Settled}
 use Rattle.plan_ask.specs.Asking.{Solvable}
-use Rattle.plan.specs.EntryLaws.{concludes-solvable}
+use Rattle.plan_solve.specs.ConclusionLaws.{concludes-solvable}
 use Rattle.plan_solve.specs.Reply as planning
 use Rattle.forms.specs.Words.{text}
 use Rattle.forms.specs.Forms.{refusedForm}
 use Rattle.forms.specs.DecimalLaws.{line-short}
-use Rattle.print_bytes.specs.Writing.{withBytes, Written, refusedLine}
+use Rattle.print_bytes.specs.Writing.{withBytes, refusedLine}
 use Rattle.print_page.specs.Page.{maxPage}
 use Rattle.print_page.specs.PageBounds.{plan-short, none-short}
 use Rattle.print.specs.Printing.{planBytes, ringBytes, holds, Asked, Shown, Printing}
@@ -40,17 +40,17 @@ use Rattle.answer.specs.Fronts.{fronts, Held}
 use Rattle.answer.specs.FrontsLaws.{held, front-sheet}
 
 -- ---- the line of a refusal is short
-pub refused-short : (number line : ℕ) → number ≤ 14 → line ≤ maxBytes → length (refusedLine number line) ≤ maxRefusal
+pub refused-short : (number line : ℕ) → number < 100 → line ≤ maxBytes → length (refusedLine number line) ≤ maxRefusal
 unfolding refusedLine text
 refused-short number line hn hl = line-short refusedForm (number ∷ line ∷ []) (2 ∷ 5 ∷ []) (omega arith, (omega arith, tt))
 
 -- ---- the rooms that a call lends for planning hold every accepted sheet
-pub held-solvable : (t : Read) (m : ListRooms (List ℕ)) → Held t m → Solvable (fronts t m) ownRooms
+pub held-solvable : (t : Read) (m : ListRooms (List ℕ)) → Held t m → Solvable (fronts t m) (fitsRooms (given (fronts t m)) ownRooms)
 held-solvable t m h = record { lists = h .lists; sheet = h .sheet; rooms = own-fit (given (fronts t m)) (h .sheet) }
 
--- ---- what printing a sheet comes to, where every question before the pass is answered yes and the page is long enough
+-- ---- what printing a sheet comes to, where every question is answered yes and the page is long enough
 
-module _ (l : Lists) (before : Lent) (y : Solvable l before) (page : List ℕ) (long : maxPage ≤ length page)
+module _ (l : Lists) (before : Lent) (y : Solvable l (fitsRooms (given l) before)) (page : List ℕ) (long : maxPage ≤ length page)
     (reply : says.Reply) (after : Lent) (left : List ℕ) (call : Printing l before page 0 reply after left) where
   abbrev s : Sheet
   s = given l
@@ -59,7 +59,6 @@ module _ (l : Lists) (before : Lent) (y : Solvable l before) (page : List ℕ) (
   Ended (finished t) = (reply ≡ says.plan (0 + length (planBytes s))) × (left ≡ withBytes page 0 (planBytes s))
   Ended stopped =
       (ring : List ℕ) × T (isRing s ring) × (reply ≡ says.none (length ring) (0 + length (ringBytes s ring))) × (left ≡ withBytes page 0 (ringBytes s ring))
-  Ended outOfRange = (reply ≡ says.refused 14 0) × (left ≡ page)
 
   page-holds : (told : ℕ → says.Reply) (bytes : List ℕ) (planned : Lent) → length bytes ≤ maxPage
       → Asked (holds page 0 bytes) told bytes before planned page 0 reply after left → (reply ≡ told (0 + length bytes)) × (left ≡ withBytes page 0 bytes)
@@ -80,29 +79,21 @@ module _ (l : Lists) (before : Lent) (y : Solvable l before) (page : List ℕ) (
       let p = page-holds (says.none (length ring)) (ringBytes s ring) planned (none-short s (y .sheet) ring (c .1))
       (subst (λ r. Asked (holds page 0 (ringBytes s r)) (says.none (length ring)) (ringBytes s r) before planned page 0 reply after left) found shown) in
       (ring, c .1, p .0, p .1)
-  ended outOfRange a planned c o =
-      let shown = subst (λ x. Shown x s before planned page 0 reply after left) (c .0) o in
-      (shown .replied, shown .shown)
 
   ends : Ended (passed s)
   ends =
       ended (passed s) (call .answer) (call .planned)
-      (subst (λ v. Settled v s before (call .answer) (call .planned)) (concludes-solvable l before y) (call .call)) (call .shown)
+      (subst (λ v. Settled v s before (call .answer) (call .planned)) (concludes-solvable l (fitsRooms s before) y) (call .call)) (call .shown)
 
-  -- a refusal is by 14, leaves the page, and its line is the answer
-  pub print-refused : (q n : ℕ) → reply ≡ says.refused q n → (q ≡ 14) × (n ≡ 0) × (left ≡ page) × AnswerToSheet s (refusedLine q n)
+  -- nothing refuses it,
+  pub print-refused : (q n : ℕ) → reply ≡ says.refused q n → ⊥
   print-refused q n e = go (passed s) ends
     where
-      go : (p : Passed) → Ended p → (q ≡ 14) × (n ≡ 0) × (left ≡ page) × ByPass p s (refusedLine q n)
-      go (finished t) h = let f : reply ≡ says.plan (0 + length (planBytes s)) = h .0 in let z : _≡_ {A = ℕ} 0 1 = cc in absurd (omega arith)
-      go stopped h = let f : reply ≡ says.none (length (h .0)) (0 + length (ringBytes s (h .0))) = h .2 in let z : _≡_ {A = ℕ} 0 1 = cc in absurd (omega arith)
-      go outOfRange h =
-          let f : reply ≡ says.refused 14 0 = h .0 in
-          let number : q ≡ 14 = cc in
-          let line : n ≡ 0 = cc in
-          (number, line, h .1, ap₂ refusedLine number line)
+      go : (p : Passed) → Ended p → ⊥
+      go (finished t) h = let f : reply ≡ says.plan (0 + length (planBytes s)) = h .0 in let z : _≡_ {A = ℕ} 0 1 = cc in omega arith
+      go stopped h = let f : reply ≡ says.none (length (h .0)) (0 + length (ringBytes s (h .0))) = h .2 in let z : _≡_ {A = ℕ} 0 1 = cc in omega arith
 
-  -- else it says the place just past the answer
+  -- so it says the place just past the answer
   pub print-plan : (next : ℕ) → reply ≡ says.plan next → Answered (AnswerToSheet s) page left next
   print-plan next e = go (passed s) ends
     where
@@ -111,7 +102,6 @@ module _ (l : Lists) (before : Lent) (y : Solvable l before) (page : List ℕ) (
           let f : reply ≡ says.plan (0 + length (planBytes s)) = h .0 in
           record { bytes = planBytes s; answers = refl; written = record { filled = h .1; moved = cc } }
       go stopped h = let f : reply ≡ says.none (length (h .0)) (0 + length (ringBytes s (h .0))) = h .2 in let z : _≡_ {A = ℕ} 0 1 = cc in absurd (omega arith)
-      go outOfRange h = let f : reply ≡ says.refused 14 0 = h .0 in let z : _≡_ {A = ℕ} 0 1 = cc in absurd (omega arith)
 
   pub print-none : (k next : ℕ) → reply ≡ says.none k next → Answered (AnswerToSheet s) page left next
   print-none k next e = go (passed s) ends
@@ -121,13 +111,6 @@ module _ (l : Lists) (before : Lent) (y : Solvable l before) (page : List ℕ) (
       go stopped h =
           let f : reply ≡ says.none (length (h .0)) (0 + length (ringBytes s (h .0))) = h .2 in
           record { bytes = ringBytes s (h .0); answers = (h .0, h .1, refl); written = record { filled = h .3; moved = cc } }
-      go outOfRange h = let f : reply ≡ says.refused 14 0 = h .0 in let z : _≡_ {A = ℕ} 0 1 = cc in absurd (omega arith)
-
--- the refusal's line, onto the page that printing left
-pub refusal-answered : {Answer : List ℕ → Type 0} {page left after : List ℕ} {next : ℕ} (bytes : List ℕ) → Answer bytes → left ≡ page
-    → Written left 0 bytes after next → Answered Answer page after next
-refusal-answered {Answer} {page} {left} {after} {next} bytes a e w =
-    record { bytes = bytes; answers = a; written = subst (λ p. Written p 0 bytes after next) e w }
 
 -- ---- what reading comes to, with rooms for every sheet
 module _ (input : List ℕ) (m : ListRooms (List ℕ)) (sizes : sizesOf m ≡ roomsForAll) where
@@ -146,7 +129,7 @@ module _ (input : List ℕ) (m : ListRooms (List ℕ)) (sizes : sizesOf m ≡ ro
         go (no q n) f = let a : q ≡ number = cc in let b : n ≡ line = cc in ap₂ no a b
         go allYes f = let z : _≡_ {A = ℕ} 0 1 = cc in absurd (omega arith)
 
-    pub refused-small : (number ≤ 14) × (line ≤ maxBytes)
+    pub refused-small : (number < 100) × (line ≤ maxBytes)
     refused-small =
         let r = reading-refusals input number line first-no in
         let b = within-iff 1 11 number .0 (r .number-known) in

@@ -1,4 +1,4 @@
-ghost use Prim.Native.Nat.{_≤_};
+ghost use Prim.Native.Nat.{_≤_, _<_};
 ghost use Rattle.sheet.specs.Sizes.{maxBytes};
 ghost use Rattle.read_ask.specs.Reading.{rooms};
 ghost use Rattle.sheet.specs.Lists.{given};
@@ -15,7 +15,7 @@ const MAX_REFUSAL: usize = 26;
 
 // The line of a refusal, from the first place of the page on.
 fn refuse(page: &mut [u8; MAX_PAGE], number: usize, line: usize) -> usize
-    requires { ⌜ (number ≤ 14) × (line ≤ maxBytes) ⌝ }
+    requires { ⌜ (number < 100) × (line ≤ maxBytes) ⌝ }
     ensures { λ r. ⌜ Written (now (page .entry)) 0 (refusedLine number line) (now (page .exit)) r ⌝ }
 {
     let mut own = [0u8; MAX_REFUSAL];

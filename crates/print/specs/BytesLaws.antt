@@ -25,7 +25,8 @@ use Rattle.limits.specs.LimitTable.{limitTable}
 use Rattle.limits.specs.LimitTableLaws.{limit-small}
 use Rattle.plans.specs.PrintedLaws.{some-printed}
 use Rattle.plans.specs.CountLaws.{greatest-entry, least-entry}
-use Rattle.plan_ask.specs.Questions.{places, passed}
+use Rattle.plan_ask.specs.Questions.{places}
+use Rattle.plan_solve.specs.Planning.{passed}
 use Rattle.plan_solve.specs.PlanningLaws.{passed-solved}
 use Rattle.print_page.specs.Page.{Printable, tablePage, leastFrom, greatestFrom, RingFits, nonePage, maxPage, maxRingPage}
 use Rattle.print_page.specs.PageLaws.{SameSlots, planPage-same, nonePage-same}

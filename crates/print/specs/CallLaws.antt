@@ -1,6 +1,6 @@
 -- From planning in arrays of the call's own to what the call leaves.
 -- Key idea: the own arrays say how the pass over the sheet's limits ended, and that alone decides what planning would reply and leave in the rooms lent.
-use mathlib.Core.Path.{_≡_, refl, sym, ap, ap₂, _∙_, subst}
+use mathlib.Core.Path.{_≡_, refl, sym, ap, _∙_, subst}
 use mathlib.Core.Bool.{Bool, true, false}
 use mathlib.Core.List.{List, []}
 use Prim.Native.Nat.{ℕ, _*_, _≤_}
@@ -9,17 +9,16 @@ use lib.Dec.{T}
 use lib.ListN.{length, take, drop}
 use lib.Seq.{take-at}
 use lib.IntN.{ℤ}
-use Rattle.network.specs.Table.{Passed, finished, stopped, outOfRange, cleared, entry}
+use Rattle.network.specs.Table.{Passed, finished, stopped, cleared, entry}
 use Rattle.sheet.specs.Sizes.{boundariesOf}
-use Rattle.questions.specs.Questions.{no, allYes, firstNo}
+use Rattle.questions.specs.Questions.{no, allYes}
 use Rattle.sheet.specs.Sheet.{Sheet, printedPlan, earliestSlots, latestSlots, isRing}
 use Rattle.limits.specs.LimitTable.{limitTable}
 use Rattle.sheet.specs.Questions.{accepted}
-use Rattle.plan.specs.EntryLaws.{entry-refused, entry-solved}
-use Rattle.plan_ask.specs.Asking.{lengthsOf, askedFirst}
 use Rattle.sheet.specs.Lists.{Lists, given}
-use Rattle.plan_ask.specs.Questions.{Rooms, lent, places, passed}
-use Rattle.plan_solve.specs.Planning.{planned, ringed, refused, byPass, Settled}
+use Rattle.plan_ask.specs.Questions.{Rooms, lent, places, refusal}
+use Rattle.plan_solve.specs.Planning.{passed, planned, ringed, byPass, Settled}
+use Rattle.plan_solve.specs.ConclusionLaws.{refused-settled, solved-settled}
 use Rattle.plan_solve.specs.Reply as planning
 use Rattle.print_page.specs.Page.{tablePage, nonePage}
 use Rattle.print.specs.Printing.{ringBytes, holds, Asked, PrintingOf, Printing}
@@ -33,21 +32,12 @@ differ : {a b : planning.Reply} → a ≡ b → {A : Type 0} → ((a ≡ b) → 
 differ e f = absurd (let z = f e in omega arith)
 
 module _ (s : Sheet) (own after : Rooms) where
-  pub refused-left : (q n : ℕ) → Settled (byPass (passed s)) s own (planning.refused q n) after → (q ≡ 14) × (n ≡ 0) × (passed s ≡ outOfRange)
-  refused-left q n = go (passed s)
-    where
-      go : (p : Passed) → Settled (byPass p) s own (planning.refused q n) after → (q ≡ 14) × (n ≡ 0) × (p ≡ outOfRange)
-      go (finished t) h = differ (h .0) (λ e. cc)
-      go stopped h = differ (h .2) (λ e. cc)
-      go outOfRange h = let e : planning.refused q n ≡ planning.refused 14 0 = h .0 in (cc, cc, refl)
-
   pub plan-left : Settled (byPass (passed s)) s own planning.plan after → (t : List ℤ) × (passed s ≡ finished t) × (after ≡ planned s t own)
   plan-left = go (passed s)
     where
       go : (p : Passed) → Settled (byPass p) s own planning.plan after → (t : List ℤ) × (p ≡ finished t) × (after ≡ planned s t own)
       go (finished t) h = (t, refl, h .1)
       go stopped h = differ (h .2) (λ e. cc)
-      go outOfRange h = differ (h .0) (λ e. cc)
 
   pub none-left : (k : ℕ) → Settled (byPass (passed s)) s own (planning.none k) after
       → (c : List ℕ) × T (isRing s c) × (k ≡ length c) × (passed s ≡ stopped) × (after ≡ ringed s c own)
@@ -57,7 +47,6 @@ module _ (s : Sheet) (own after : Rooms) where
           → (c : List ℕ) × T (isRing s c) × (k ≡ length c) × (p ≡ stopped) × (after ≡ ringed s c own)
       go (finished t) h = differ (h .0) (λ e. cc)
       go stopped h = let e : planning.none k ≡ planning.none (length (h .0)) = h .2 in (h .0, h .1, cc, refl, h .3)
-      go outOfRange h = differ (h .0) (λ e. cc)
 
 -- ---- rooms that a part of the call does not see
 with-ring : (b : Bool) (told : ℕ → says.Reply) (bytes : List ℕ) (t t₁ t₂ : List ℤ) (p p₁ p₂ e e₁ e₂ l l₁ l₂ ring page : List ℕ) (at : ℕ)
@@ -81,20 +70,6 @@ with-plan false told bytes t t₁ t₂ p e l r r₁ r₂ page at reply left o =
 module _ (s : Sheet) (ok : T (accepted s)) (table : List ℤ) (plan earliest latest ring page : List ℕ) (at : ℕ) where
   abbrev before : Rooms
   before = lent table plan earliest latest ring
-
-  -- a sum out of range: 14
-  pub range-printed : (q n : ℕ) (table′ : List ℤ) (w : ℕ) → w ≡ boundariesOf (s .span) → (q ≡ 14) × (n ≡ 0) × (passed s ≡ outOfRange)
-      → table′ ≡ cleared (w * w) table → PrintingOf (byPass (passed s)) s before page at (says.refused q n) (lent table′ plan earliest latest ring) page
-  range-printed q n table′ w e h c = record {
-    answer = planning.refused 14 0;
-    planned = refused s 14 before;
-    call = subst (λ p. Settled (byPass p) s before (planning.refused 14 0) (refused s 14 before)) (sym (h .2)) (refl, refl);
-    shown = record {
-      replied = ap₂ says.refused (h .0) (h .1);
-      lent = ap (λ t. lent t plan earliest latest ring) (c ∙ ap (λ k. cleared (k * k) table) (e ∙ sym (boundaries-span s ok)));
-      shown = refl;
-    };
-  }
 
   module _ (reply : says.Reply) (left : List ℕ) where
     -- a plan
@@ -148,23 +123,23 @@ module _ (s : Sheet) (ok : T (accepted s)) (table : List ℤ) (plan earliest lat
               page at reply left o));
         }
 
--- ---- the questions before the pass
+-- ---- the questions
 module _ (l : Lists) (before : Rooms) (page : List ℕ) (at : ℕ) where
   -- one of them is answered no: nothing is changed
-  pub refused-printed : (q n : ℕ) → no q n ≡ firstNo (askedFirst l (lengthsOf before)) → Printing l before page at (says.refused q n) before page
-  refused-printed q n h = record {
+  pub refused-printed : (q n : ℕ) → refusal l before ≡ no q n → Printing l before page at (says.refused q n) before page
+  refused-printed q n e = record {
     answer = planning.refused q n;
     planned = before;
-    call = entry-refused l before q n h;
+    call = refused-settled l before q n e;
     shown = record { replied = refl; lent = refl; shown = refl };
   }
 
   -- all are answered yes: the pass decides
-  pub solved-printed : allYes ≡ firstNo (askedFirst l (lengthsOf before)) → (reply : says.Reply) (after : Rooms) (left : List ℕ)
+  pub solved-printed : refusal l before ≡ allYes → (reply : says.Reply) (after : Rooms) (left : List ℕ)
       → PrintingOf (byPass (passed (given l))) (given l) before page at reply after left → Printing l before page at reply after left
-  solved-printed h reply after left p = record {
+  solved-printed e reply after left p = record {
     answer = p .answer;
     planned = p .planned;
-    call = entry-solved l before h (p .answer) (p .planned) (p .call);
+    call = solved-settled l before e (p .answer) (p .planned) (p .call);
     shown = p .shown;
   }

@@ -1,7 +1,7 @@
 -- Planning in arrays of the call's own, part by part: what each function of the call is asked, and what the call leaves.
 -- Key idea: the arrays hold every accepted sheet, and the front of each is exactly what the sheet's definitions name.
 use mathlib.Core.Path.{_≡_, sym, ap, _∙_, subst}
-use mathlib.Core.Bool.{_&&_}
+use mathlib.Core.Bool.{Bool, _&&_}
 use mathlib.Core.List.{List, [], _++_}
 use Prim.Native.Nat.{ℕ, _+_, _*_, _≤_}
 use native.Mathlib.Omega.{arith}
@@ -12,16 +12,16 @@ use lib.Seq.{take-at}
 use lib.IntN.{ℤ, pos}
 use Rattle.lists.specs.Members.{both}
 use Rattle.network.specs.Table.{finished, stopped, cleared, entry, maxBoundaries}
-use Rattle.sheet.specs.Sizes.{maxSlots, maxUnits, maxCells, boundariesOf}
+use Rattle.sheet.specs.Sizes.{maxUnits, maxCells, boundariesOf}
 use Rattle.sheet.specs.Sheet.{Sheet, top, boundaries, printedPlan, earliestSlots, latestSlots, isRing}
 use Rattle.limits.specs.LimitTable.{limitTable, Fillable}
 use Rattle.sheet.specs.Questions.{accepted, sheetOf}
-use Rattle.sheet.specs.QuestionLaws.{accepted-sized, listsAgree-read}
+use Rattle.sheet.specs.QuestionLaws.{accepted-sized}
 use Rattle.sheet.specs.Lists.{Lists, given}
-use Rattle.plan_ask.specs.Questions.{Rooms, lent, places, roomsFit, passed}
-use Rattle.plan_solve.specs.Planning.{byPass, Settled}
+use Rattle.plan_ask.specs.Questions.{Rooms, lent, places, roomsFit, fitsRooms}
+use Rattle.plan_solve.specs.Planning.{passed, byPass, Settled}
 use Rattle.plan_ask.specs.Asking.{Solvable}
-use Rattle.plan_ask.specs.AskingLaws.{units-length}
+use Rattle.plan_ask.specs.AskingLaws.{lists-read, span-bound, units-length}
 use Rattle.plan_solve.specs.SolvingLaws.{RoomsHold, rooms-hold}
 use Rattle.plan_solve.specs.Reply as planning
 use Rattle.print_page.specs.PageBounds.{ring-read}
@@ -29,7 +29,7 @@ use Rattle.print_page.specs.Page.{Printable, tablePage, RingFits, nonePage, max
 use Rattle.print.specs.Printing.{holds, Asked, PrintingOf}
 use Rattle.lists.specs.Lists.{onFront}
 use Rattle.print.specs.BytesLaws.{places-span, table-size, seats-size, firsts-size, lasts-size, plan-printable, plan-fits, ring-printable, ring-fits}
-use Rattle.print.specs.CallLaws.{refused-left, plan-left, none-left, range-printed, plan-printed, ring-printed}
+use Rattle.print.specs.CallLaws.{plan-left, none-left, plan-printed, ring-printed}
 use Rattle.print.specs.Reply as says
 
 -- the arrays as the call makes them
@@ -50,8 +50,8 @@ own-fit s ok =
     (both (leb n maxUnits) (leb n maxUnits && leb (boundaries s) maxBoundaries) units
     (both (leb n maxUnits) (leb (boundaries s) maxBoundaries) units (le→leb (boundaries s) maxBoundaries w))))
 
-pub own-solvable : (l : Lists) (before : Rooms) → Solvable l before → Solvable l ownRooms
-own-solvable l before S = record { lists = S .lists; sheet = S .sheet; rooms = own-fit (given l) (S .sheet) }
+pub own-solvable : (l : Lists) (fit : Bool) → Solvable l fit → Solvable l (fitsRooms (given l) ownRooms)
+own-solvable l fit S = record { lists = S .lists; sheet = S .sheet; rooms = own-fit (given l) (S .sheet) }
 
 -- a list is the front of a room
 pub record Front {A : Type 0} (n : ℕ) (xs room : List A) : Type 0 where
@@ -68,12 +68,8 @@ pub record PlanFronts (s : Sheet) (w n : ℕ) (t : List ℤ) (after : Rooms) : T
   pub firsts : Front n (earliestSlots s) (after .earliest)
   pub lasts : Front n (latestSlots s) (after .latest)
 
-pub span-few : (l : Lists) (before : Rooms) → Solvable l before → l .span ≤ maxSlots
-unfolding sheetOf
-span-few l before S = accepted-sized (given l) (S .sheet) .slots .1
-
 -- w is the number of boundaries, as the code has it
-module _ (l : Lists) (before : Rooms) (S : Solvable l before) (w : ℕ) (w-is : w ≡ boundariesOf (l .span)) where
+module _ (l : Lists) (before : Rooms) (S : Solvable l (fitsRooms (given l) before)) (w : ℕ) (w-is : w ≡ boundariesOf (l .span)) where
   abbrev s : Sheet
   s = given l
 
@@ -86,27 +82,20 @@ module _ (l : Lists) (before : Rooms) (S : Solvable l before) (w : ℕ) (w-is : 
   cells-are = places-span s (S .sheet) ∙ ap (λ k. k * k) (sym w-of)
 
   pub cells-few : w * w ≤ maxCells
-  cells-few = let h : w ≤ maxBoundaries = omega (arith, span-few l before S) in mul-le-mul h h
+  cells-few = let h : w ≤ maxBoundaries = omega (arith, span-bound l (S .sheet)) in mul-le-mul h h
 
   pub units-are : length (s .units) ≡ length (l .first)
-  units-are = units-length l (listsAgree-read (l .first) (l .last) (l .from) (l .to) (l .low) (l .high) (S .lists))
+  units-are = units-length l (lists-read l (S .lists))
 
   lends : RoomsHold s before
   lends = rooms-hold s before (S .rooms)
 
-  pub cells-lent : w * w ≤ length (before .table)
+  cells-lent : w * w ≤ length (before .table)
   cells-lent = omega (arith, lends .table, cells-are)
 
   module _ (own after : Rooms) (reply : planning.Reply) (ends : Settled (byPass (passed s)) s own reply after) where
     abbrev Settled-as : planning.Reply → Type 0
     Settled-as r = Settled (byPass (passed s)) s own r after
-
-    -- ---- a sum out of range
-    pub refused-own : (q n : ℕ) → reply ≡ planning.refused q n → (table : List ℤ) → table ≡ cleared (w * w) (before .table) → (page : List ℕ) (at : ℕ)
-        → PrintingOf (byPass (passed s)) s before page at (says.refused q n) (lent table (before .plan) (before .earliest) (before .latest) (before .ring)) page
-    refused-own q n e table c page at =
-        range-printed s (S .sheet) (before .table) (before .plan) (before .earliest) (before .latest) (before .ring) page at q n table w
-        w-of (refused-left s own after q n (subst Settled-as e ends)) c
 
     -- ---- a plan
     pub plan-own : reply ≡ planning.plan → (t : List ℤ) × (passed s ≡ finished t) × PlanFronts s w (length (l .first)) t after

@@ -7,7 +7,7 @@ use mathlib.Core.Bool.{Bool, true, false}
 use mathlib.Core.List.{List}
 use Prim.Native.Nat.{ℕ, _+_, _≤_, _<_}
 use native.Mathlib.Omega.{arith}
-use lib.Dec.{T, eqb}
+use lib.Dec.{T}
 use lib.ListN.{length, take}
 use lib.IntN.{ℤ, pos, negℤ}
 use lib.Signed.{_≤ℤ_}
@@ -17,9 +17,9 @@ use Rattle.questions.specs.Questions.{no, allYes}
 use Rattle.slots.specs.Slots.{Boundary, slotBefore, slotAfter}
 use Rattle.sheet.specs.Sheet.{Sheet, top, boundaries, lawful, countIn, printedPlan}
 use Rattle.sheet.specs.Lists.{Lists, given}
-use Rattle.plan_ask.specs.Questions.{Rooms, refusal}
+use Rattle.plan_ask.specs.Questions.{Rooms, fitsRooms, refusal}
+use Rattle.plan_ask.specs.SolvableLaws.{asked-yes}
 use Rattle.plan_solve.specs.Planning.{conclusion, Settled}
-use Rattle.plan_solve.specs.PlanningLaws.{no-refusal}
 use Rattle.plan_solve.specs.Reply as planning
 use Rattle.plan.specs.ConditionLaws.{call-planned}
 use Rattle.plan.specs.Conditions as plans
@@ -81,12 +81,14 @@ module _ (l : Lists) (before : Rooms) (page : List ℕ) (at : ℕ) (reply : says
       go (planning.refused q n) e o = refused q n e (o .replied) (o .lent) (o .shown)
       go planning.plan e o =
           let y = sym first-no ∙ ap planning.refusalOf e in
-          asked says.plan (planBytes s) y (plan-short s (no-refusal l before y .sheet)) (plan e) (holds page at (planBytes s)) refl o
+          let ok = asked-yes l (fitsRooms s before) y .sheet in
+          asked says.plan (planBytes s) y (plan-short s ok) (plan e) (holds page at (planBytes s)) refl o
       go (planning.none k) e o =
           let y = sym first-no ∙ ap planning.refusalOf e in
+          let ok = asked-yes l (fitsRooms s before) y .sheet in
           let ring = take k (call .planned .ring) in
           let closed = plans.ring-at l before (call .answer) (call .planned) (call .call) k e in
-          asked (says.none k) (ringBytes s ring) y (none-short s (no-refusal l before y .sheet) ring closed) (none k e) (holds page at (ringBytes s ring)) refl o
+          asked (says.none k) (ringBytes s ring) y (none-short s ok ring closed) (none k e) (holds page at (ringBytes s ring)) refl o
 
   -- ---- 1. Ground. (That a call ends and does nothing undefined is what the checker asks of every function; `print` has no `requires`.)
 
@@ -107,18 +109,17 @@ module _ (l : Lists) (before : Rooms) (page : List ℕ) (at : ℕ) (reply : says
   pub number-is-first-no : (refusalOf reply ≡ refusal l before) ⊎ ((refusal l before ≡ allYes) × (reply ≡ says.refused 15 0))
   number-is-first-no = ⊎-elim inl (λ f. inr (f .0, f .1)) refused-so
 
-  -- A refusal, by planning's questions or by 15, changes no byte of the page and no place lent, save the table by 14; it has no place, so the running place stays.
-  pub refused-changes-nothing : (q m : ℕ) → reply ≡ says.refused q m → (left ≡ page) × (eqb q 14 ≡ false → after ≡ before)
+  -- A refusal, by planning's questions or by 15, changes no byte of the page and no place lent; it has no place, so the running place stays.
+  pub refused-changes-nothing : (q m : ℕ) → reply ≡ says.refused q m → (left ≡ page) × (after ≡ before)
   refused-changes-nothing q m f = go way
     where
-      go : Way → (left ≡ page) × (eqb q 14 ≡ false → after ≡ before)
+      go : Way → (left ≡ page) × (after ≡ before)
       go (refused q′ m′ a r e p) =
-          let same : q ≡ q′ = cc in
           let first : refusal l before ≡ no q′ m′ = sym first-no ∙ ap planning.refusalOf a in
-          (p, λ other. e ∙ plans.refused-changes-nothing l before (call .answer) (call .planned) (call .call) q′ m′ first (ap (λ k. eqb k 14) (sym same) ∙ other))
+          (p, e ∙ plans.refused-changes-nothing l before (call .answer) (call .planned) (call .call) q′ m′ first)
       go (plan a h) = let r = h .replied in let z : _≡_ {A = ℕ} 0 1 = cc in absurd (omega arith)
       go (none k a h) = let r = h .replied in let z : _≡_ {A = ℕ} 0 1 = cc in absurd (omega arith)
-      go (full y short r e p) = (p, λ other. e)
+      go (full y short r e p) = (p, e)
 
   -- A page with maxPage places from its running place on is never refused by 15.
   pub long-page : at + maxPage ≤ length page → refusalOf reply ≡ refusal l before

@@ -5,14 +5,15 @@ ghost use lib.Dec.{leb};
 ghost use lib.ListN.{length, drop};
 ghost use Rattle.network.specs.Table.{entry, cleared};
 ghost use Rattle.sheet.specs.Questions.{sheetOf};
-ghost use Rattle.sheet.specs.Lists.{listed};
-ghost use Rattle.plan_ask.specs.Questions.{lent, passed};
+ghost use Rattle.sheet.specs.Lists.{listed, given};
+ghost use Rattle.plan_ask.specs.Questions.{lent, fitsRooms};
 ghost use Rattle.plan_ask.specs.Asking.{Solvable};
-ghost use Rattle.plan_solve.specs.Planning.{byPass};
+ghost use Rattle.plan_solve.specs.Planning.{passed, byPass};
 ghost use Rattle.print_page.specs.Page.{Printable, tablePage, RingFits, nonePage, maxPage, maxRingPage};
 ghost use Rattle.print.specs.Printing.{holds as holdsAnswer, Asked, PrintingOf, Printing};
 ghost use Rattle.print.specs.Reply as says;
 ghost use Rattle.lists.specs.Lists.{onFront};
+use plan_solve::Fit;
 use print_page::MAX_PAGE;
 use print_page::MAX_RING_PAGE;
 use questions::Checked;
@@ -137,7 +138,7 @@ fn print_ring(
     }
 }
 
-// A sheet of which every question before the pass is answered yes. It is planned in arrays of this call's own: a refusal by 15 changes nothing.
+// A sheet of which every question of planning is answered yes. It is planned in arrays of this call's own: a refusal by 15 changes nothing.
 fn print_solved(
     span: usize,
     first: &[u16],
@@ -154,8 +155,8 @@ fn print_solved(
     page: &mut [u8],
     at: usize,
 ) -> Printed
-    requires { ⌜ Solvable (listed span (now first) (now last) (now from) (now to) (now low) (now high))
-        (lent (now table) (now plan) (now earliest) (now latest) (now ring)) ⌝ }
+    requires { let l = listed span (now first) (now last) (now from) (now to) (now low) (now high) in
+        ⌜ Solvable l (fitsRooms (given l) (lent (now table) (now plan) (now earliest) (now latest) (now ring))) ⌝ }
     ensures { λ r.
         let s = sheetOf span (now (first .entry)) (now (last .entry)) (now (from .entry)) (now (to .entry)) (now (low .entry)) (now (high .entry)) in
         ⌜ PrintingOf (byPass (passed s)) s
@@ -167,7 +168,7 @@ fn print_solved(
     let mut firsts = [0u16; Sheet::MAX_UNITS];
     let mut lasts = [0u16; Sheet::MAX_UNITS];
     let mut found = [0u16; Sheet::MAX_BOUNDARIES];
-    let answer = plan_solve::solve(
+    let fit = plan_solve::solve(
         span,
         first,
         last,
@@ -184,12 +185,8 @@ fn print_solved(
     let w = sheet::boundaries(span);
     let cells = w * w;
     let n = first.len();
-    match answer {
-        plan_solve::Answer::Refused(refusal) => {
-            network::clear(cells, table);
-            Printed::Refused(refusal)
-        }
-        plan_solve::Answer::Plan => print_plan(
+    match fit {
+        Fit::Fits => print_plan(
             span,
             &closed[..cells],
             &seats[..n],
@@ -202,7 +199,7 @@ fn print_solved(
             page,
             at,
         ),
-        plan_solve::Answer::None(k) => {
+        Fit::None(k) => {
             limits::fill::fill_limits(span, first, last, from, to, low, high, &mut closed);
             print_ring(&closed, w, &found[..k], table, ring, page, at)
         }
@@ -233,7 +230,7 @@ pub fn print(
         (lent (now (table .exit)) (now (plan .exit)) (now (earliest .exit)) (now (latest .exit)) (now (ring .exit))) (now (page .exit)) ⌝ }
 {
     let rooms = plan_ask::lengths_of(table, plan, earliest, latest, ring);
-    let asked = plan_ask::ask_lists(span, first, last, from, to, low, high, rooms);
+    let asked = plan_ask::ask(span, first, last, from, to, low, high, rooms);
     match asked {
         Checked::No(refusal) => Printed::Refused(refusal),
         Checked::Yes => print_solved(

@@ -8,7 +8,7 @@ use lib.ListN.{replicate}
 use Rattle.read_ask.specs.Reading.{ListRooms, rooms, roomsForAll, refused, read, reading, replyOf}
 use Rattle.read.specs.Rooms.{sizesOf}
 use Rattle.sheet.specs.Sizes.{maxUnits, maxRules}
-use Rattle.answer.specs.AnswerLaws.{refused-small, refused-answer, read-held, read-answered, refusal-answered}
+use Rattle.answer.specs.AnswerLaws.{refused-small, refused-answer, read-held, read-answered}
 use borrow.Author.Needs.{needs}
 use Rattle.answer.proofs.answer.Statement.{statement}
 use Rattle.answer.proofs.answer.Tie as tie
@@ -51,7 +51,7 @@ answer-sheet-requires c κs =
 returns : tie.Need-returns
 returns c =
     let d = c .before .before .before in
-    refusal-answered _ (refused-answer (input (refused-call d)) empty sizes _ _ (refused-told d)) refl (c .refuse .ensures)
+    record { bytes = _; answers = refused-answer (input (refused-call d)) empty sizes _ _ (refused-told d); written = c .refuse .ensures }
 
 returns-2 : tie.Need-returns-2
 returns-2 c =

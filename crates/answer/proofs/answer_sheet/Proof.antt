@@ -1,4 +1,4 @@
--- The lists and rooms answer every question before the pass with yes, so what is printed is the answer; a refusal can only be 14.
+-- The lists and rooms answer every question with yes and the page holds every answer, so what is printed is the answer and nothing refuses it.
 use mathlib.Core.Path.{_≡_, sym, ap}
 use native.Mathlib.Omega.{arith}
 use denote.Ref.{now}
@@ -10,10 +10,9 @@ use mathlib.Core.List.{List}
 use Rattle.sheet.specs.Lists.{given}
 use Rattle.answer.specs.Answer.{AnswerToSheet, Answered}
 use Rattle.print.specs.Reply as says
-use Rattle.print_bytes.specs.Writing.{refusedLine}
 use Rattle.answer.specs.Fronts.{fronts}
 use Rattle.print.specs.OwnLaws.{ownRooms}
-use Rattle.answer.specs.AnswerLaws.{held-solvable, print-refused, print-plan, print-none, refusal-answered}
+use Rattle.answer.specs.AnswerLaws.{held-solvable, print-refused, print-plan, print-none}
 use borrow.Author.Needs.{needs}
 use Rattle.answer.proofs.answer_sheet.Statement.{statement}
 use Rattle.answer.proofs.answer_sheet.Tie as tie
@@ -43,9 +42,8 @@ module _ (c : tie.After-print) where
   abbrev said : says.Reply
   said = says.replyOf (c .print .result)
 
-  refused-is : (q n : ℕ) → said ≡ says.refused q n
-      → (q ≡ 14) × (n ≡ 0) × (left ≡ now (begun .args .page)) × AnswerToSheet sheet (refusedLine q n)
-  refused-is =
+  not-refused : (q n : ℕ) → said ≡ says.refused q n → ⊥
+  not-refused =
       print-refused (fronts (begun .args .s) (lists begun)) ownRooms (held-solvable _ _ (begun .pre)) (now (begun .args .page))
       (omega (arith, c .before .print-arg7 .given .0 .1)) said _ left (c .print .ensures)
 
@@ -80,14 +78,12 @@ slice-aggregate-print-6 c = sym (length-take-le _ _ (start (c .before .before .b
 refuse-requires : tie.Need-refuse-requires
 refuse-requires c κs =
     let told = c .before .before .printed .given in
-    let r = refused-is (c .before .before .before .before .before .before .before .before .before) (told .0 .0 .number) (told .0 .0 .line) (ap says.replyOf (told .1)) in
-    (omega (arith, r .0), omega (arith, r .1))
+    absurd (not-refused (c .before .before .before .before .before .before .before .before .before) _ _ (ap says.replyOf (told .1)))
 
 returns : tie.Need-returns
 returns c =
     let told = c .before .before .before .printed .given in
-    let r = refused-is (c .before .before .before .before .before .before .before .before .before .before) (told .0 .0 .number) (told .0 .0 .line) (ap says.replyOf (told .1)) in
-    refusal-answered (refusedLine (told .0 .0 .number) (told .0 .0 .line)) (r .3) (r .2) (c .refuse .ensures)
+    absurd (not-refused (c .before .before .before .before .before .before .before .before .before .before) _ _ (ap says.replyOf (told .1)))
 
 returns-2 : tie.Need-returns-2
 returns-2 c = plan-is (c .before .before .before .before .before .before .before .before) _ (ap says.replyOf (c .before .printed2 .given .1))

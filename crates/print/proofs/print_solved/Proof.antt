@@ -12,10 +12,12 @@ use lib.IntN.{ℤ, pos}
 use Rattle.network.specs.Table.{finished, stopped}
 use Rattle.sheet.specs.Sheet.{Sheet, isRing}
 use Rattle.sheet.specs.Lists.{Lists, listed, given}
-use Rattle.plan_ask.specs.Questions.{Rooms, lent, passed}
-use Rattle.plan_solve.specs.Planning.{byPass, Settled}
-use Rattle.plan_solve.specs.Reply.{Reply, replyOf}
-use Rattle.print.specs.OwnLaws.{ownRooms, own-solvable, span-few, cells-few, cells-lent, refused-own, plan-own, plan-asked, plan-shown, none-own, limits-fillable, ring-asked, ring-shown, Front, PlanFronts}
+use Rattle.plan_ask.specs.Questions.{Rooms, lent, fitsRooms}
+use Rattle.plan_ask.specs.AskingLaws.{span-bound}
+use Rattle.plan_solve.specs.Planning.{passed, byPass, Settled}
+use Rattle.plan_solve.specs.Reply.{Reply, fitReply}
+use Rattle.print.specs.OwnLaws.{ownRooms, own-solvable, cells-few, Front, PlanFronts}
+use Rattle.print.specs.OwnLaws.{plan-own, plan-asked, plan-shown, none-own, limits-fillable, ring-asked, ring-shown}
 use Rattle.sheet.specs.Sizes.{maxCells, boundariesOf}
 use borrow.Author.Needs.{needs}
 use Rattle.print.proofs.print_solved.Statement.{statement}
@@ -45,7 +47,7 @@ sheet c = given (lists (start c))
 
 -- what planning replied
 abbrev said : tie.After-solve → Reply
-said c = replyOf (c .solve .result)
+said c = fitReply (c .solve .result)
 
 ends : (c : tie.After-solve) → Settled (byPass (passed (sheet c))) (sheet c) ownRooms (said c) (after c)
 ends c = c .solve .ensures
@@ -70,49 +72,43 @@ plan-found : (c : tie.After-enum-told) → let p = where-plan c in
 plan-found c =
     let p = where-plan c in
     let s = start p in
-    plan-own (lists s) (before s) (s .pre) (plan-w c) (plan-w-is c) ownRooms (after p) (said p) (ends p) (ap replyOf (c .enum-told .given .1))
+    plan-own (lists s) (before s) (s .pre) (plan-w c) (plan-w-is c) ownRooms (after p) (said p) (ends p) (ap fitReply (c .enum-told .given .1))
 
 -- ---- none, and a ring
-abbrev where-ring : tie.After-answer2 → tie.After-solve
+abbrev where-ring : tie.After-fit → tie.After-solve
 where-ring c = c .before .before .before .before .before .before .before .before
 
-abbrev ring-w : tie.After-answer2 → ℕ
+abbrev ring-w : tie.After-fit → ℕ
 ring-w c = c .before .before .boundaries .result
 
-ring-w-is : (c : tie.After-answer2) → ring-w c ≡ boundariesOf (start (where-ring c) .args .span)
+ring-w-is : (c : tie.After-fit) → ring-w c ≡ boundariesOf (start (where-ring c) .args .span)
 ring-w-is c = c .before .before .boundaries .ensures
 
 -- the ring's length, as the reply has it
-abbrev steps : tie.After-answer2 → ℕ
-steps c = c .answer2 .given .0 .0
+abbrev steps : tie.After-fit → ℕ
+steps c = c .fit .given .0 .0
 
-ring-found : (c : tie.After-answer2) → let p = where-ring c in
+ring-found : (c : tie.After-fit) → let p = where-ring c in
     (r : List ℕ) × T (isRing (sheet p) r) × (passed (sheet p) ≡ stopped) × Front (steps c) r (after p .ring)
 ring-found c =
     let p = where-ring c in
     let s = start p in
-    none-own (lists s) (before s) (s .pre) (ring-w c) (ring-w-is c) ownRooms (after p) (said p) (ends p) (steps c) (ap replyOf (c .answer2 .given .1))
+    none-own (lists s) (before s) (s .pre) (ring-w c) (ring-w-is c) ownRooms (after p) (said p) (ends p) (steps c) (ap fitReply (c .fit .given .1))
 
 -- ---- the needs, in order
 
 solve-requires : tie.Need-solve-requires
 solve-requires c κs =
     let s : tie.Start = c .before .before .before .before .before .before .before .before .before .before .before .before .before .before .before .before in
-    own-solvable (lists s) (before s) (s .pre)
+    own-solvable (lists s) (fitsRooms (given (lists s)) (before s)) (s .pre)
 
 boundaries-requires : tie.Need-boundaries-requires
-boundaries-requires c κs = let s = start (c .before .before .before .before .before) in span-few (lists s) (before s) (s .pre)
+boundaries-requires c κs = let s = start (c .before .before .before .before .before) in span-bound (lists s) (s .pre .sheet)
 
 mul-cells : tie.Need-mul-cells
 mul-cells c =
     let s = start (c .before .before .before .before .before .before) in
     omega (arith, cells-few (lists s) (before s) (s .pre) (c .boundaries .result) (c .boundaries .ensures))
-
-clear-requires : tie.Need-clear-requires
-clear-requires c κs =
-    let s = start (c .before .before .before .before .before .before .before .before .before .before) in
-    let r = c .before .before .before .before .boundaries in
-    cells-lent (lists s) (before s) (s .pre) (r .result) (r .ensures)
 
 print-plan-requires : tie.Need-print-plan-requires
 print-plan-requires c κs =
@@ -124,7 +120,7 @@ print-plan-requires c κs =
 
 fill-limits-requires : tie.Need-fill-limits-requires
 fill-limits-requires c κs =
-    let told : tie.After-answer2 = c .before .before in
+    let told : tie.After-fit = c .before .before in
     let p = where-ring told in
     let s = start p in
     let f = ring-found told in
@@ -132,7 +128,7 @@ fill-limits-requires c κs =
 
 print-ring-requires : tie.Need-print-ring-requires
 print-ring-requires c κs =
-    let told : tie.After-answer2 = c .before .before .before .before .before .before .before .before .before in
+    let told : tie.After-fit = c .before .before .before .before .before .before .before .before .before in
     let p = where-ring told in
     let s = start p in
     let f = ring-found told in
@@ -142,15 +138,6 @@ print-ring-requires c κs =
 
 returns : tie.Need-returns
 returns c =
-    let p : tie.After-solve = c .before .before .before .before .before .before .before .before .before .before .before .before in
-    let s = start p in
-    let r = c .before .before .before .before .before .before .boundaries in
-    let told = c .before .before .before .before .answer .given in
-    refused-own (lists s) (before s) (s .pre) (r .result) (r .ensures) ownRooms (after p) (said p) (ends p) (told .0 .0 .number) (told .0 .0 .line) (ap replyOf (told .1))
-    (c .before .clear .last .1 .0) (c .before .clear .ensures) (now (s .args .page)) (s .args .at)
-
-returns-2 : tie.Need-returns-2
-returns-2 c =
     let printed = c .before .before .before .before .before .before .before .before .before in
     let told : tie.After-enum-told = printed .before .before .before .before .before .before .before .before .before .before in
     let p = where-plan told in
@@ -159,9 +146,9 @@ returns-2 c =
     plan-shown (lists s) (before s) (s .pre) (plan-w told) (plan-w-is told) (after p) (f .0) (f .1) (f .2) (now (s .args .page)) (s .args .at) _ _ _ _ _ _
     (printed .print-plan .ensures)
 
-returns-3 : tie.Need-returns-3
-returns-3 c =
-    let told : tie.After-answer2 = c .before .before .before .before .before .before .before .before .before .before .before .before .before .before .before in
+returns-2 : tie.Need-returns-2
+returns-2 c =
+    let told : tie.After-fit = c .before .before .before .before .before .before .before .before .before .before .before .before .before .before .before in
     let p = where-ring told in
     let s = start p in
     let f = ring-found told in
@@ -172,7 +159,7 @@ returns-3 c =
 
 pub print-solved-spec : {M : Type 1} → statement M
 print-solved-spec = tie.close (tie.spec (λ c. refl) (λ c. refl) (λ c. refl) (λ c. refl) (λ c. refl) solve-requires boundaries-requires mul-cells
-    (λ c. search needs) clear-requires (λ c. search needs)
+    (λ c. search needs)
     (λ c. plan-found c .2 .closed .long) (λ c. sym (length-take-le _ _ (plan-found (c .before) .2 .closed .long)))
     (λ c. plan-found (c .before) .2 .seats .long) (λ c. sym (length-take-le _ _ (plan-found (c .before .before) .2 .seats .long)))
     (λ c. plan-found (c .before .before) .2 .firsts .long) (λ c. sym (length-take-le _ _ (plan-found (c .before .before .before) .2 .firsts .long)))
@@ -181,12 +168,11 @@ print-solved-spec = tie.close (tie.spec (λ c. refl) (λ c. refl) (λ c. refl) (
     (λ c. search needs) (λ c. sym (where-ring (c .before .before) .solve .kept .1 .1 .1 .1 .1 .1 .1 .0)) fill-limits-requires
     (λ c. search needs) (λ c. ring-found (c .before .before .before .before .before) .3 .long)
     (λ c. sym (length-take-le _ _ (ring-found (c .before .before .before .before .before .before) .3 .long))) print-ring-requires
-    (λ c. c .before .clear .kept .1 .0) returns
     (λ c. c .before .before .before .before .before .before .before .before .before .print-plan .kept .1 .1 .1 .1 .1 .0)
     (λ c. c .before .before .before .before .before .before .before .before .before .print-plan .kept .1 .1 .1 .1 .1 .1 .0)
     (λ c. c .before .before .before .before .before .before .before .before .before .print-plan .kept .1 .1 .1 .1 .1 .1 .1 .0)
     (λ c. c .before .before .before .before .before .before .before .before .before .print-plan .kept .1 .1 .1 .1 .1 .1 .1 .1 .0)
-    (λ c. c .before .before .before .before .before .before .before .before .before .print-plan .kept .1 .1 .1 .1 .1 .1 .1 .1 .1 .0) returns-2
+    (λ c. c .before .before .before .before .before .before .before .before .before .print-plan .kept .1 .1 .1 .1 .1 .1 .1 .1 .1 .0) returns
     (λ c. c .before .before .before .before .before .print-ring .kept .1 .1 .1 .0)
     (λ c. c .before .before .before .before .before .print-ring .kept .1 .1 .1 .1 .0)
-    (λ c. c .before .before .before .before .before .print-ring .kept .1 .1 .1 .1 .1 .0) returns-3)
+    (λ c. c .before .before .before .before .before .print-ring .kept .1 .1 .1 .1 .1 .0) returns-2)
