@@ -12,11 +12,10 @@
  * The questions in the order in which they are asked, by number (docs/RULES.md has their words); the first no decides:
  *
  *     tugrokt_read     1; then line by line 2, 11 (of notes), 3, 4, 5, 6, 7, 8, 9, 10; then 5 for the whole; then 12
- *     tugrokt_plan     13, 6, 9, 10, 7 of the units, 7 of the rules, 8, 12, 14
+ *     tugrokt_plan     13, 6, 9, 10, 7 of the units, 7 of the rules, 8, 12
  *     tugrokt_print    what tugrokt_plan asks, then 15
  *
- * A refused call changes nothing that it was lent, save that by 14, a sum out of range, the table's
- * (span + 1) * (span + 1) places become 0. Places of a room past those that an answer needs never change.
+ * A refused call changes nothing that it was lent. Places of a room past those that an answer needs never change.
  *
  * Link target/staticlib/libtugrokt.a, which `rt staticlib tugrokt` makes.
  */

@@ -103,9 +103,10 @@ mod planner {
             reply
         }
 
-        fn pass(&mut self, limits: &[i16], w: usize) -> Option<Outcome> {
+        fn pass(&mut self, limits: &[i16], w: usize) -> Outcome {
             self.table[..limits.len()].copy_from_slice(limits);
-            network::pass(&mut self.table, w)
+            // SAFETY: the cases are sheets, and these are a sheet's limits.
+            unsafe { network::pass_over_limits(&mut self.table, w) }
         }
 
         fn plan(&mut self, sheet: &plain::Sheet) -> usize {

@@ -3,7 +3,7 @@
 //! The entries ask nothing of their caller: any lists, any rooms and any numbers get an answer. So the only duty here is the
 //! one that Rust's references already meet, that slices are valid and those lent for writing do not overlap.
 //!
-//! A refused call changes nothing that it was lent, save that by question 14, a sum out of range, the table's places become 0.
+//! A refused call changes nothing that it was lent.
 
 use crate::border;
 pub use crate::border::{Planning, Printing, Reading};

@@ -41,7 +41,7 @@ pub fn greatest_sum(sheet: &Sheet) -> i64 {
 }
 
 /// Do these limits have a feasible potential? Bellman and Ford from everywhere at once.
-fn is_feasible(limits: &[i64], w: usize) -> bool {
+pub fn is_feasible(limits: &[i64], w: usize) -> bool {
     negative_cycle(limits, w).is_none()
 }
 

@@ -70,7 +70,7 @@ pub fn is_count(low: u16, high: u16) -> bool {
     low <= high && high <= MAX_COUNT
 }
 
-/// The first question that is answered no, or 0. Question 14 is answered yes for every sheet that passes the others.
+/// The first question that is answered no, or 0.
 pub fn planning_refusal(lists: &Lists, rooms: &Lengths) -> usize {
     let (n, k) = (lists.first.len(), lists.from.len());
     if lists.last.len() != n || lists.to.len() != k || lists.low.len() != k || lists.high.len() != k {

@@ -179,7 +179,7 @@ fn extreme_sheets() {
     tally.report();
 }
 
-/// Many separate stretches that each ask for 300: no sheet makes a sum that question 14 would refuse.
+/// Many separate stretches that each ask for 300: the pass makes the greatest sums that it can, and none overflows.
 #[test]
 fn the_greatest_sums() {
     let mut tally = Tally::new("planning sheets with the greatest sums", seed(107));
