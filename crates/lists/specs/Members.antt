@@ -9,6 +9,7 @@ use native.Mathlib.Omega.{arith}
 use native.Mathlib.Nat.{eq-or-lt-of-le}
 use lib.Dec.{T, leb, eqb, leb→le, le→leb, eqb→eq, eqb-refl}
 use lib.ListN.{length, getD}
+use borrow.Author.Tests.{eq-eqb, ne-eqb}
 use Rattle.lists.specs.Lists.{run, fromTo, within, every, member, keep, consIf, joined}
 
 abbrev pub In {ℓ} : {A : Type ℓ} → A → List A → Type ℓ
@@ -147,6 +148,21 @@ in-member x (y ∷ ys) m = go (eqb y x) (⊎-map (λ e. subst (λ z. T (eqb z x)
     go true h = tt
     go false (inl h) = absurd h
     go false (inr h) = h
+
+-- the same by the entry's place
+pub member-at : (x : ℕ) (xs : List ℕ) (i : ℕ) → i < length xs → getD xs i 0 ≡ x → member x xs ≡ true
+member-at x [] i l e = absurd (omega arith)
+member-at x (y ∷ ys) zero l e = ap (λ (b : Bool). cond b true (member x ys)) (eq-eqb y x e)
+member-at x (y ∷ ys) (suc i) l e = go (eqb y x) (member-at x ys i (omega arith) e)
+  where
+    go : (b : Bool) → member x ys ≡ true → cond b true (member x ys) ≡ true
+    go true h = refl
+    go false h = h
+
+pub member-nowhere : (x : ℕ) (xs : List ℕ) → ((i : ℕ) → i < length xs → getD xs i 0 ≡ x → ⊥) → member x xs ≡ false
+member-nowhere x [] f = refl
+member-nowhere x (y ∷ ys) f =
+    ap (λ (b : Bool). cond b true (member x ys)) (ne-eqb y x (f 0 (omega arith))) ∙ member-nowhere x ys (λ i l. f (suc i) (omega arith))
 
 -- ---- a chain of tests, as code asks them: the first that fails decides
 pub fails-here : (a b : Bool) → a ≡ false → false ≡ (a && b)

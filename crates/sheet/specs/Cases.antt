@@ -1,14 +1,16 @@
 -- P1 to P10 (docs/RULES.md, "Sheets to try"): one list of cases and one claim about the definitions, which the checker computes from the enumeration alone.
 use mathlib.Core.Path.{_≡_, refl}
+use mathlib.Core.Bool.{true}
 use mathlib.Core.List.{List, [], _∷_, map}
-use Prim.Native.Nat.{ℕ}
+use Prim.Native.Nat.{ℕ, suc}
 use lib.Dec.{T}
 use lib.IntN.{pos}
 use Rattle.lists.specs.Lists.{fromTo}
 use Rattle.network.specs.Network.{isNegativeCycle}
 use Rattle.slots.specs.Slots.{Slot, Boundary}
-use Rattle.sheet.specs.Sheet.{Window, Rule, Sheet, top, atMost, atLeast, limit, isRing, ringSum, shortfall}
+use Rattle.sheet.specs.Sheet.{Window, Rule, Sheet, SheetUnit, WrittenSheet, plain, loaders, top, atMost, atLeast, limit, isRing, ringSum, shortfall}
 use Rattle.sheet.specs.Sheet.{lawful, lawfulPlans, leastIn, greatestIn, earliest, latest, earliestSlots, latestSlots, soonest, fair, printedPlans}
+use Rattle.sheet.specs.Questions.{isNew, allNew, loadersFit}
 
 -- `w 1 4`: window 1-4
 abbrev w : Slot → Slot → Window
@@ -18,29 +20,41 @@ w f l = record { first = f; last = l }
 abbrev r : Slot → Slot → ℕ → ℕ → Rule
 r f t l h = record { from = f; to = t; low = l; high = h }
 
-abbrev sheet : ℕ → List Window → List Rule → Sheet
-sheet p ws rs = record { span = p; units = ws; rules = rs }
+-- units with these windows, whose loader numbers go up by one from k on
+abbrev numbered : ℕ → List Window → List SheetUnit
+numbered k [] = []
+numbered k (v ∷ vs) = record { loader = k; window = v } ∷ numbered (suc k) vs
+
+-- units are numbered 1, 2, .. by line
+abbrev sheet : ℕ → List Window → List Rule → WrittenSheet
+sheet p ws rs = record { span = p; units = numbered 1 ws; rules = rs }
 
 -- what is claimed of a sheet
 pub data Case : Type 0 where
   -- it has one printed plan; the narrowed windows' first and last slots; each slot's least and greatest count
-  plan : Sheet → List Slot → List Slot → List Slot → List ℕ → List ℕ → Case
+  plan : WrittenSheet → List Slot → List Slot → List Slot → List ℕ → List ℕ → Case
   -- it has no lawful plan; a ring and its shortfall
-  none : Sheet → List Boundary → ℕ → Case
+  none : WrittenSheet → List Boundary → ℕ → Case
+
+abbrev written : Case → WrittenSheet
+written (plan v seats first last low high) = v
+written (none v ring short) = v
 
 abbrev slots : Sheet → List Slot
 slots s = fromTo 1 (s .span)
 
 abbrev pub Holds : Case → Type 0
-Holds (plan s seats first last low high) =
+Holds (plan v seats first last low high) =
+    let s = plain v in
     (printedPlans s ≡ seats ∷ [])
     × (earliestSlots s ≡ first) × (latestSlots s ≡ last)
     × (map (λ t. leastIn s t t) (slots s) ≡ low) × (map (λ t. greatestIn s t t) (slots s) ≡ high)
-Holds (none s ring short) = (lawfulPlans s ≡ []) × T (isRing s ring) × (shortfall s ring ≡ pos short)
+Holds (none v ring short) = let s = plain v in (lawfulPlans s ≡ []) × T (isRing s ring) × (shortfall s ring ≡ pos short)
 
+-- of each case, and its loader numbers pass question 16
 abbrev pub All : List Case → Type 0
 All [] = Unit {0}
-All (c ∷ cs) = Holds c × All cs
+All (c ∷ cs) = (Holds c × T (loadersFit (loaders (written c)))) × All cs
 
 abbrev pub cases : List Case
 cases =
@@ -78,13 +92,13 @@ cases =
     (0 ∷ 1 ∷ 1 ∷ []) (0 ∷ 1 ∷ 1 ∷ [])
     ∷ []
 
--- the first case and the others
-also : {A B : Type 0} → A → B → A × B
-also a b = (a, b)
+-- the first case, whose numbers are new, and the others
+also : {A B : Type 0} → A → B → (A × T true) × B
+also a b = ((a, tt), b)
 
 pub all-cases-hold : All cases
 unfolding top lawful lawfulPlans leastIn greatestIn earliest latest earliestSlots latestSlots soonest fair printedPlans atMost atLeast limit isRing ringSum
-    shortfall isNegativeCycle
+    shortfall isNegativeCycle isNew allNew
 all-cases-hold =
     also (refl, refl, refl, refl, refl) (also (refl, refl, refl, refl, refl) (also (refl, refl, refl, refl, refl) (also (refl, tt, refl)
     (also (refl, tt, refl) (also (refl, refl, refl, refl, refl) (also (refl, refl, refl, refl, refl) (also (refl, tt, refl)

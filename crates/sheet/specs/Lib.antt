@@ -6,5 +6,6 @@ pub mod LimitLaws
 pub mod PotentialLaws
 pub mod Questions
 pub mod QuestionLaws
+pub mod LoaderLaws
 pub mod Lists
 pub mod Solved

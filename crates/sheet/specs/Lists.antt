@@ -1,11 +1,14 @@
 -- A sheet in parallel lists, as a call is given it. Definitions only.
-use mathlib.Core.Bool.{Bool}
+use mathlib.Core.Bool.{Bool, _&&_}
 use mathlib.Core.List.{List}
 use Prim.Native.Nat.{ℕ}
+use lib.Dec.{eqb}
+use lib.ListN.{length}
 use Rattle.slots.specs.Slots.{Slot}
 use Rattle.sheet.specs.Sheet.{Sheet}
 use Rattle.sheet.specs.Questions.{sheetOf, listsAgree}
 
+-- what a plan must keep to: the windows and the rules
 pub record Lists : Type 0 where
   pub span : ℕ
   pub first : List Slot
@@ -23,3 +26,19 @@ given l = sheetOf (l .span) (l .first) (l .last) (l .from) (l .to) (l .low) (l .
 
 abbrev pub agree : Lists → Bool
 agree l = listsAgree (l .first) (l .last) (l .from) (l .to) (l .low) (l .high)
+
+-- the whole sheet, as it is written: its loader numbers too
+pub record WrittenLists : Type 0 where
+  pub loader : List ℕ
+  pub plain : Lists
+
+abbrev pub written : ℕ → List ℕ → List Slot → List Slot → List Slot → List Slot → List ℕ → List ℕ → WrittenLists
+written p ks fs ls rs ts lo hi = record { loader = ks; plain = listed p fs ls rs ts lo hi }
+
+-- the sheet that its plans must keep to
+abbrev pub givenBy : WrittenLists → Sheet
+givenBy l = given (l .plain)
+
+-- 13 of all lists
+abbrev pub allAgree : WrittenLists → Bool
+allAgree l = eqb (length (l .loader)) (length (l .plain .first)) && agree (l .plain)

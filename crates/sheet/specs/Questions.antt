@@ -1,12 +1,12 @@
 -- A sheet in parallel lists, and the questions about a sheet, by number (docs/RULES.md, "Questions"). Definitions only.
-use mathlib.Core.Bool.{Bool, _&&_}
-use mathlib.Core.List.{List, [], _∷_}
+use mathlib.Core.Bool.{Bool, true, _&&_, not}
+use mathlib.Core.List.{List, [], _∷_, _++_}
 use Prim.Native.Nat.{ℕ}
 use lib.Dec.{leb, eqb}
 use lib.ListN.{length}
-use Rattle.lists.specs.Lists.{within, every}
+use Rattle.lists.specs.Lists.{within, every, member}
 use Rattle.questions.specs.Questions.{Question, ask}
-use Rattle.sheet.specs.Sizes.{maxSlots, maxUnits, maxRules, maxCount}
+use Rattle.sheet.specs.Sizes.{maxSlots, maxUnits, maxRules, maxCount, maxLoader}
 use Rattle.slots.specs.Slots.{Slot, slotBefore}
 use Rattle.sheet.specs.Sheet.{Window, Rule, Sheet, top}
 
@@ -69,11 +69,28 @@ unitsFit s = leb (length (s .units)) maxUnits
 unfoldable pub rulesFit : Sheet → Bool
 rulesFit s = leb (length (s .rules)) maxRules
 
--- what is asked of the sheet itself, in planning's order; no line is to blame
+-- 16: is the loader number 1 to 9999 and on no earlier unit?
+unfoldable pub isNew : List ℕ → ℕ → Bool
+isNew earlier k = within 1 maxLoader k && not (member k earlier)
+
+-- of each of these numbers, which stand after others
+unfoldable pub allNew : List ℕ → List ℕ → Bool
+allNew earlier [] = true
+allNew earlier (k ∷ ks) = isNew earlier k && allNew (earlier ++ (k ∷ [])) ks
+
+abbrev pub loadersFit : List ℕ → Bool
+loadersFit ks = allNew [] ks
+
+-- what is asked of the sheet itself, in planning's order, no line being to blame: of its sizes and its slots, and then of its rules' counts
+abbrev pub slotQuestions : Sheet → List Question
+slotQuestions s =
+    ask 6 0 (spanFits s) ∷ ask 9 0 (unitsFit s) ∷ ask 10 0 (rulesFit s) ∷ ask 7 0 (windowsFit s) ∷ ask 7 0 (stretchesFit s) ∷ []
+
+abbrev pub countQuestions : Sheet → List Question
+countQuestions s = ask 8 0 (countsFit s) ∷ []
+
 abbrev pub sheetQuestions : Sheet → List Question
-sheetQuestions s =
-    ask 6 0 (spanFits s) ∷ ask 9 0 (unitsFit s) ∷ ask 10 0 (rulesFit s)
-    ∷ ask 7 0 (windowsFit s) ∷ ask 7 0 (stretchesFit s) ∷ ask 8 0 (countsFit s) ∷ []
+sheetQuestions s = slotQuestions s ++ countQuestions s
 
 -- every answer is yes
 unfoldable pub accepted : Sheet → Bool

@@ -26,11 +26,30 @@ pub record Rule : Type 0 where
   pub low : ℕ
   pub high : ℕ
 
--- a unit is its window
+-- what a plan must keep to: the units' windows, and the rules
 pub record Sheet : Type 0 where
   pub span : ℕ
   pub units : List Window
   pub rules : List Rule
+
+-- a unit as it is written: its loader number and its window (`Unit` is the prover's own word)
+pub record SheetUnit : Type 0 where
+  pub loader : ℕ
+  pub window : Window
+
+-- a sheet as it is written
+pub record WrittenSheet : Type 0 where
+  pub span : ℕ
+  pub units : List SheetUnit
+  pub rules : List Rule
+
+-- what its plans must keep to; no plan looks at a loader number
+abbrev pub plain : WrittenSheet → Sheet
+plain w = record { span = w .span; units = map (λ u. u .window) (w .units); rules = w .rules }
+
+-- the loader numbers, in order of lines
+abbrev pub loaders : WrittenSheet → List ℕ
+loaders w = map (λ u. u .loader) (w .units)
 
 -- the top boundary
 unfoldable pub top : Sheet → Boundary

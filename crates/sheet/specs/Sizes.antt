@@ -19,6 +19,10 @@ maxRules = 60
 abbrev pub maxCount : ℕ
 maxCount = 300
 
+-- the largest loader number
+abbrev pub maxLoader : ℕ
+maxLoader = 9999
+
 -- the longest text
 abbrev pub maxBytes : ℕ
 maxBytes = 16000

@@ -56,6 +56,9 @@ impl Sheet {
     // The largest count a rule may name.
     pub const MAX_COUNT: usize = 300;
 
+    // The largest loader number.
+    pub const MAX_LOADER: u16 = 9999;
+
     // The longest text of a sheet, in bytes.
     pub const MAX_BYTES: usize = 16000;
 

@@ -1,0 +1,117 @@
+-- The laws of the chains.
+-- Key idea: between one place of a chain and the next no number has the chain's remainder. So a search that goes down one chain has looked at every number
+-- that could be the one, and needs no induction over the chain: the number is not at the place reached or past it.
+use mathlib.Core.Path.{_≡_, sym, ap, subst, _∙_}
+use mathlib.Core.Logic.{⊎-elim, inl, inr, _⊎_}
+use mathlib.Core.Bool.{true, false}
+use mathlib.Core.List.{List}
+use Prim.Native.Nat.{ℕ, _+_, _-_, _%_, _≤_, _<_}
+use native.Mathlib.Omega.{arith}
+use native.Mathlib.Nat.{eq-or-lt-of-le, mod-lt}
+use native.Mathlib.Decide.{ℕ-discrete, decLe}
+use lib.ListN.{length, getD, set, take, length-set, replicate, length-replicate, getD-replicate}
+use lib.Seq.{getD-set-same, getD-set-other, getD-take, length-take-le}
+use Rattle.lists.specs.Lists.{member}
+use Rattle.lists.specs.Members.{member-at, member-nowhere}
+use Rattle.loaders.specs.Chains.{chains, From, Linked}
+
+-- every number belongs to a chain
+pub chain-of : (k : ℕ) → k % chains < chains
+chain-of k = mod-lt k {m = chains} (omega arith)
+
+-- ---- the first n numbers
+module _ (k : ℕ) (ks : List ℕ) (n : ℕ) (h : n ≤ length ks) where
+  pub among : (i : ℕ) → i < n → getD ks i 0 ≡ k → member k (take n ks) ≡ true
+  among i l e = member-at k (take n ks) i (omega (arith, length-take-le n ks h)) (getD-take n ks i 0 l ∙ e)
+
+  pub not-among : ((i : ℕ) → i < n → getD ks i 0 ≡ k → ⊥) → member k (take n ks) ≡ false
+  not-among f =
+      member-nowhere k (take n ks)
+      (λ i l e. let m : i < n = omega (arith, length-take-le n ks h) in f i m (sym (getD-take n ks i 0 m) ∙ e))
+
+-- ---- down a chain: of the first n numbers, k is not at place p or past it
+unfoldable pub Past : List ℕ → ℕ → ℕ → ℕ → Type 0
+Past ks n k p = (i : ℕ) → p ≤ i → i < n → getD ks i 0 ≡ k → ⊥
+
+-- the chain has ended
+pub none-past : (ks : List ℕ) (n k p : ℕ) → Past ks n k p → p ≡ 0 → (i : ℕ) → i < n → getD ks i 0 ≡ k → ⊥
+unfolding Past
+none-past ks n k p f e i = f i (omega arith)
+
+pub past-head : (ks heads nexts : List ℕ) (n k : ℕ) → Linked ks n heads nexts → Past ks n k (getD heads (k % chains) 0)
+unfolding Past
+past-head ks heads nexts n k L i l m e = L .head (k % chains) (chain-of k) .others i l m (ap (λ (x : ℕ). x % chains) e)
+
+module _ (ks heads nexts : List ℕ) (n k p : ℕ) (L : Linked ks n heads nexts) (hp : 0 < p) (hn : p ≤ n) (own : getD ks (p - 1) 0 % chains ≡ k % chains)
+    (past : Past ks n k p) (other : getD ks (p - 1) 0 ≡ k → ⊥) where
+  abbrev q : ℕ
+  q = getD nexts (p - 1) 0
+
+  from : From ks (p - 1) (getD ks (p - 1) 0 % chains) q
+  from = L .next (p - 1) (omega arith)
+
+  pub past-next : Past ks n k q
+  unfolding Past
+  past-next i l m e =
+      elim (ℕ-discrete i (p - 1)) [
+        | yes s ↦ other (ap (λ (j : ℕ). getD ks j 0) (sym s) ∙ e)
+        | no ne ↦ ⊎-elim (λ (g : p ≤ i). past i g m e) (λ (g : i < p - 1). from .others i l g (ap (λ (x : ℕ). x % chains) e ∙ sym own)) (side i ne)
+      ]
+    where
+      side : (i : ℕ) → (i ≡ p - 1 → ⊥) → (p ≤ i) ⊎ (i < p - 1)
+      side i ne = elim (decLe p i) [ yes g ↦ inl g | no g ↦ inr (omega arith) ]
+
+  pub below : q < p
+  below = omega (arith, from .most)
+
+  pub own-next : 0 < q → getD ks (q - 1) 0 % chains ≡ k % chains
+  own-next h = from .own h ∙ own
+
+-- ---- one number more
+module _ (ks heads nexts : List ℕ) (n : ℕ) (L : Linked ks n heads nexts) (room : n < length nexts) where
+  abbrev b : ℕ
+  b = getD ks n 0 % chains
+
+  abbrev heads′ : List ℕ
+  heads′ = set heads b (n + 1)
+
+  abbrev nexts′ : List ℕ
+  nexts′ = set nexts n (getD heads b 0)
+
+  -- the number's own chain begins with it, and the others as before
+  head-more : (c : ℕ) → c < chains → From ks (n + 1) c (getD heads′ c 0)
+  head-more c hc =
+      elim (ℕ-discrete c b) [
+        | yes e ↦
+            let here = ap (λ (x : ℕ). getD heads′ x 0) e ∙ getD-set-same heads b (n + 1) 0 (omega (arith, L .wide, chain-of (getD ks n 0))) in
+            subst (From ks (n + 1) c) (sym here) (record {
+              most = omega arith;
+              own = λ h. let z : n + 1 - 1 ≡ n = omega arith in ap (λ (x : ℕ). getD ks x 0 % chains) z ∙ sym e;
+              others = λ i l m. absurd (omega arith);
+            })
+        | no ne ↦ subst (From ks (n + 1) c) (sym (getD-set-other heads b c (n + 1) 0 ne)) (let f = L .head c hc in record {
+          most = omega (arith, f .most);
+          own = f .own;
+          others = λ i l m r. ⊎-elim (λ (s : i ≡ n). ne (sym r ∙ ap (λ (x : ℕ). getD ks x 0 % chains) s)) (λ s. f .others i l s r) (eq-or-lt-of-le (omega arith));
+        })
+      ]
+
+  -- it goes on where its chain began
+  next-more : (j : ℕ) → j < n + 1 → From ks j (getD ks j 0 % chains) (getD nexts′ j 0)
+  next-more j hj =
+      ⊎-elim
+      (λ (e : j ≡ n). subst (From ks j (getD ks j 0 % chains)) (sym (ap (λ (x : ℕ). getD nexts′ x 0) e ∙ getD-set-same nexts n (getD heads b 0) 0 room))
+      (subst (λ (x : ℕ). From ks x (getD ks x 0 % chains) (getD heads b 0)) (sym e) (L .head b (chain-of (getD ks n 0)))))
+      (λ l. subst (From ks j (getD ks j 0 % chains)) (sym (getD-set-other nexts n j (getD heads b 0) 0 (omega arith))) (L .next j l))
+      (eq-or-lt-of-le (omega arith))
+
+  pub linked-more : Linked ks (n + 1) heads′ nexts′
+  linked-more = record { wide = length-set heads b (n + 1) ∙ L .wide; head = head-more; next = next-more }
+
+-- ---- no number yet: the arrays are as they were made
+pub linked-none : (ks nexts : List ℕ) → Linked ks 0 (replicate chains 0) nexts
+linked-none ks nexts = record {
+  wide = length-replicate {A = ℕ} chains 0;
+  head = λ b h. let z = getD-replicate chains b 0 0 h in record { most = omega arith; own = λ l. absurd (omega arith); others = λ i l m. absurd (omega arith) };
+  next = λ j h. absurd (omega arith);
+}
