@@ -155,12 +155,7 @@ fn line_step(
 }
 
 // The pass over the text: every question but 1 and 12. The loader numbers and the numbers of windows and rules go into the arrays.
-pub fn ask_text(
-    text: &[u8],
-    numbers: &mut [u16],
-    units: &mut [u16],
-    rules: &mut [u16],
-) -> Reading
+pub fn ask_text(text: &[u8], numbers: &mut [u16], units: &mut [u16], rules: &mut [u16]) -> Reading
     requires { ⌜ (maxUnits ≤ length (now numbers)) × (2 * maxUnits ≤ length (now units)) × (4 * maxRules ≤ length (now rules)) ⌝ }
     ensures { λ r. ⌜ replyOf r ≡ passReply (now (text .entry)) ⌝ }
     ensures { λ r. ⌜ Kept r (now (text .entry)) (now (numbers .entry)) (now (numbers .exit)) (now (units .entry)) (now (units .exit))
