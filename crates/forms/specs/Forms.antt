@@ -10,9 +10,9 @@ use Rattle.forms.specs.Form.{Piece, word, number}
 abbrev pub sheetForm : List Piece
 sheetForm = word (text "(sheet ") ∷ number ∷ word (text ")") ∷ []
 
--- (unit (window N N))
+-- (unit N (window N N))
 abbrev pub unitForm : List Piece
-unitForm = word (text "(unit (window ") ∷ number ∷ word (text " ") ∷ number ∷ word (text "))") ∷ []
+unitForm = word (text "(unit ") ∷ number ∷ word (text " (window ") ∷ number ∷ word (text " ") ∷ number ∷ word (text "))") ∷ []
 
 -- (rule (slots N N) (count N N))
 abbrev pub ruleForm : List Piece

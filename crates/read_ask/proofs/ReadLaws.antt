@@ -8,15 +8,16 @@ use mathlib.Core.List.{List, [], _∷_, _++_, map, append-nil, append-assoc}
 use native.Mathlib.Omega.{arith}
 use native.Mathlib.Numerals.{add-one}
 use native.Mathlib.Nat.{zero-add, add-zero}
-use lib.ListN.{length, drop, set, length-append}
-use lib.Seq.{sets, length-sets}
+use lib.ListN.{length, take, drop, set, length-append, length-map}
+use lib.Seq.{sets, length-sets, sets-eq, take-at}
 use lib.Dec.{eqb, leb, ltb}
 use borrow.Author.Tests.{eq-eqb, ne-eqb, le-leb, leb-true, ltb-true}
 use Rattle.lists.specs.Lists.{every, joined}
 use Rattle.questions.specs.Questions.{Question, ask, Verdict, no, allYes, firstNo}
 use Rattle.questions.specs.FirstNoLaws.{first-then}
 use Rattle.sheet.specs.Sizes.{maxSlots, maxUnits, maxRules}
-use Rattle.sheet.specs.Questions.{isSpan, isStretch, isCount}
+use Rattle.sheet.specs.Sheet.{loaders}
+use Rattle.sheet.specs.Questions.{isSpan, isStretch, isCount, isNew}
 use Rattle.sheet.specs.declared.Sheet.{Sheet}
 use Rattle.forms.specs.Form.{printable, plain, value}
 use Rattle.lists.specs.Members.{and-left}
@@ -26,10 +27,11 @@ use Rattle.read_line.specs.Content.{Content, note, sheet, unit, rule, other, co
 use Rattle.read_line.specs.Line.{valuesOf, said, lineOf}
 use Rattle.read_line.specs.declared.Line.{Line}
 use Rattle.read_line.specs.declared.Line.the-variants as Line
-use Rattle.read_ask.specs.Reading.{contents, isSheet, hasSheet, spanElse, spanIn, windowOf, unitsIn, ruleOf, rulesIn, sheetIn, isForm}
-use Rattle.read_ask.specs.Reading.{inOrder, spanAllowed, inSpan, countFits, questionsOf, lineQuestions, passQuestions, refused, read, concluded}
-use Rattle.read_ask.specs.Steps.{counted, stepOf, windowNumbers, ruleNumbers, unitStream, ruleStream, unitPart, rulePart, passReply}
-use Rattle.read_ask.specs.SpanLaws.{joined-append, stream-length, hasSheet-more, hasSheet-same, spanIn-same, spanIn-first}
+use Rattle.read_ask.specs.Reading.{contents, isSheet, hasSheet, spanElse, spanIn, unitOf, unitsIn, loadersIn, ruleOf, rulesIn, sheetIn, isForm}
+use Rattle.read_ask.specs.Reading.{inOrder, spanAllowed, inSpan, loaderFits, countFits, questionsOf, lineQuestions, passQuestions, refused, read}
+use Rattle.read_ask.specs.Reading.{concluded}
+use Rattle.read_ask.specs.Steps.{counted, stepOf, windowNumbers, ruleNumbers, unitStream, ruleStream, loaderPart, unitPart, rulePart, passReply}
+use Rattle.read_ask.specs.SpanLaws.{joined-append, stream-length, loadersIn-more, hasSheet-more, hasSheet-same, spanIn-same, spanIn-first}
 use Rattle.read_ask.specs.declared.Step.{Step}
 use Rattle.read_ask.specs.declared.Step.the-variants.{No, On}
 
@@ -50,6 +52,7 @@ matches-none = record { span = refl; sheeted = refl; units = refl; rules = refl;
 -- a line that passed: the numbers with it, and what it adds to the arrays
 record Added (m : Sheet) (before : List Content) (x : Content) (line : Line) : Type 0 where
   counts : Matches m (before ++ (x ∷ []))
+  loaders : loaderPart line ≡ map (λ u. u .loader) (unitOf x)
   units : unitPart line ≡ unitStream (unitsIn (x ∷ []))
   rules : rulePart line ≡ ruleStream (rulesIn (x ∷ []))
 
@@ -62,7 +65,7 @@ module _ (s : Sheet) (before : List Content) (c : Matches s before) where
   more-units : (x : Content) → length (unitsIn (before ++ (x ∷ []))) ≡ s .units + length (unitsIn (x ∷ []))
   unfolding unitsIn
   more-units x =
-      omega (arith, c .units, ap length (joined-append windowOf before (x ∷ [])), length-append (unitsIn before) (unitsIn (x ∷ [])))
+      omega (arith, c .units, ap length (joined-append unitOf before (x ∷ [])), length-append (unitsIn before) (unitsIn (x ∷ [])))
 
   more-rules : (x : Content) → length (rulesIn (before ++ (x ∷ []))) ≡ s .rules + length (rulesIn (x ∷ []))
   unfolding rulesIn
@@ -111,109 +114,121 @@ module _ (s : Sheet) (before : List Content) (c : Matches s before) where
         few-rules = c .few-rules;
       }
 
--- ---- the verdict on a line, by what it is: the code asks questions 5 to 10 by its own tests, which are those of the definition
+-- ---- the verdict on a line, by what it is: the code asks questions 5 to 10 and 16 by its own tests, which are those of the definition
 
 module _ (before : List Content) (n : ℕ) (w : Verdict) (m : Sheet) (x : Content) (line : Line) where
-  same-verdict : (t₅ t₆ t₇ t₈ t₉ t₁₀ g₅ g₇ g₉ g₁₀ : Bool) → g₅ ≡ t₅ → g₇ ≡ t₇ → g₉ ≡ t₉ → g₁₀ ≡ t₁₀
+  same-verdict : (t₅ t₆ t₇ t₁₆ t₈ t₉ t₁₀ g₅ g₇ g₉ g₁₀ : Bool) → g₅ ≡ t₅ → g₇ ≡ t₇ → g₉ ≡ t₉ → g₁₀ ≡ t₁₀
       → (t₅ ≡ true → t₆ ≡ true → t₉ ≡ true → t₁₀ ≡ true → Added m before x line)
-      → Verdicts (cond t₅ (cond t₆ (cond t₇ (cond t₈ (cond t₉ (cond t₁₀ (On m) (No 10)) (No 9)) (No 8)) (No 7)) (No 6)) (No 5)) line before x n
-      (cond g₅ (cond t₆ (cond g₇ (cond t₈ (cond g₉ (cond g₁₀ w (no 10 n)) (no 9 n)) (no 8 n)) (no 7 n)) (no 6 n)) (no 5 n)) w
-  same-verdict t₅ t₆ t₇ t₈ t₉ t₁₀ g₅ g₇ g₉ g₁₀ e₅ e₇ e₉ e₁₀ p = rw (e₅, e₇, e₉, e₁₀) (go t₅ t₆ t₇ t₈ t₉ t₁₀ p)
+      → Verdicts (cond t₅ (cond t₆ (cond t₇ (cond t₁₆ (cond t₈ (cond t₉ (cond t₁₀ (On m) (No 10)) (No 9)) (No 8)) (No 16)) (No 7)) (No 6)) (No 5))
+      line before x n
+      (cond g₅ (cond t₆ (cond g₇ (cond t₁₆ (cond t₈ (cond g₉ (cond g₁₀ w (no 10 n)) (no 9 n)) (no 8 n)) (no 16 n)) (no 7 n)) (no 6 n)) (no 5 n)) w
+  same-verdict t₅ t₆ t₇ t₁₆ t₈ t₉ t₁₀ g₅ g₇ g₉ g₁₀ e₅ e₇ e₉ e₁₀ p = rw (e₅, e₇, e₉, e₁₀) (go t₅ t₆ t₇ t₁₆ t₈ t₉ t₁₀ p)
     where
-      go : (t₅ t₆ t₇ t₈ t₉ t₁₀ : Bool) → (t₅ ≡ true → t₆ ≡ true → t₉ ≡ true → t₁₀ ≡ true → Added m before x line)
-          → Verdicts (cond t₅ (cond t₆ (cond t₇ (cond t₈ (cond t₉ (cond t₁₀ (On m) (No 10)) (No 9)) (No 8)) (No 7)) (No 6)) (No 5)) line before x n
-          (cond t₅ (cond t₆ (cond t₇ (cond t₈ (cond t₉ (cond t₁₀ w (no 10 n)) (no 9 n)) (no 8 n)) (no 7 n)) (no 6 n)) (no 5 n)) w
-      go false t₆ t₇ t₈ t₉ t₁₀ p = refl
-      go true false t₇ t₈ t₉ t₁₀ p = refl
-      go true true false t₈ t₉ t₁₀ p = refl
-      go true true true false t₉ t₁₀ p = refl
-      go true true true true false t₁₀ p = refl
-      go true true true true true false p = refl
-      go true true true true true true p = (refl, p refl refl refl refl)
+      go : (t₅ t₆ t₇ t₁₆ t₈ t₉ t₁₀ : Bool) → (t₅ ≡ true → t₆ ≡ true → t₉ ≡ true → t₁₀ ≡ true → Added m before x line)
+          → Verdicts (cond t₅ (cond t₆ (cond t₇ (cond t₁₆ (cond t₈ (cond t₉ (cond t₁₀ (On m) (No 10)) (No 9)) (No 8)) (No 16)) (No 7)) (No 6)) (No 5))
+          line before x n
+          (cond t₅ (cond t₆ (cond t₇ (cond t₁₆ (cond t₈ (cond t₉ (cond t₁₀ w (no 10 n)) (no 9 n)) (no 8 n)) (no 16 n)) (no 7 n)) (no 6 n)) (no 5 n)) w
+      go false t₆ t₇ t₁₆ t₈ t₉ t₁₀ p = refl
+      go true false t₇ t₁₆ t₈ t₉ t₁₀ p = refl
+      go true true false t₁₆ t₈ t₉ t₁₀ p = refl
+      go true true true false t₈ t₉ t₁₀ p = refl
+      go true true true true false t₉ t₁₀ p = refl
+      go true true true true true false t₁₀ p = refl
+      go true true true true true true false p = refl
+      go true true true true true true true p = (refl, p refl refl refl refl)
 
 module _ (s : Sheet) (before : List Content) (c : Matches s before) (n : ℕ) (w : Verdict) where
-  -- questions 5 to 10
+  -- questions 5 to 10 and 16
   abbrev later : Content → Verdict
   later x =
-      cond (inOrder before x) (cond (spanAllowed x) (cond (inSpan (spanIn before) x) (cond (countFits x)
+      cond (inOrder before x) (cond (spanAllowed x) (cond (inSpan (spanIn before) x) (cond (loaderFits before x) (cond (countFits x)
       (cond (leb (length (unitsIn (before ++ (x ∷ [])))) maxUnits) (cond (leb (length (rulesIn (before ++ (x ∷ [])))) maxRules) w (no 10 n)) (no 9 n))
-      (no 8 n)) (no 7 n)) (no 6 n)) (no 5 n)
+      (no 8 n)) (no 16 n)) (no 7 n)) (no 6 n)) (no 5 n)
+
+  -- the code's step, after units with the loader numbers of the lines before
+  abbrev stepped : Line → Step
+  stepped line = stepOf (loadersIn before) s line
 
   stretch-same : (f l : ℕ) → isStretch (spanIn before) f l ≡ isStretch (s .span) f l
   stretch-same f l = ap (λ (p : ℕ). isStretch p f l) (sym (c .span))
 
-  note-later : Verdicts (stepOf s Line.Note) Line.Note before note n (later note) w
+  note-later : Verdicts (stepped Line.Note) Line.Note before note n (later note) w
   unfolding stepOf unitsIn rulesIn unitStream ruleStream
   note-later =
-      same-verdict before n w s note Line.Note true true true true true true true true _ _ refl refl
+      same-verdict before n w s note Line.Note true true true true true true true true true _ _ refl refl
       (nine s before c note refl) (ten s before c note refl)
       (λ a b d e. record {
         counts = matches-more s before c note (s .units) (s .rules) refl (λ p. refl) (sym (add-zero (s .units))) (sym (add-zero (s .rules))) (c .few-units)
             (c .few-rules);
+        loaders = refl;
         units = refl;
         rules = refl;
       })
 
-  sheet-later : (p : List ℕ) → Verdicts (stepOf s (valuesOf (sheet p))) (valuesOf (sheet p)) before (sheet p) n (later (sheet p)) w
+  sheet-later : (p : List ℕ) → Verdicts (stepped (valuesOf (sheet p))) (valuesOf (sheet p)) before (sheet p) n (later (sheet p)) w
   unfolding stepOf unitsIn rulesIn unitStream ruleStream
   sheet-later p =
       same-verdict before n w (counted (value p) (s .units) (s .rules)) (sheet p) (valuesOf (sheet p))
-      (eqb (s .span) 0) (isSpan (value p)) true true true true _ true _ _
+      (eqb (s .span) 0) (isSpan (value p)) true true true true true _ true _ _
       (ap not (c .sheeted) ∙ Bool·not-not (eqb (s .span) 0)) refl (nine s before c (sheet p) refl) (ten s before c (sheet p) refl)
-      (λ z t d e. record { counts = matches-sheet s before c p z t; units = refl; rules = refl })
+      (λ z t d e. record { counts = matches-sheet s before c p z t; loaders = refl; units = refl; rules = refl })
 
-  unit-later : (f l : List ℕ) → Verdicts (stepOf s (valuesOf (unit f l))) (valuesOf (unit f l)) before (unit f l) n (later (unit f l)) w
+  unit-later : (k f l : List ℕ) → Verdicts (stepped (valuesOf (unit k f l))) (valuesOf (unit k f l)) before (unit k f l) n (later (unit k f l)) w
   unfolding stepOf unitsIn rulesIn unitStream ruleStream
-  unit-later f l =
-      same-verdict before n w (counted (s .span) (s .units + 1) (s .rules)) (unit f l) (valuesOf (unit f l))
-      (not (eqb (s .span) 0)) true (isStretch (s .span) (value f) (value l)) true (ltb (s .units) maxUnits) true _ _ _ _
-      (c .sheeted) (stretch-same (value f) (value l)) (nine-more s before c (unit f l) refl) (ten s before c (unit f l) refl)
+  unit-later k f l =
+      same-verdict before n w (counted (s .span) (s .units + 1) (s .rules)) (unit k f l) (valuesOf (unit k f l))
+      (not (eqb (s .span) 0)) true (isStretch (s .span) (value f) (value l)) (isNew (loadersIn before) (value k)) true (ltb (s .units) maxUnits) true
+      _ _ _ _
+      (c .sheeted) (stretch-same (value f) (value l)) (nine-more s before c (unit k f l) refl) (ten s before c (unit k f l) refl)
       (λ a b t e. record {
         counts =
-            matches-more s before c (unit f l) (s .units + 1) (s .rules) refl (λ p. refl) refl (sym (add-zero (s .rules)))
+            matches-more s before c (unit k f l) (s .units + 1) (s .rules) refl (λ p. refl) refl (sym (add-zero (s .rules)))
             (omega (arith, ltb-true (s .units) maxUnits t)) (c .few-rules);
+        loaders = refl;
         units = refl;
         rules = refl;
       })
 
   rule-later : (a b lo hi : List ℕ) →
-      Verdicts (stepOf s (valuesOf (rule a b lo hi))) (valuesOf (rule a b lo hi)) before (rule a b lo hi) n (later (rule a b lo hi)) w
+      Verdicts (stepped (valuesOf (rule a b lo hi))) (valuesOf (rule a b lo hi)) before (rule a b lo hi) n (later (rule a b lo hi)) w
   unfolding stepOf unitsIn rulesIn unitStream ruleStream
   rule-later a b lo hi =
       same-verdict before n w (counted (s .span) (s .units) (s .rules + 1)) (rule a b lo hi) (valuesOf (rule a b lo hi))
-      (not (eqb (s .span) 0)) true (isStretch (s .span) (value a) (value b)) (isCount (value lo) (value hi)) true (ltb (s .rules) maxRules) _ _ _ _
+      (not (eqb (s .span) 0)) true (isStretch (s .span) (value a) (value b)) true (isCount (value lo) (value hi)) true (ltb (s .rules) maxRules) _ _ _ _
       (c .sheeted) (stretch-same (value a) (value b)) (nine s before c (rule a b lo hi) refl) (ten-more s before c (rule a b lo hi) refl)
       (λ y z d t. record {
         counts =
             matches-more s before c (rule a b lo hi) (s .units) (s .rules + 1) refl (λ p. refl) (sym (add-zero (s .units))) refl
             (c .few-units) (omega (arith, ltb-true (s .rules) maxRules t));
+        loaders = refl;
         units = refl;
         rules = refl;
       })
 
   -- question 4 before them
-  plain-verdict : (t : Bool) (x : Content) (v : Verdict) → Verdicts (stepOf s (valuesOf x)) (valuesOf x) before x n v w
-      → Verdicts (stepOf s (cond t (valuesOf x) (Line.Refused 4))) (cond t (valuesOf x) (Line.Refused 4)) before x n (cond t v (no 4 n)) w
+  plain-verdict : (t : Bool) (x : Content) (v : Verdict) → Verdicts (stepped (valuesOf x)) (valuesOf x) before x n v w
+      → Verdicts (stepped (cond t (valuesOf x) (Line.Refused 4))) (cond t (valuesOf x) (Line.Refused 4)) before x n (cond t v (no 4 n)) w
   unfolding stepOf
   plain-verdict true x v h = h
   plain-verdict false x v h = refl
 
   -- question 3 before it
   form-verdict : (e : Bool) (x : Content)
-      → Verdicts (stepOf s (cond e (said x) (Line.Refused 3))) (cond e (said x) (Line.Refused 3)) before x n
+      → Verdicts (stepped (cond e (said x) (Line.Refused 3))) (cond e (said x) (Line.Refused 3)) before x n
       (cond (isForm x && e) (cond (every plain (numbersIn x)) (later x) (no 4 n)) (no 3 n)) w
   unfolding stepOf said
   form-verdict false x = rw (and-false (isForm x)) refl
   form-verdict true note = note-later
   form-verdict true (sheet p) = plain-verdict (every plain (p ∷ [])) (sheet p) (later (sheet p)) (sheet-later p)
-  form-verdict true (unit f l) = plain-verdict (every plain (f ∷ l ∷ [])) (unit f l) (later (unit f l)) (unit-later f l)
+  form-verdict true (unit k f l) = plain-verdict (every plain (k ∷ f ∷ l ∷ [])) (unit k f l) (later (unit k f l)) (unit-later k f l)
   form-verdict true (rule a b lo hi) = plain-verdict (every plain (a ∷ b ∷ lo ∷ hi ∷ [])) (rule a b lo hi) (later (rule a b lo hi)) (rule-later a b lo hi)
   form-verdict true other = refl
 
 -- all questions of a line
 line-verdict : (s : Sheet) (before : List Content) → Matches s before → (n : ℕ) (l : TextLine) (rest : List Question) →
     let x = contentOf (l .bytes) in
-    Verdicts (stepOf s (lineOf (l .bytes) (l .ended))) (lineOf (l .bytes) (l .ended)) before x n (firstNo (questionsOf n before l x ++ rest)) (firstNo rest)
+    Verdicts (stepOf (loadersIn before) s (lineOf (l .bytes) (l .ended))) (lineOf (l .bytes) (l .ended)) before x n
+    (firstNo (questionsOf n before l x ++ rest)) (firstNo rest)
 unfolding lineOf firstNo stepOf
 line-verdict s before c n l rest = go (printable (l .bytes)) (bracketsMatch (contentOf (l .bytes)) (l .bytes))
   where
@@ -223,7 +238,7 @@ line-verdict s before c n l rest = go (printable (l .bytes)) (bracketsMatch (con
     line : Bool → Bool → Line
     line p b = cond p (cond b (cond (l .ended) (said x) (Line.Refused 3)) (Line.Refused 11)) (Line.Refused 2)
 
-    go : (p b : Bool) → Verdicts (stepOf s (line p b)) (line p b) before x n
+    go : (p b : Bool) → Verdicts (stepOf (loadersIn before) s (line p b)) (line p b) before x n
         (cond p (cond b (cond (isForm x && (l .ended)) (cond (every plain (numbersIn x)) (later s before c n (firstNo rest) x) (no 4 n)) (no 3 n)) (no 11 n))
         (no 2 n)) (firstNo rest)
     go true true = form-verdict s before c n (firstNo rest) (l .ended) x
@@ -239,6 +254,13 @@ sets-append (x ∷ xs) ys array i =
     let e : suc i + length xs ≡ i + suc (length xs) = omega arith in
     sets-append xs ys (set array i x) (suc i) ∙ ap (λ (k : ℕ). sets (sets (set array i x) (suc i) xs) k ys) e
 
+-- an array with numbers at its front, and then with more past them
+sets-more : (array₀ array array′ old new part : List ℕ) (at : ℕ) → array ≡ sets array₀ 0 old → array′ ≡ sets array at part → at ≡ length old
+    → part ≡ new → array′ ≡ sets array₀ 0 (old ++ new)
+sets-more array₀ array array′ old new part at e e′ a p =
+    e′ ∙ ap₂ (λ (l : List ℕ) (j : ℕ). sets l j part) e (a ∙ sym (zero-add (length old))) ∙ ap (sets (sets array₀ 0 old) (0 + length old)) p
+    ∙ sym (sets-append old new array₀ 0)
+
 stream-more : {A B : Type 0} (block : B → List ℕ) (k : ℕ) → ((b : B) → length (block b) ≡ k)
     → (f : A → List B) (xs : List A) (x : A) (m : ℕ) (array₀ array array′ part : List ℕ)
     → m ≡ length (joined (map f xs)) → array ≡ sets array₀ 0 (joined (map block (joined (map f xs)))) → array′ ≡ sets array (k * m) part
@@ -246,26 +268,26 @@ stream-more : {A B : Type 0} (block : B → List ℕ) (k : ℕ) → ((b : B) →
 stream-more block k h f xs x m array₀ array array′ part c e e′ p =
     let old = joined (map block (joined (map f xs))) in
     let new = joined (map block (joined (map f (x ∷ [])))) in
-    let at : k * m ≡ 0 + length old = ap (λ (j : ℕ). k * j) c ∙ sym (zero-add (length old) ∙ stream-length block k h (joined (map f xs))) in
+    let at : k * m ≡ length old = ap (λ (j : ℕ). k * j) c ∙ sym (stream-length block k h (joined (map f xs))) in
     let cut : joined (map block (joined (map f (xs ++ (x ∷ []))))) ≡ old ++ new =
     ap (λ (l : List _). joined (map block l)) (joined-append f xs (x ∷ [])) ∙ joined-append block (joined (map f xs)) (joined (map f (x ∷ []))) in
-    e′ ∙ ap₂ (λ (l : List ℕ) (j : ℕ). sets l j part) e at ∙ ap (sets (sets array₀ 0 old) (0 + length old)) p
-    ∙ sym (sets-append old new array₀ 0) ∙ ap (sets array₀ 0) (sym cut)
+    sets-more array₀ array array′ old new part (k * m) e e′ at p ∙ ap (sets array₀ 0) (sym cut)
 
 -- at the place `at`, where line n begins: what is left to ask decides, and the arrays hold the numbers of the lines before
-pub record Asking (t : List ℕ) (at n : ℕ) (s : Sheet) (units₀ units rules₀ rules : List ℕ) : Type 0 where
+pub record Asking (t : List ℕ) (at n : ℕ) (s : Sheet) (numbers₀ numbers units₀ units rules₀ rules : List ℕ) : Type 0 where
   pub before : List Content
   pub place : at ≤ length t + 1
   pub number : n ≤ at + 1
   pub counts : Matches s before
   pub left : firstNo (lineQuestions 1 [] (lines t)) ≡ firstNo (lineQuestions n before (lines (drop at t)))
   pub whole : contents (lines t) ≡ before ++ contents (lines (drop at t))
+  pub in-numbers : numbers ≡ sets numbers₀ 0 (loadersIn before)
   pub in-units : units ≡ sets units₀ 0 (unitStream (unitsIn before))
   pub in-rules : rules ≡ sets rules₀ 0 (ruleStream (rulesIn before))
 
-pub asking-start : (t : List ℕ) (s : Sheet) (units rules : List ℕ) → s ≡ counted 0 0 0 → Asking t 0 1 s units units rules rules
+pub asking-start : (t : List ℕ) (s : Sheet) (numbers units rules : List ℕ) → s ≡ counted 0 0 0 → Asking t 0 1 s numbers numbers units units rules rules
 unfolding unitsIn rulesIn unitStream ruleStream
-asking-start t s units rules e =
+asking-start t s numbers units rules e =
     record {
       before = [];
       place = omega arith;
@@ -273,11 +295,13 @@ asking-start t s units rules e =
       counts = rw e matches-none;
       left = refl;
       whole = refl;
+      in-numbers = refl;
       in-units = refl;
       in-rules = refl;
     }
 
-module _ (t : List ℕ) (at n : ℕ) (s : Sheet) (units₀ units rules₀ rules : List ℕ) (i : Asking t at n s units₀ units rules₀ rules) where
+module _ (t : List ℕ) (at n : ℕ) (s : Sheet) (numbers₀ numbers units₀ units rules₀ rules : List ℕ)
+    (i : Asking t at n s numbers₀ numbers units₀ units rules₀ rules) where
   -- the line that starts here, and the questions that are left
   here : TextLine
   here = textLine (firstLine (drop at t)) (hasFeed (drop at t))
@@ -288,30 +312,43 @@ module _ (t : List ℕ) (at n : ℕ) (s : Sheet) (units₀ units rules₀ rules 
   rest : ℕ → List Question
   rest next = lineQuestions (suc n) (i .before ++ (is ∷ [])) (lines (drop next t))
 
-  module _ (next : ℕ) (h : at < length t) (e : next ≡ lineEnd t at + 1) (line : Line) (k : line ≡ lineOf (firstLine (drop at t)) (hasFeed (drop at t))) where
+  -- the numbers of the units so far are the loader numbers of the lines before
+  numbers-are : maxUnits ≤ length numbers₀ → take (s .units) numbers ≡ loadersIn (i .before)
+  numbers-are h =
+      let ks = loadersIn (i .before) in
+      let l : length ks ≡ s .units = length-map (unitsIn (i .before)) (λ u. u .loader) ∙ sym (i .counts .units) in
+      ap (take (s .units)) (i .in-numbers ∙ sets-eq ks numbers₀ 0 (omega (arith, i .counts .few-units))) ∙ take-at ks _ (s .units) l
+
+  module _ (room : maxUnits ≤ length numbers₀) (next : ℕ) (h : at < length t) (e : next ≡ lineEnd t at + 1) (line : Line)
+      (k : line ≡ lineOf (firstLine (drop at t)) (hasFeed (drop at t))) where
+    -- the code's step
+    abbrev made : Step
+    made = stepOf (take (s .units) numbers) s line
+
     all-left : firstNo (lineQuestions 1 [] (lines t)) ≡ firstNo (questionsOf n (i .before) here is ++ rest next)
     unfolding lineQuestions here is rest
     all-left = i .left ∙ ap (λ (ls : List TextLine). firstNo (lineQuestions n (i .before) ls)) (lines-at t at next h e)
 
-    verdict : (r : Step) → stepOf s line ≡ r → Verdicts r line (i .before) is n (firstNo (questionsOf n (i .before) here is ++ rest next)) (firstNo (rest next))
+    verdict : (r : Step) → made ≡ r → Verdicts r line (i .before) is n (firstNo (questionsOf n (i .before) here is ++ rest next)) (firstNo (rest next))
     unfolding here is rest
     verdict r q =
         subst (λ (x : Line). Verdicts r x (i .before) is n (firstNo (questionsOf n (i .before) here is ++ rest next)) (firstNo (rest next))) (sym k)
         (subst (λ (o : Step). Verdicts o (lineOf (here .bytes) (here .ended)) (i .before) is n (firstNo (questionsOf n (i .before) here is ++ rest next))
         (firstNo (rest next)))
-        (ap (stepOf s) (sym k) ∙ q) (line-verdict s (i .before) (i .counts) n here (rest next)))
+        (ap₂ (λ ks l. stepOf ks s l) (sym (numbers-are room)) (sym k) ∙ q) (line-verdict s (i .before) (i .counts) n here (rest next)))
 
-    pub asking-no : (q : ℕ) → stepOf s line ≡ No q → refused q n ≡ passReply t
+    pub asking-no : (q : ℕ) → made ≡ No q → refused q n ≡ passReply t
     unfolding passReply
     asking-no q r =
         let v : firstNo (lineQuestions 1 [] (lines t)) ≡ no q n = all-left ∙ verdict (No q) r in
         let last = ask 5 0 (hasSheet (contents (lines t))) ∷ [] in
         sym (ap (λ (x : Verdict). concluded x (sheetIn t)) (first-then (lineQuestions 1 [] (lines t)) last (no q n) v))
 
-    pub asking-on : (m : Sheet) (units′ rules′ : List ℕ) → stepOf s line ≡ On m → units′ ≡ sets units (2 * s .units) (unitPart line)
-        → rules′ ≡ sets rules (4 * s .rules) (rulePart line) → Asking t next (n + 1) m units₀ units′ rules₀ rules′
+    pub asking-on : (m : Sheet) (numbers′ units′ rules′ : List ℕ) → made ≡ On m → numbers′ ≡ sets numbers (s .units) (loaderPart line)
+        → units′ ≡ sets units (2 * s .units) (unitPart line) → rules′ ≡ sets rules (4 * s .rules) (rulePart line)
+        → Asking t next (n + 1) m numbers₀ numbers′ units₀ units′ rules₀ rules′
     unfolding unitsIn rulesIn unitStream ruleStream rest is contents
-    asking-on m units′ rules′ r u v =
+    asking-on m numbers′ units′ rules′ r a u v =
         let p = verdict (On m) r in
         record {
           before = i .before ++ (is ∷ []);
@@ -321,7 +358,11 @@ module _ (t : List ℕ) (at n : ℕ) (s : Sheet) (units₀ units rules₀ rules 
           left = all-left ∙ p .0 ∙ ap (λ (j : ℕ). firstNo (lineQuestions j (i .before ++ (is ∷ [])) (lines (drop next t)))) (sym (add-one n));
           whole = i .whole ∙ ap (λ (ls : List TextLine). i .before ++ contents ls) (lines-at t at next h e)
               ∙ sym (append-assoc (i .before) (is ∷ []) (contents (lines (drop next t))));
-          in-units = stream-more windowNumbers 2 (λ w. refl) windowOf (i .before) is (s .units) units₀ units units′ (unitPart line) (i .counts .units)
+          in-numbers =
+              sets-more numbers₀ numbers numbers′ (loadersIn (i .before)) (map (λ w. w .loader) (unitOf is)) (loaderPart line) (s .units) (i .in-numbers) a
+              (i .counts .units ∙ sym (length-map (unitsIn (i .before)) (λ w. w .loader))) (p .1 .loaders)
+              ∙ ap (sets numbers₀ 0) (sym (loadersIn-more (i .before) is));
+          in-units = stream-more windowNumbers 2 (λ w. refl) unitOf (i .before) is (s .units) units₀ units units′ (unitPart line) (i .counts .units)
               (i .in-units) u (p .1 .units);
           in-rules = stream-more ruleNumbers 4 (λ w. refl) ruleOf (i .before) is (s .rules) rules₀ rules rules′ (rulePart line) (i .counts .rules)
               (i .in-rules) v (p .1 .rules);
@@ -353,6 +394,10 @@ module _ (t : List ℕ) (at n : ℕ) (s : Sheet) (units₀ units rules₀ rules 
         let b = all-before in
         rw (last-asked false (ne-eqb (s .span) 0 e)) (rw (b, c .span, c .units, c .rules) refl)
 
+    pub numbers-kept : numbers ≡ sets numbers₀ 0 (loaders (sheetIn t))
+    unfolding sheetIn
+    numbers-kept = i .in-numbers ∙ ap (λ (xs : List Content). sets numbers₀ 0 (loadersIn xs)) (sym all-before)
+
     pub units-kept : units ≡ sets units₀ 0 (unitStream (sheetIn t .units))
     unfolding sheetIn
     units-kept = i .in-units ∙ ap (λ (xs : List Content). sets units₀ 0 (unitStream (unitsIn xs))) (sym all-before)
@@ -362,7 +407,11 @@ module _ (t : List ℕ) (at n : ℕ) (s : Sheet) (units₀ units rules₀ rules 
     rules-kept = i .in-rules ∙ ap (λ (xs : List Content). sets rules₀ 0 (ruleStream (rulesIn xs))) (sym all-before)
 
 -- the arrays keep their lengths
-module _ (t : List ℕ) (at n : ℕ) (s : Sheet) (units₀ units rules₀ rules : List ℕ) (i : Asking t at n s units₀ units rules₀ rules) where
+module _ (t : List ℕ) (at n : ℕ) (s : Sheet) (numbers₀ numbers units₀ units rules₀ rules : List ℕ)
+    (i : Asking t at n s numbers₀ numbers units₀ units rules₀ rules) where
+  pub numbers-size : length numbers ≡ length numbers₀
+  numbers-size = ap length (i .in-numbers) ∙ length-sets numbers₀ 0 (loadersIn (i .before))
+
   pub units-size : length units ≡ length units₀
   units-size = ap length (i .in-units) ∙ length-sets units₀ 0 (unitStream (unitsIn (i .before)))
 

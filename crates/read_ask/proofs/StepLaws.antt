@@ -1,15 +1,23 @@
 -- The laws that the steps of one line rest on.
--- Key idea: numbers written one after the other are a list set from a place on; and no number written changes nothing.
-use Prim.Native.Nat.{ℕ, suc, _+_, _*_}
-use mathlib.Core.Path.{_≡_, refl, ap}
+-- Key idea: numbers written one after the other are a list set from a place on; and no number written changes nothing. The chains look at the numbers of
+-- the units so far alone, so that one more may be written before it is put in front of its chain.
+use Prim.Native.Nat.{ℕ, suc, _+_, _-_, _*_, _%_, _≤_, _<_}
+use mathlib.Core.Path.{_≡_, refl, sym, ap, subst, _∙_}
+use mathlib.Core.Bool.{Bool, true, false, not, cond}
 use mathlib.Core.List.{List, [], _∷_}
 use native.Mathlib.Numerals.{add-one}
 use native.Mathlib.Omega.{arith}
-use lib.ListN.{set}
-use lib.Seq.{sets}
+use lib.ListN.{length, getD, set, take, length-set}
+use lib.Seq.{sets, getD-set-same, getD-set-other}
+use lib.Dec.{eqb, ltb}
+use Rattle.sheet.specs.Sizes.{maxUnits, maxRules}
+use Rattle.sheet.specs.Questions.{isSpan, isStretch, isCount}
 use Rattle.sheet.specs.declared.Sheet.{Sheet}
+use Rattle.loaders.specs.Chains.{chains, From, Linked}
+use Rattle.loaders.specs.ChainLaws.{linked-more}
 use Rattle.read_line.specs.declared.Line.{Line}
-use Rattle.read_ask.specs.Steps.{stepOf, unitPart, rulePart, keptBy}
+use Rattle.read_line.specs.declared.Line.the-variants as Line
+use Rattle.read_ask.specs.Steps.{stepOf, loaderPart, unitPart, rulePart, keptBy, counted, Chained, ChainedBy}
 use Rattle.read_ask.specs.declared.Step.{Step}
 use Rattle.read_ask.specs.declared.Step.the-variants.{No, On}
 
@@ -28,7 +36,79 @@ kept-none (No q) l i = refl
 kept-none (On s) l i = refl
 
 -- a step that was made for what the line is
-pub line-stepped : (s : Sheet) (line x : Line) (r : Step) (u u′ v v′ : List ℕ) → line ≡ x → r ≡ stepOf s x
-    → u′ ≡ keptBy r u (2 * s .units) (unitPart x) → v′ ≡ keptBy r v (4 * s .rules) (rulePart x)
-    → (r ≡ stepOf s line) × ((u′ ≡ keptBy r u (2 * s .units) (unitPart line)) × (v′ ≡ keptBy r v (4 * s .rules) (rulePart line)))
-line-stepped s line x r u u′ v v′ e p q t = rw e (p, (q, t))
+pub line-stepped : (ks : List ℕ) (s : Sheet) (line x : Line) (r : Step) (a a′ u u′ v v′ h n : List ℕ) → line ≡ x → r ≡ stepOf ks s x → ChainedBy r a′ h n
+    → a′ ≡ keptBy r a (s .units) (loaderPart x) → u′ ≡ keptBy r u (2 * s .units) (unitPart x) → v′ ≡ keptBy r v (4 * s .rules) (rulePart x)
+    → (r ≡ stepOf ks s line) × (ChainedBy r a′ h n × ((a′ ≡ keptBy r a (s .units) (loaderPart line))
+    × ((u′ ≡ keptBy r u (2 * s .units) (unitPart line)) × (v′ ≡ keptBy r v (4 * s .rules) (rulePart line)))))
+line-stepped ks s line x r a a′ u u′ v v′ h n e p c q t w = rw e (p, (c, (q, (t, w))))
+
+-- ---- the chains
+
+-- a line that is no unit looks at no loader number, and leaves them
+module _ (s : Sheet) (numbers heads nexts : List ℕ) (c : Chained s numbers heads nexts) where
+  abbrev Stay : Step → Type 0
+  Stay r = ChainedBy r numbers heads nexts
+
+  stay-on : (p r : ℕ) → Stay (On (counted p (s .units) r))
+  stay-on p r = record { few-units = c .few-units; in-numbers = c .in-numbers; in-nexts = c .in-nexts; linked = c .linked }
+
+  pub sheet-stays : (p : ℕ) (r : Step) → r ≡ stepOf [] s (Line.Sheet p) → (ks : List ℕ) → (r ≡ stepOf ks s (Line.Sheet p)) × Stay r
+  unfolding stepOf
+  sheet-stays p r e ks = (e, subst Stay (sym e) (go (eqb (s .span) 0) (isSpan p)))
+    where
+      go : (t₅ t₆ : Bool) → Stay (cond t₅ (cond t₆ (On (counted p (s .units) (s .rules))) (No 6)) (No 5))
+      go true true = stay-on p (s .rules)
+      go true false = tt
+      go false t₆ = tt
+
+  pub rule-stays : (a b lo hi : ℕ) (r : Step) → r ≡ stepOf [] s (Line.Rule a b lo hi) → (ks : List ℕ) → (r ≡ stepOf ks s (Line.Rule a b lo hi)) × Stay r
+  unfolding stepOf
+  rule-stays a b lo hi r e ks =
+      (e, subst Stay (sym e) (go (not (eqb (s .span) 0)) (isStretch (s .span) a b) (isCount lo hi) (ltb (s .rules) maxRules)))
+    where
+      go : (t₅ t₇ t₈ t₁₀ : Bool)
+          → Stay (cond t₅ (cond t₇ (cond t₈ (cond t₁₀ (On (counted (s .span) (s .units) (s .rules + 1))) (No 10)) (No 8)) (No 7)) (No 5))
+      go true true true true = stay-on (s .span) (s .rules + 1)
+      go true true true false = tt
+      go true true false t₁₀ = tt
+      go true false t₈ t₁₀ = tt
+      go false t₇ t₈ t₁₀ = tt
+
+-- a number written past those in the chains, and then put in front of its own
+module _ (ks heads nexts : List ℕ) (n k : ℕ) (L : Linked ks n heads nexts) where
+  same-before : (i : ℕ) → i < n → getD (set ks n k) i 0 % chains ≡ getD ks i 0 % chains
+  same-before i h = ap (λ (x : ℕ). x % chains) (getD-set-other ks n i k 0 (omega arith))
+
+  from-same : (m b p : ℕ) → m ≤ n → From ks m b p → From (set ks n k) m b p
+  from-same m b p h f = record {
+    most = f .most;
+    own = λ l. same-before (p - 1) (omega (arith, f .most)) ∙ f .own l;
+    others = λ i l g e. f .others i l g (sym (same-before i (omega arith)) ∙ e);
+  }
+
+  linked-same : Linked (set ks n k) n heads nexts
+  linked-same = record {
+    wide = L .wide;
+    head = λ b h. from-same n b (getD heads b 0) (omega arith) (L .head b h);
+    next = λ j h. subst (λ (b : ℕ). From (set ks n k) j b (getD nexts j 0)) (sym (same-before j h))
+        (from-same j (getD ks j 0 % chains) (getD nexts j 0) (omega arith) (L .next j h));
+  }
+
+  linked-written : n < length ks → n < length nexts
+      → Linked (set ks n k) (n + 1) (set heads (k % chains) (n + 1)) (set nexts n (getD heads (k % chains) 0))
+  linked-written a b =
+      subst (λ (x : ℕ). Linked (set ks n k) (n + 1) (set heads (x % chains) (n + 1)) (set nexts n (getD heads (x % chains) 0)))
+      (getD-set-same ks n k 0 a) (linked-more (set ks n k) heads nexts n linked-same b)
+
+-- a unit more
+pub unit-chained : (s : Sheet) (numbers heads nexts heads′ nexts′ : List ℕ) (k : ℕ) → Chained s numbers heads nexts → s .units < maxUnits
+    → heads′ ≡ set heads (k % chains) (s .units + 1) → nexts′ ≡ set nexts (s .units) (getD heads (k % chains) 0)
+    → Chained (counted (s .span) (s .units + 1) (s .rules)) (set numbers (s .units) k) heads′ nexts′
+unit-chained s numbers heads nexts heads′ nexts′ k c h e f =
+    let n = s .units in
+    rw (e, f) (record {
+      few-units = omega arith;
+      in-numbers = omega (arith, length-set numbers n k, c .in-numbers);
+      in-nexts = length-set nexts n (getD heads (k % chains) 0) ∙ c .in-nexts;
+      linked = linked-written numbers heads nexts n k (c .linked) (omega (arith, c .in-numbers)) (omega (arith, c .in-nexts));
+    })

@@ -8,8 +8,8 @@ use lib.Dec.{leb}
 use Rattle.lists.specs.Lists.{every, joined}
 use Rattle.questions.specs.Questions.{Question, ask, Verdict, no, allYes, firstNo}
 use Rattle.sheet.specs.Sizes.{maxUnits, maxRules, maxBytes}
-use Rattle.sheet.specs.Sheet.{Window, Rule, Sheet}
-use Rattle.sheet.specs.Questions.{isSpan, isStretch, isCount}
+use Rattle.sheet.specs.Sheet.{Rule, SheetUnit, WrittenSheet}
+use Rattle.sheet.specs.Questions.{isSpan, isStretch, isCount, isNew}
 use Rattle.forms.specs.Form.{printable, plain, value}
 use Rattle.forms.specs.Lines.{TextLine, lines}
 use Rattle.read_line.specs.Content.{Content, note, sheet, unit, rule, other, contentOf, bracketsMatch, numbersIn}
@@ -24,7 +24,7 @@ contents ls = map (λ l. contentOf (l .bytes)) ls
 abbrev pub isSheet : Content → Bool
 isSheet note = false
 isSheet (sheet p) = true
-isSheet (unit f l) = false
+isSheet (unit k f l) = false
 isSheet (rule a b lo hi) = false
 isSheet other = false
 
@@ -36,7 +36,7 @@ hasSheet (x ∷ xs) = isSheet x || hasSheet xs
 abbrev pub spanElse : Content → ℕ → ℕ
 spanElse note p = p
 spanElse (sheet q) p = value q
-spanElse (unit f l) p = p
+spanElse (unit k f l) p = p
 spanElse (rule a b lo hi) p = p
 spanElse other p = p
 
@@ -45,27 +45,31 @@ spanIn [] = 0
 spanIn (x ∷ xs) = spanElse x (spanIn xs)
 
 -- the units and the rules, in order of lines
-abbrev pub windowOf : Content → List Window
-windowOf note = []
-windowOf (sheet p) = []
-windowOf (unit f l) = record { first = value f; last = value l } ∷ []
-windowOf (rule a b lo hi) = []
-windowOf other = []
+abbrev pub unitOf : Content → List SheetUnit
+unitOf note = []
+unitOf (sheet p) = []
+unitOf (unit k f l) = record { loader = value k; window = record { first = value f; last = value l } } ∷ []
+unitOf (rule a b lo hi) = []
+unitOf other = []
 
-unfoldable pub unitsIn : List Content → List Window
-unitsIn xs = joined (map windowOf xs)
+unfoldable pub unitsIn : List Content → List SheetUnit
+unitsIn xs = joined (map unitOf xs)
+
+-- the units' loader numbers
+abbrev pub loadersIn : List Content → List ℕ
+loadersIn xs = map (λ u. u .loader) (unitsIn xs)
 
 abbrev pub ruleOf : Content → List Rule
 ruleOf note = []
 ruleOf (sheet p) = []
-ruleOf (unit f l) = []
+ruleOf (unit k f l) = []
 ruleOf (rule a b lo hi) = record { from = value a; to = value b; low = value lo; high = value hi } ∷ []
 ruleOf other = []
 
 unfoldable pub rulesIn : List Content → List Rule
 rulesIn xs = joined (map ruleOf xs)
 
-unfoldable pub sheetIn : List ℕ → Sheet
+unfoldable pub sheetIn : List ℕ → WrittenSheet
 sheetIn text =
     let xs = contents (lines text) in
     record { span = spanIn xs; units = unitsIn xs; rules = rulesIn xs }
@@ -76,7 +80,7 @@ sheetIn text =
 abbrev pub isForm : Content → Bool
 isForm note = true
 isForm (sheet p) = true
-isForm (unit f l) = true
+isForm (unit k f l) = true
 isForm (rule a b lo hi) = true
 isForm other = false
 
@@ -84,7 +88,7 @@ isForm other = false
 abbrev pub inOrder : List Content → Content → Bool
 inOrder before note = true
 inOrder before (sheet p) = not (hasSheet before)
-inOrder before (unit f l) = hasSheet before
+inOrder before (unit k f l) = hasSheet before
 inOrder before (rule a b lo hi) = hasSheet before
 inOrder before other = true
 
@@ -92,7 +96,7 @@ inOrder before other = true
 abbrev pub spanAllowed : Content → Bool
 spanAllowed note = true
 spanAllowed (sheet p) = isSpan (value p)
-spanAllowed (unit f l) = true
+spanAllowed (unit k f l) = true
 spanAllowed (rule a b lo hi) = true
 spanAllowed other = true
 
@@ -100,15 +104,23 @@ spanAllowed other = true
 abbrev pub inSpan : ℕ → Content → Bool
 inSpan span note = true
 inSpan span (sheet p) = true
-inSpan span (unit f l) = isStretch span (value f) (value l)
+inSpan span (unit k f l) = isStretch span (value f) (value l)
 inSpan span (rule a b lo hi) = isStretch span (value a) (value b)
 inSpan span other = true
+
+-- 16, after these lines
+abbrev pub loaderFits : List Content → Content → Bool
+loaderFits before note = true
+loaderFits before (sheet p) = true
+loaderFits before (unit k f l) = isNew (loadersIn before) (value k)
+loaderFits before (rule a b lo hi) = true
+loaderFits before other = true
 
 -- 8
 abbrev pub countFits : Content → Bool
 countFits note = true
 countFits (sheet p) = true
-countFits (unit f l) = true
+countFits (unit k f l) = true
 countFits (rule a b lo hi) = isCount (value lo) (value hi)
 countFits other = true
 
@@ -123,6 +135,7 @@ questionsOf n before l x =
     ask 5 n (inOrder before x) ∷
     ask 6 n (spanAllowed x) ∷
     ask 7 n (inSpan (spanIn before) x) ∷
+    ask 16 n (loaderFits before x) ∷
     ask 8 n (countFits x) ∷
     ask 9 n (leb (length (unitsIn here)) maxUnits) ∷
     ask 10 n (leb (length (rulesIn here)) maxRules) ∷
@@ -139,6 +152,7 @@ lineQuestions n before (l ∷ ls) =
 
 -- one of these for each lent room
 pub record ListRooms (A : Type 0) : Type 0 where
+  pub loader : A
   pub first : A
   pub last : A
   pub from : A
@@ -146,18 +160,18 @@ pub record ListRooms (A : Type 0) : Type 0 where
   pub low : A
   pub high : A
 
-abbrev pub rooms : {A : Type 0} → A → A → A → A → A → A → ListRooms A
-rooms a b c d e f = record { first = a; last = b; from = c; to = d; low = e; high = f }
+abbrev pub rooms : {A : Type 0} → A → A → A → A → A → A → A → ListRooms A
+rooms a b c d e f g = record { loader = a; first = b; last = c; from = d; to = e; low = f; high = g }
 
 -- 12, for so many units and rules
 abbrev pub listsFit : ℕ → ℕ → ListRooms ℕ → Bool
 listsFit units rules sizes =
-    (leb units (sizes .first) && leb units (sizes .last)) &&
-    ((leb rules (sizes .from) && leb rules (sizes .to)) && (leb rules (sizes .low) && leb rules (sizes .high)))
+    leb units (sizes .loader) && ((leb units (sizes .first) && leb units (sizes .last)) &&
+    ((leb rules (sizes .from) && leb rules (sizes .to)) && (leb rules (sizes .low) && leb rules (sizes .high))))
 
 -- rooms for as many units and rules as a sheet may have
 abbrev pub roomsForAll : ListRooms ℕ
-roomsForAll = rooms maxUnits maxUnits maxRules maxRules maxRules maxRules
+roomsForAll = rooms maxUnits maxUnits maxUnits maxRules maxRules maxRules maxRules
 
 -- of every line, and then of the text: has it a sheet form?
 abbrev pub passQuestions : List ℕ → List Question
@@ -180,7 +194,7 @@ abbrev pub replyOf : Reading → Reply
 replyOf (Reading.Refused f) = refused (f .number) (f .line)
 replyOf (Reading.Sheet s) = read (s .span) (s .units) (s .rules)
 
-abbrev pub concluded : Verdict → Sheet → Reply
+abbrev pub concluded : Verdict → WrittenSheet → Reply
 concluded (no q n) s = refused q n
 concluded allYes s = read (s .span) (length (s .units)) (length (s .rules))
 

@@ -1,9 +1,9 @@
--- Which refusals a text can have, where the lent rooms are long enough for every sheet: one of questions 1 to 11, at a line no later than the longest text's
--- last.
+-- Which refusals a text can have, where the lent rooms are long enough for every sheet: one of questions 1 to 11 or 16, at a line no later than the longest
+-- text's last.
 -- Key idea: the first no is one of the questions asked, and a text has no more lines than bytes. Question 12 comes after the lines' own, which keep the units
 -- and rules as few as the rooms are long.
 use mathlib.Core.Path.{_≡_, refl, sym, _∙_}
-use mathlib.Core.Bool.{Bool, true, false, _&&_, cond}
+use mathlib.Core.Bool.{Bool, true, false, _&&_, _||_, cond}
 use mathlib.Core.List.{List, [], _∷_, _++_}
 use Prim.Native.Nat.{ℕ, suc, _+_, _≤_}
 use native.Mathlib.Omega.{arith}
@@ -38,13 +38,17 @@ line-count (b ∷ t) = go (eqb b lineFeed) (line-count t)
 
 -- ---- the first no is one of the questions asked
 
+-- the questions that are asked of every text
+abbrev pub asksText : ℕ → Bool
+asksText q = within 1 11 q || eqb q 16
+
 -- a refusal that reading may come to
 pub record Refusable (number line : ℕ) : Type 0 where
-  pub number-known : T (within 1 11 number)
+  pub number-known : T (asksText number)
   pub line-known : line ≤ maxBytes
 
 abbrev known : ℕ → ℕ → Bool
-known q n = within 1 11 q && leb n maxBytes
+known q n = asksText q && leb n maxBytes
 
 -- every question of the lines from n on is known
 lines-known : (n : ℕ) (before : List Content) (ls : List TextLine) → n + length ls ≤ suc maxBytes
@@ -60,7 +64,8 @@ all-fit : (u r : ℕ) → T (leb u maxUnits) → T (leb r maxRules) → T (lists
 all-fit u r hu hr =
     let a = leb u maxUnits in
     let b = leb r maxRules in
-    both (a && a) ((b && b) && (b && b)) (both a a hu hu) (both (b && b) (b && b) (both b b hr hr) (both b b hr hr))
+    both a ((a && a) && ((b && b) && (b && b))) hu
+    (both (a && a) ((b && b) && (b && b)) (both a a hu hu) (both (b && b) (b && b) (both b b hr hr) (both b b hr hr)))
 
 -- ---- what reading can be refused by
 module _ (text : List ℕ) (number line : ℕ) where
@@ -72,7 +77,7 @@ module _ (text : List ℕ) (number line : ℕ) where
 
   is-refusable : T (known number line) → Refusable number line
   is-refusable h =
-      record { number-known = left (within 1 11 number) (leb line maxBytes) h; line-known = leb→le line maxBytes (right (within 1 11 number) _ h) }
+      record { number-known = left (asksText number) (leb line maxBytes) h; line-known = leb→le line maxBytes (right (asksText number) _ h) }
 
   -- question 12 is not answered no
   not-rooms : (b : Bool) → T b → cond b allYes (no 12 0) ≡ no number line → ⊥

@@ -1,17 +1,21 @@
 -- Texts read by the definitions alone: P2 of docs/RULES.md, and a refusal by each question that a short text can fail. Each claim is computed.
 use Prim.Native.Nat.{ℕ, _+_}
 use mathlib.Core.Path.{_≡_, refl}
+use mathlib.Core.Bool.{true}
 use mathlib.Core.List.{List, [], _∷_, _++_, map}
+use lib.ListN.{replicate}
 use Rattle.lists.specs.Lists.{joined}
+use Rattle.sheet.specs.Sizes.{maxUnits}
+use Rattle.sheet.specs.Questions.{isNew}
 use Rattle.forms.specs.Words.{lineFeed, space, opening, closing, zeroDigit, openNote, text}
 use Rattle.forms.specs.Form.{printable, leading, past, valueFrom, plain, written, matches, numbers}
 use Rattle.forms.specs.Forms.{sheetForm, unitForm, ruleForm}
 use Rattle.read_notes.specs.Note.{matched}
-use Rattle.forms.specs.Lines.{lines}
-use Rattle.read_line.specs.Content.{isNote, noteMatched, contentOf}
-use Rattle.read_ask.specs.Reading.{contents, hasSheet, spanIn, unitsIn, rulesIn, sheetIn, lineQuestions, ListRooms, rooms, roomsForAll, questions}
-use Rattle.questions.specs.Questions.{firstNo}
-use Rattle.read_ask.specs.Reading.{Reply, refused, read, reading}
+use Rattle.forms.specs.Lines.{textLine, lines}
+use Rattle.read_line.specs.Content.{Content, sheet, unit, isNote, noteMatched, contentOf}
+use Rattle.read_ask.specs.Reading.{contents, hasSheet, spanIn, unitsIn, rulesIn, sheetIn, questionsOf, lineQuestions, ListRooms, rooms, roomsForAll}
+use Rattle.questions.specs.Questions.{Verdict, no, firstNo}
+use Rattle.read_ask.specs.Reading.{questions, Reply, refused, read, reading}
 
 -- ---- lines
 
@@ -24,8 +28,8 @@ feed w = w ++ (lineFeed ∷ [])
 abbrev sheetLine : List ℕ → List ℕ
 sheetLine p = feed (written sheetForm (p ∷ []))
 
-abbrev unitLine : List ℕ → List ℕ → List ℕ
-unitLine f l = feed (written unitForm (f ∷ l ∷ []))
+abbrev unitLine : List ℕ → List ℕ → List ℕ → List ℕ
+unitLine k f l = feed (written unitForm (k ∷ f ∷ l ∷ []))
 
 abbrev ruleLine : List ℕ → List ℕ → List ℕ → List ℕ → List ℕ
 ruleLine a b lo hi = feed (written ruleForm (a ∷ b ∷ lo ∷ hi ∷ []))
@@ -53,8 +57,8 @@ sample ls a = record { text = joined ls; sizes = roomsForAll; answer = a }
 
 abbrev shownSheet : List (List ℕ)
 shownSheet =
-    sheetLine (digit 4) ∷ unitLine (digit 1) (digit 2) ∷ unitLine (digit 1) (digit 4) ∷ ruleLine (digit 1) (digit 2) (digit 1) (digit 1) ∷
-    ruleLine (digit 2) (digit 3) (digit 1) (digit 1) ∷ ruleLine (digit 3) (digit 4) (digit 1) (digit 1) ∷ []
+    sheetLine (digit 4) ∷ unitLine (digit 1) (digit 1) (digit 2) ∷ unitLine (digit 2) (digit 1) (digit 4) ∷
+    ruleLine (digit 1) (digit 2) (digit 1) (digit 1) ∷ ruleLine (digit 2) (digit 3) (digit 1) (digit 1) ∷ ruleLine (digit 3) (digit 4) (digit 1) (digit 1) ∷ []
 
 abbrev samples : List Sample
 samples =
@@ -64,10 +68,14 @@ samples =
     -- 11: a bracket that is open, and one too many
     sample (noteLine (space ∷ opening ∷ letter ∷ closing ∷ []) ∷ []) (refused 11 1) ∷
     sample (noteLine (space ∷ closing ∷ closing ∷ []) ∷ []) (refused 11 1) ∷
-    -- 3: an empty line, a word that is not `(note`, a line without its line feed
+    -- 3: an empty line, a word that is not `(note`, a line without its line feed, a unit without its loader number
     sample ((lineFeed ∷ []) ∷ []) (refused 3 1) ∷
     sample (noteLine (letter ∷ closing ∷ []) ∷ []) (refused 3 1) ∷
     sample (noteLine (closing ∷ []) ∷ written sheetForm (digit 4 ∷ []) ∷ []) (refused 3 2) ∷
+    sample (sheetLine (digit 4) ∷ feed (text "(unit (window 1 2))") ∷ []) (refused 3 2) ∷
+    -- 4: a loader number of five digits, and one with needless zeros
+    sample (sheetLine (digit 4) ∷ unitLine (text "10000") (digit 1) (digit 2) ∷ []) (refused 4 2) ∷
+    sample (sheetLine (digit 4) ∷ unitLine (text "0017") (digit 1) (digit 2) ∷ []) (refused 4 2) ∷
     -- 4 before 5: a needless zero in a rule before the sheet form
     sample (ruleLine (digit 0 ++ digit 5) (digit 6) (digit 0) (digit 1) ∷ []) (refused 4 1) ∷
     -- 5 before 6: a second sheet form; and no sheet form at all
@@ -75,22 +83,39 @@ samples =
     sample [] (refused 5 0) ∷
     -- 6, 7, 8
     sample (sheetLine (digit 4 ++ digit 9) ∷ []) (refused 6 1) ∷
-    sample (sheetLine (digit 4) ∷ unitLine (digit 4) (digit 3) ∷ []) (refused 7 2) ∷
+    sample (sheetLine (digit 4) ∷ unitLine (digit 1) (digit 4) (digit 3) ∷ []) (refused 7 2) ∷
     sample (sheetLine (digit 3) ∷ ruleLine (digit 1) (digit 2) (digit 0) (digit 3 ++ (digit 0 ++ digit 1)) ∷ []) (refused 8 2) ∷
+    -- 16: no loader number, and one that is on the line before; 7 before it
+    sample (sheetLine (digit 4) ∷ unitLine (digit 0) (digit 1) (digit 2) ∷ []) (refused 16 2) ∷
+    sample (sheetLine (digit 4) ∷ unitLine (digit 7) (digit 1) (digit 2) ∷ unitLine (digit 7) (digit 1) (digit 4) ∷ []) (refused 16 3) ∷
+    sample (sheetLine (digit 4) ∷ unitLine (digit 0) (digit 4) (digit 3) ∷ []) (refused 7 2) ∷
     -- 12: a room that is too short
-    record { text = joined shownSheet; sizes = rooms 2 2 3 3 3 2; answer = refused 12 0 } ∷
+    record { text = joined shownSheet; sizes = rooms 2 2 2 3 3 3 2; answer = refused 12 0 } ∷
+    record { text = joined shownSheet; sizes = rooms 1 2 2 3 3 3 3; answer = refused 12 0 } ∷
     []
 
 pub samples-read : map (λ s. reading (s .text) (s .sizes)) samples ≡ map (λ s. s .answer) samples
 unfolding printable leading past valueFrom plain written matches numbers matched lines isNote noteMatched contentOf
-    contents hasSheet spanIn unitsIn rulesIn sheetIn lineQuestions questions firstNo reading text
+    contents hasSheet spanIn unitsIn rulesIn sheetIn lineQuestions questions firstNo reading text isNew
 samples-read = refl
+
+-- a unit with this loader number after as many units as a sheet may have, all with the number 1
+abbrev oneUnitMore : ℕ → Verdict
+oneUnitMore k =
+    let one : ℕ → Content = λ j. unit (digit j) (digit 1) (digit 1) in
+    firstNo (questionsOf 302 (sheet (digit 4) ∷ replicate maxUnits (one 1)) (textLine [] true) (one k))
+
+-- 16 before 9
+pub number-before-units : (oneUnitMore 1 ≡ no 16 302) × (oneUnitMore 2 ≡ no 9 302)
+unfolding printable plain valueFrom hasSheet spanIn unitsIn rulesIn firstNo isNew
+number-before-units = (refl, refl)
 
 -- the lists of P2
 pub shown-lists :
     sheetIn (joined shownSheet) ≡ record {
       span = 4;
-      units = record { first = 1; last = 2 } ∷ record { first = 1; last = 4 } ∷ [];
+      units =
+          record { loader = 1; window = record { first = 1; last = 2 } } ∷ record { loader = 2; window = record { first = 1; last = 4 } } ∷ [];
       rules =
           record { from = 1; to = 2; low = 1; high = 1 } ∷ record { from = 2; to = 3; low = 1; high = 1 } ∷
           record { from = 3; to = 4; low = 1; high = 1 } ∷ [];

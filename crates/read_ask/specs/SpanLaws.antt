@@ -3,7 +3,7 @@
 use Prim.Native.Nat.{ℕ, _*_}
 use mathlib.Core.Path.{_≡_, refl, sym, ap, _∙_}
 use mathlib.Core.Bool.{Bool, false, _||_, or-false, or-assoc}
-use mathlib.Core.List.{List, [], _∷_, _++_, map, append-nil, append-assoc}
+use mathlib.Core.List.{List, [], _∷_, _++_, map, map-append, append-nil, append-assoc}
 use native.Mathlib.Omega.{arith}
 use native.Mathlib.Nat.{mul-zero, mul-suc}
 use lib.ListN.{length, length-append}
@@ -11,7 +11,7 @@ use Rattle.lists.specs.Lists.{joined}
 use Rattle.forms.specs.Form.{value}
 use Rattle.lists.specs.Members.{false-not-true}
 use Rattle.read_line.specs.Content.{Content, note, sheet, unit, rule, other}
-use Rattle.read_ask.specs.Reading.{isSheet, hasSheet, spanElse, spanIn, windowOf, unitsIn, ruleOf, rulesIn}
+use Rattle.read_ask.specs.Reading.{isSheet, hasSheet, spanElse, spanIn, unitOf, unitsIn, loadersIn, ruleOf, rulesIn}
 
 -- ---- streams
 pub joined-append : {A B : Type 0} (f : A → List B) (xs ys : List A) → joined (map f (xs ++ ys)) ≡ joined (map f xs) ++ joined (map f ys)
@@ -25,9 +25,12 @@ stream-length block k h (x ∷ xs) =
     omega (arith, length-append (block x) (joined (map block xs)), h x, stream-length block k h xs, mul-suc k (length xs))
 
 module _ (xs : List Content) (x : Content) where
-  pub units-more : unitsIn (xs ++ (x ∷ [])) ≡ unitsIn xs ++ windowOf x
+  pub units-more : unitsIn (xs ++ (x ∷ [])) ≡ unitsIn xs ++ unitOf x
   unfolding unitsIn
-  units-more = joined-append windowOf xs (x ∷ []) ∙ ap (λ l. joined (map windowOf xs) ++ l) (append-nil (windowOf x))
+  units-more = joined-append unitOf xs (x ∷ []) ∙ ap (λ l. joined (map unitOf xs) ++ l) (append-nil (unitOf x))
+
+  pub loadersIn-more : loadersIn (xs ++ (x ∷ [])) ≡ loadersIn xs ++ map (λ u. u .loader) (unitOf x)
+  loadersIn-more = ap (map (λ u. u .loader)) units-more ∙ map-append (λ u. u .loader) (unitsIn xs) (unitOf x)
 
   pub rules-more : rulesIn (xs ++ (x ∷ [])) ≡ rulesIn xs ++ ruleOf x
   unfolding rulesIn
@@ -52,6 +55,6 @@ unfolding spanIn hasSheet
 spanIn-first [] p h = refl
 spanIn-first (note ∷ ys) p h = spanIn-first ys p h
 spanIn-first (sheet q ∷ ys) p h = false-not-true (sym h)
-spanIn-first (unit f l ∷ ys) p h = spanIn-first ys p h
+spanIn-first (unit k f l ∷ ys) p h = spanIn-first ys p h
 spanIn-first (rule a b lo hi ∷ ys) p h = spanIn-first ys p h
 spanIn-first (other ∷ ys) p h = spanIn-first ys p h

@@ -1,11 +1,11 @@
 ghost use mathlib.Core.Path.{_≡_};
 ghost use mathlib.Core.List.{[], _∷_};
 ghost use Prim.Native.Nat.{_*_, _≤_};
-ghost use lib.ListN.{length};
+ghost use lib.ListN.{length, take};
 ghost use Rattle.sheet.specs.Sizes.{maxUnits, maxRules};
 ghost use Rattle.sheet.specs.Questions.{isStretch, isCount};
 ghost use Rattle.read_ask.specs.Reading.{replyOf};
-ghost use Rattle.read_ask.specs.Steps.{stepOf, unitPart, rulePart, keptBy, passReply, Kept};
+ghost use Rattle.read_ask.specs.Steps.{stepOf, loaderPart, unitPart, rulePart, keptBy, Chained, ChainedBy, passReply, Kept};
 use questions::Refusal;
 use read_line::Line;
 use sheet::Sheet;
@@ -37,7 +37,7 @@ fn is_count(low: u16, high: u16) -> bool
 
 // Questions 5 and 6.
 fn sheet_step(s: Sheet, span: u16) -> Step
-    ensures { λ r. ⌜ r ≡ stepOf s (Line.Sheet span) ⌝ }
+    ensures { λ r. ⌜ r ≡ stepOf [] s (Line.Sheet span) ⌝ }
 {
     if s.span != 0 {
         return Step::No(5);
@@ -53,10 +53,21 @@ fn sheet_step(s: Sheet, span: u16) -> Step
     })
 }
 
-// Questions 5, 7 and 9; a unit that passes is kept.
-fn unit_step(s: Sheet, first: u16, last: u16, units: &mut [u16]) -> Step
-    requires { ⌜ 2 * maxUnits ≤ length (now units) ⌝ }
-    ensures { λ r. ⌜ r ≡ stepOf s (Line.Unit first last) ⌝ }
+// Questions 5, 7, 16 and 9; a unit that passes is kept, and its loader number is found from then on.
+fn unit_step(
+    s: Sheet,
+    loader: u16,
+    first: u16,
+    last: u16,
+    numbers: &mut [u16],
+    units: &mut [u16],
+    heads: &mut [u16],
+    nexts: &mut [u16],
+) -> Step
+    requires { ⌜ Chained s (now numbers) (now heads) (now nexts) × (2 * maxUnits ≤ length (now units)) ⌝ }
+    ensures { λ r. ⌜ r ≡ stepOf (take (s .units) (now (numbers .entry))) s (Line.Unit loader first last) ⌝ }
+    ensures { λ r. ⌜ ChainedBy r (now (numbers .exit)) (now (heads .exit)) (now (nexts .exit)) ⌝ }
+    ensures { λ r. ⌜ now (numbers .exit) ≡ keptBy r (now (numbers .entry)) (s .units) (loader ∷ []) ⌝ }
     ensures { λ r. ⌜ now (units .exit) ≡ keptBy r (now (units .entry)) (2 * s .units) (first ∷ last ∷ []) ⌝ }
 {
     let n = s.units;
@@ -66,10 +77,15 @@ fn unit_step(s: Sheet, first: u16, last: u16, units: &mut [u16]) -> Step
     if !is_stretch(s.span, first, last) {
         return Step::No(7);
     }
+    if !loaders::is_new(numbers, n, heads, nexts, loader) {
+        return Step::No(16);
+    }
     if n < Sheet::MAX_UNITS {
         let at = 2 * n;
+        numbers[n] = loader;
         units[at] = first;
         units[at + 1] = last;
+        loaders::link(loader, n, heads, nexts);
         return Step::On(Sheet {
             span: s.span,
             units: n + 1,
@@ -82,7 +98,7 @@ fn unit_step(s: Sheet, first: u16, last: u16, units: &mut [u16]) -> Step
 // Questions 5, 7, 8 and 10; a rule that passes is kept.
 fn rule_step(s: Sheet, from: u16, to: u16, low: u16, high: u16, rules: &mut [u16]) -> Step
     requires { ⌜ 4 * maxRules ≤ length (now rules) ⌝ }
-    ensures { λ r. ⌜ r ≡ stepOf s (Line.Rule from to low high) ⌝ }
+    ensures { λ r. ⌜ r ≡ stepOf [] s (Line.Rule from to low high) ⌝ }
     ensures { λ r. ⌜ now (rules .exit) ≡ keptBy r (now (rules .entry)) (4 * s .rules) (from ∷ to ∷ low ∷ high ∷ []) ⌝ }
 {
     let n = s.rules;
@@ -110,10 +126,20 @@ fn rule_step(s: Sheet, from: u16, to: u16, low: u16, high: u16, rules: &mut [u16
     Step::No(10)
 }
 
-// A line after those of a sheet: questions 5 to 10, and its numbers into the arrays.
-fn line_step(s: Sheet, line: Line, units: &mut [u16], rules: &mut [u16]) -> Step
-    requires { ⌜ (2 * maxUnits ≤ length (now units)) × (4 * maxRules ≤ length (now rules)) ⌝ }
-    ensures { λ r. ⌜ r ≡ stepOf s line ⌝ }
+// A line after those of a sheet: questions 5 to 10 and 16, and its numbers into the arrays.
+fn line_step(
+    s: Sheet,
+    line: Line,
+    numbers: &mut [u16],
+    units: &mut [u16],
+    rules: &mut [u16],
+    heads: &mut [u16],
+    nexts: &mut [u16],
+) -> Step
+    requires { ⌜ Chained s (now numbers) (now heads) (now nexts) × (2 * maxUnits ≤ length (now units)) × (4 * maxRules ≤ length (now rules)) ⌝ }
+    ensures { λ r. ⌜ r ≡ stepOf (take (s .units) (now (numbers .entry))) s line ⌝ }
+    ensures { λ r. ⌜ ChainedBy r (now (numbers .exit)) (now (heads .exit)) (now (nexts .exit)) ⌝ }
+    ensures { λ r. ⌜ now (numbers .exit) ≡ keptBy r (now (numbers .entry)) (s .units) (loaderPart line) ⌝ }
     ensures { λ r. ⌜ now (units .exit) ≡ keptBy r (now (units .entry)) (2 * s .units) (unitPart line) ⌝ }
     ensures { λ r. ⌜ now (rules .exit) ≡ keptBy r (now (rules .entry)) (4 * s .rules) (rulePart line) ⌝ }
 {
@@ -121,26 +147,31 @@ fn line_step(s: Sheet, line: Line, units: &mut [u16], rules: &mut [u16]) -> Step
         Line::Refused(q) => Step::No(q),
         Line::Note => Step::On(s),
         Line::Sheet(span) => sheet_step(s, span),
-        Line::Unit(first, last) => unit_step(s, first, last, units),
+        Line::Unit(loader, first, last) => {
+            unit_step(s, loader, first, last, numbers, units, heads, nexts)
+        }
         Line::Rule(from, to, low, high) => rule_step(s, from, to, low, high, rules),
     }
 }
 
-// The pass over the text: every question but 1 and 12. The numbers of units and rules go into the arrays.
-pub fn ask_text(text: &[u8], units: &mut [u16], rules: &mut [u16]) -> Reading
-    requires { ⌜ (2 * maxUnits ≤ length (now units)) × (4 * maxRules ≤ length (now rules)) ⌝ }
+// The pass over the text: every question but 1 and 12. The loader numbers and the numbers of windows and rules go into the arrays.
+pub fn ask_text(text: &[u8], numbers: &mut [u16], units: &mut [u16], rules: &mut [u16]) -> Reading
+    requires { ⌜ (maxUnits ≤ length (now numbers)) × (2 * maxUnits ≤ length (now units)) × (4 * maxRules ≤ length (now rules)) ⌝ }
     ensures { λ r. ⌜ replyOf r ≡ passReply (now (text .entry)) ⌝ }
-    ensures { λ r. ⌜ Kept r (now (text .entry)) (now (units .entry)) (now (units .exit)) (now (rules .entry)) (now (rules .exit)) ⌝ }
+    ensures { λ r. ⌜ Kept r (now (text .entry)) (now (numbers .entry)) (now (numbers .exit)) (now (units .entry)) (now (units .exit))
+        (now (rules .entry)) (now (rules .exit)) ⌝ }
 {
     let grid = read_form::grid_table();
     let table = read_form::class_table();
+    let mut heads = [0u16; loaders::CHAINS];
+    let mut nexts = [0u16; Sheet::MAX_UNITS];
     let mut s = Sheet::empty();
     let mut at: usize = 0;
     let mut n: usize = 1;
     while at < text.len() {
         let found = read_line::line_at(text, at, &grid, &table);
         let line = found.line;
-        let step = line_step(s, line, units, rules);
+        let step = line_step(s, line, numbers, units, rules, &mut heads, &mut nexts);
         match step {
             Step::No(q) => {
                 return Reading::Refused(Refusal { number: q, line: n });

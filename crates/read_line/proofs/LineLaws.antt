@@ -147,16 +147,16 @@ abbrev sheetSays : Number → Line
 sheetSays (Number.Plain v next) = Sheet v
 sheetSays Number.Faulty = Refused 4
 
-abbrev unitSays : Pair → Line
-unitSays (Both v w next) = Unit v w
-unitSays Faulty = Refused 4
+abbrev pairSays : (ℕ → ℕ → Line) → Pair → Line
+pairSays line (Both v w next) = line v w
+pairSays line Faulty = Refused 4
 
-abbrev countSays : ℕ → ℕ → Pair → Line
-countSays v w (Both x y next) = Rule v w x y
-countSays v w Faulty = Refused 4
+abbrev unitSays : Number → (ℕ → Pair) → Line
+unitSays (Number.Plain v next) f = pairSays (Unit v) (f next)
+unitSays Number.Faulty f = Refused 4
 
 abbrev ruleSays : Pair → (ℕ → Pair) → Line
-ruleSays (Both v w next) f = countSays v w (f next)
+ruleSays (Both v w next) f = pairSays (Rule v w) (f next)
 ruleSays Faulty f = Refused 4
 
 pub sheet-said : (s : List ℕ) → sheetSays (numberAt s (wordLength sheetForm 0)) ≡ said (sheetContent s)
@@ -167,14 +167,41 @@ sheet-said s = go (plain (leading (drop (wordLength sheetForm 0) s))) _ _
     go true v n = refl
     go false v n = refl
 
-pub unit-said : (s : List ℕ) → let a = wordLength unitForm 0 in unitSays (pairOf (drop a s) (wordLength unitForm 1) a) ≡ said (unitContent s)
-unfolding said numbers pairOf
-unit-said s = go (plain _) (plain _) _ _ _
+-- the last two numbers of a line, past those that `line` has already
+last-two : (line : ℕ → ℕ → Line) (l : List ℕ) (k at : ℕ) → pairSays line (pairOf l k at)
+    ≡ cond (plain (leading l) && (plain (secondOf k l) && true)) (line (value (leading l)) (value (secondOf k l))) (Refused 4)
+unfolding pairOf
+last-two line l k at = go (plain (leading l)) (plain (secondOf k l)) _ _ _
   where
-    go : (p q : Bool) (v w n : ℕ) → unitSays (cond (p && q) (Both v w n) Faulty) ≡ cond (p && (q && true)) (Unit v w) (Refused 4)
-    go true true v w n = refl
-    go true false v w n = refl
-    go false q v w n = refl
+    go : (p q : Bool) (x y n : ℕ) → pairSays line (cond (p && q) (Both x y n) Faulty) ≡ cond (p && (q && true)) (line x y) (Refused 4)
+    go true true x y n = refl
+    go true false x y n = refl
+    go false q x y n = refl
+
+number-and-pair : (s : List ℕ) (a b c : ℕ) →
+    let l = drop a s in
+    let t = drop b (past l) in
+    unitSays (numberAt s a) (λ next. pairOf (drop (next + b) s) c (next + b))
+    ≡ cond (plain (leading l) && (plain (leading t) && (plain (secondOf c t) && true)))
+    (Unit (value (leading l)) (value (leading t)) (value (secondOf c t))) (Refused 4)
+unfolding numberRead
+number-and-pair s a b c = go (plain (leading (drop a s)))
+  where
+    go : (p : Bool) →
+        let l = drop a s in
+        let t = drop b (past l) in
+        unitSays (cond p (Number.Plain (value (leading l)) (a + length (leading l))) Number.Faulty) (λ next. pairOf (drop (next + b) s) c (next + b))
+        ≡ cond (p && (plain (leading t) && (plain (secondOf c t) && true)))
+        (Unit (value (leading l)) (value (leading t)) (value (secondOf c t))) (Refused 4)
+    go true = rw (past-at s a b) (last-two (Unit _) (drop b (past (drop a s))) c _)
+    go false = refl
+
+pub unit-said : (s : List ℕ) →
+    let a = wordLength unitForm 0 in
+    let b = wordLength unitForm 1 in
+    unitSays (numberAt s a) (λ next. pairOf (drop (next + b) s) (wordLength unitForm 2) (next + b)) ≡ said (unitContent s)
+unfolding said numbers
+unit-said s = number-and-pair s (wordLength unitForm 0) (wordLength unitForm 1) (wordLength unitForm 2)
 
 -- the text past two numbers, from c bytes on
 past-two : (s : List ℕ) (a b c : ℕ)
@@ -182,16 +209,6 @@ past-two : (s : List ℕ) (a b c : ℕ)
 past-two s a b c =
     let n = a + length (leading (drop a s)) + b in
     subst (λ (l : List ℕ). drop (n + length (leading l) + c) s ≡ drop c (past l)) (past-at s a b) (past-at s n c)
-
-count-law : (v w : ℕ) (l : List ℕ) (k at : ℕ) → countSays v w (pairOf l k at)
-    ≡ cond (plain (leading l) && (plain (secondOf k l) && true)) (Rule v w (value (leading l)) (value (secondOf k l))) (Refused 4)
-unfolding pairOf
-count-law v w l k at = go (plain (leading l)) (plain (secondOf k l)) _ _ _
-  where
-    go : (p q : Bool) (x y n : ℕ) → countSays v w (cond (p && q) (Both x y n) Faulty) ≡ cond (p && (q && true)) (Rule v w x y) (Refused 4)
-    go true true x y n = refl
-    go true false x y n = refl
-    go false q x y n = refl
 
 two-pairs : (s : List ℕ) (a b c d : ℕ) →
     let l = drop a s in
@@ -209,7 +226,7 @@ two-pairs s a b c d = go (plain (leading (drop a s))) (plain (secondOf b (drop a
         (λ next. pairOf (drop (next + c) s) d (next + c))
         ≡ cond (p && (q && (plain (leading t) && (plain (secondOf d t) && true))))
         (Rule (value (leading l)) (value (secondOf b l)) (value (leading t)) (value (secondOf d t))) (Refused 4)
-    go true true = rw (past-two s a b c) (count-law _ _ (drop c (past (drop b (past (drop a s))))) d _)
+    go true true = rw (past-two s a b c) (last-two (Rule _ _) (drop c (past (drop b (past (drop a s))))) d _)
     go true false = refl
     go false q = refl
 

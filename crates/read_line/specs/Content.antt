@@ -15,7 +15,7 @@ use Rattle.read_notes.specs.Note.{matched}
 pub data Content : Type 0 where
   note : Content
   sheet : (span : List ℕ) → Content
-  unit : (first last : List ℕ) → Content
+  unit : (loader first last : List ℕ) → Content
   rule : (from to low high : List ℕ) → Content
   other : Content
 
@@ -31,7 +31,7 @@ noteMatched line = matched (drop 1 line) 1
 abbrev pub bracketsMatch : Content → List ℕ → Bool
 bracketsMatch note line = noteMatched line
 bracketsMatch (sheet p) line = true
-bracketsMatch (unit f l) line = true
+bracketsMatch (unit k f l) line = true
 bracketsMatch (rule a b lo hi) line = true
 bracketsMatch other line = true
 
@@ -40,7 +40,7 @@ abbrev pub sheetContent : List ℕ → Content
 sheetContent line = sheet (getD (numbers sheetForm line) 0 [])
 
 abbrev pub unitContent : List ℕ → Content
-unitContent line = let ns = numbers unitForm line in unit (getD ns 0 []) (getD ns 1 [])
+unitContent line = let ns = numbers unitForm line in unit (getD ns 0 []) (getD ns 1 []) (getD ns 2 [])
 
 abbrev pub ruleContent : List ℕ → Content
 ruleContent line = let ns = numbers ruleForm line in rule (getD ns 0 []) (getD ns 1 []) (getD ns 2 []) (getD ns 3 [])
@@ -59,6 +59,6 @@ contentOf line = cond (isNote line) note (formContent (formOf line) line)
 abbrev pub numbersIn : Content → List (List ℕ)
 numbersIn note = []
 numbersIn (sheet p) = p ∷ []
-numbersIn (unit f l) = f ∷ l ∷ []
+numbersIn (unit k f l) = k ∷ f ∷ l ∷ []
 numbersIn (rule a b lo hi) = a ∷ b ∷ lo ∷ hi ∷ []
 numbersIn other = []

@@ -16,7 +16,7 @@ use Rattle.read_line.specs.declared.Pair.the-variants.{Both, Faulty}
 abbrev pub valuesOf : Content → Line
 valuesOf note = Note
 valuesOf (sheet p) = Sheet (value p)
-valuesOf (unit f l) = Unit (value f) (value l)
+valuesOf (unit k f l) = Unit (value k) (value f) (value l)
 valuesOf (rule a b lo hi) = Rule (value a) (value b) (value lo) (value hi)
 valuesOf other = Refused 3
 

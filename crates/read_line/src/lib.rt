@@ -19,7 +19,7 @@ pub enum Line {
     Refused(usize),
     Note,
     Sheet(u16),
-    Unit(u16, u16),
+    Unit(u16, u16, u16),
     Rule(u16, u16, u16, u16),
 }
 
@@ -145,14 +145,23 @@ fn sheet_line(s: &[u8]) -> Line
 fn unit_line(s: &[u8]) -> Line
     ensures { λ r. ⌜ r ≡ said (unitContent (now (s .entry))) ⌝ }
 {
-    let window = pair_at(s, tables::UNIT_WORD_1, tables::UNIT_WORD_2);
-    match window {
-        Pair::Both {
-            first,
-            second,
-            next: _,
-        } => Line::Unit(first, second),
-        Pair::Faulty => Line::Refused(4),
+    let number = read_form::number_at(s, tables::UNIT_WORD_1);
+    match number {
+        Number::Plain {
+            value: loader,
+            next,
+        } => {
+            let window = pair_at(s, next + tables::UNIT_WORD_2, tables::UNIT_WORD_3);
+            match window {
+                Pair::Both {
+                    first,
+                    second: last,
+                    next: _,
+                } => Line::Unit(loader, first, last),
+                Pair::Faulty => Line::Refused(4),
+            }
+        }
+        Number::Faulty => Line::Refused(4),
     }
 }
 

@@ -1,39 +1,57 @@
 -- The lines, one after the other, and then question 5 of the text.
--- Key idea: at each line's start what is left to ask decides the whole, and the arrays hold the numbers of the lines before (`Asking`).
+-- Key idea: at each line's start what is left to ask decides the whole, the arrays hold the numbers of the lines before (`Asking`), and the loader numbers
+-- are in their chains (`Chained`).
 use Prim.Native.Nat.{ℕ, _+_, _-_, _*_}
-use mathlib.Core.Path.{_≡_, sym, ap, _∙_}
+use mathlib.Core.Path.{_≡_, refl, sym, ap, subst, _∙_}
 use native.Mathlib.Omega.{arith}
-use lib.ListN.{length}
+use lib.ListN.{length, replicate}
+use Rattle.sheet.specs.Sizes.{maxUnits}
 use Rattle.sheet.specs.declared.Sheet.{Sheet}
+use Rattle.loaders.specs.ChainLaws.{linked-none}
 use Rattle.read_ask.specs.Reading.{refused}
-use Rattle.read_ask.specs.Steps.{passReply, keptBy, unitPart, rulePart}
+use Rattle.read_ask.specs.Steps.{passReply, keptBy, loaderPart, unitPart, rulePart, Chained, ChainedBy}
 use Rattle.read_ask.specs.declared.Step.{Step}
 use Rattle.read_ask.specs.declared.Step.the-variants.{No, On}
 use Rattle.read_ask.proofs.ReadLaws.{Asking, asking-start, asking-no, asking-on, asking-none, asking-sheet}
-use Rattle.read_ask.proofs.ReadLaws.{units-kept, rules-kept, units-size, rules-size}
+use Rattle.read_ask.proofs.ReadLaws.{numbers-kept, units-kept, rules-kept, numbers-size, units-size, rules-size}
 use Rattle.read_ask.proofs.ask_text.Statement.{statement}
 use Rattle.read_ask.proofs.ask_text.Tie as tie
 
 abbrev Inv-loop : tie.InvT-loop
-Inv-loop text units₀ rules₀ grid table s₀ at₀ n₀ units rules s at n = Asking text at n s units₀ units rules₀ rules
+Inv-loop text numbers₀ units₀ rules₀ grid table heads₀ nexts₀ s₀ at₀ n₀ numbers units rules heads nexts s at n =
+    Asking text at n s numbers₀ numbers units₀ units rules₀ rules × Chained s numbers heads nexts
 
 abbrev μ-loop : tie.MeasureT-loop
-μ-loop text units₀ rules₀ grid table s₀ at₀ n₀ units rules s at n = length text - at
+μ-loop text numbers₀ units₀ rules₀ grid table heads₀ nexts₀ s₀ at₀ n₀ numbers units rules heads nexts s at n = length text - at
 
--- the places: past the line's step, the turn it is made in, the loop's head and the function's start
-abbrev in-turn : tie.After-slice-known4 Inv-loop μ-loop → tie.In-loop Inv-loop μ-loop
-in-turn c = c .before .before .before .before .before .before .before .before .before .before
+-- the places: past the line's step, the step, the line that was found, the turn it is made in, the loop's head and the function's start
+abbrev stepped : tie.After-nexts2 Inv-loop μ-loop → tie.After-line-step Inv-loop μ-loop
+stepped c = c .before .before .before .before .before .before .before .before
 
-abbrev at-head : tie.After-slice-known4 Inv-loop μ-loop → tie.At-loop Inv-loop μ-loop
+abbrev found : tie.After-line-step Inv-loop μ-loop → tie.After-line-at Inv-loop μ-loop
+found c = c .before .before .before .before .before .before
+
+abbrev in-turn : tie.After-line-at Inv-loop μ-loop → tie.In-loop Inv-loop μ-loop
+in-turn c = c .before .before .before
+
+abbrev at-head : tie.After-line-at Inv-loop μ-loop → tie.At-loop Inv-loop μ-loop
 at-head c = in-turn c .before
 
 abbrev start : tie.At-loop Inv-loop μ-loop → tie.Start Inv-loop μ-loop
-start c = c .before .before .before .before .before .before .before
+start c = c .before .before .before .before .before .before .before .before
 
 loop-holds : tie.Need-loop-holds Inv-loop μ-loop
 loop-holds c =
-    let a = c .before .before .before .before .before .before .args in
-    asking-start (a .text .now) (c .empty .result) (a .units .now) (a .rules .now) (c .empty .ensures)
+    let z = c .before .before .before .before .before .before .before in
+    let a = z .args in (
+      asking-start (a .text .now) (c .empty .result) (a .numbers .now) (a .units .now) (a .rules .now) (c .empty .ensures),
+      rw (c .empty .ensures) (record {
+        few-units = omega arith;
+        in-numbers = z .pre .0;
+        in-nexts = refl;
+        linked = linked-none (a .numbers .now) (replicate maxUnits 0);
+      }),
+    )
 
 line-at-requires : tie.Need-line-at-requires Inv-loop μ-loop
 line-at-requires c κs =
@@ -42,73 +60,94 @@ line-at-requires c κs =
 
 line-step-requires : tie.Need-line-step-requires Inv-loop μ-loop
 line-step-requires c κs =
-    let l = c .before .before .before .before .before .before .loop in
-    let p = start (c .before .before .before .before .before .before) .pre in
-    (omega (arith, p .0, units-size _ _ _ _ _ _ _ _ (l .inv)), omega (arith, p .1, rules-size _ _ _ _ _ _ _ _ (l .inv)))
+    let h = at-head (c .before .before .before .before .before) in
+    let p = start h .pre in
+    let i = h .loop .inv in
+    (i .1, omega (arith, p .1, units-size _ _ _ _ _ _ _ _ _ _ (i .0)), omega (arith, p .2, rules-size _ _ _ _ _ _ _ _ _ _ (i .0)))
 
 -- what the line's step means, where it was made
-refuses : (c : tie.After-slice-known4 Inv-loop μ-loop) (q : ℕ) → c .before .before .before .before .line-step .result ≡ No q
-    → refused q (at-head c .loop .n) ≡ passReply (start (at-head c) .args .text .now)
+refuses : (c : tie.After-nexts2 Inv-loop μ-loop) (q : ℕ) → stepped c .line-step .result ≡ No q →
+    let h = at-head (found (stepped c)) in
+    refused q (h .loop .n) ≡ passReply (start h .args .text .now)
 refuses c q e =
-    let l = at-head c .loop in
-    let f = c .before .before .before .before .before .before .before .line-at in
-    asking-no _ _ _ _ _ _ _ _ (l .inv) (f .result .next) (in-turn c .loop-test .taken) (f .ensures .1) (f .result .line) (f .ensures .0) q
-    (sym (c .before .before .before .before .line-step .ensures .0) ∙ e)
+    let r = stepped c in
+    let f = found r in
+    let h = at-head f in
+    asking-no _ _ _ _ _ _ _ _ _ _ (h .loop .inv .0) (start h .pre .0) (f .line-at .result .next) (in-turn f .loop-test .taken) (f .line-at .ensures .1)
+    (f .line-at .result .line) (f .line-at .ensures .0) q (sym (r .line-step .ensures .0) ∙ e)
 
-goes-on : (c : tie.After-slice-known4 Inv-loop μ-loop) (m : Sheet) → c .before .before .before .before .line-step .result ≡ On m →
-    let l = at-head c .loop in
-    let a = start (at-head c) .args in
-    let r = c .before .before .before .before .line-step in
-    Asking (a .text .now) (c .before .before .before .before .before .before .before .line-at .result .next) (l .n + 1) m (a .units .now) (r .last .1 .1 .0)
-    (a .rules .now) (r .last .1 .1 .1 .0)
+goes-on : (c : tie.After-nexts2 Inv-loop μ-loop) (m : Sheet) → stepped c .line-step .result ≡ On m →
+    let f = found (stepped c) in
+    let l = at-head f .loop in
+    let a = start (at-head f) .args in
+    let k = stepped c .line-step .last .1 .1 in
+    Asking (a .text .now) (f .line-at .result .next) (l .n + 1) m (a .numbers .now) (k .0) (a .units .now) (k .1 .0) (a .rules .now) (k .1 .1 .0)
+    × Chained m (k .0) (k .1 .1 .1 .0) (k .1 .1 .1 .1 .0)
 goes-on c m e =
-    let l = at-head c .loop in
-    let f = c .before .before .before .before .before .before .before .line-at in
-    let r = c .before .before .before .before .line-step in
-    asking-on _ _ _ _ _ _ _ _ (l .inv) (f .result .next) (in-turn c .loop-test .taken) (f .ensures .1) (f .result .line) (f .ensures .0) m
-    (r .last .1 .1 .0) (r .last .1 .1 .1 .0) (sym (r .ensures .0) ∙ e)
-    (r .ensures .1 .0 ∙ ap (λ (o : Step). keptBy o (l .units) (2 * l .s .units) (unitPart (f .result .line))) e)
-    (r .ensures .1 .1 ∙ ap (λ (o : Step). keptBy o (l .rules) (4 * l .s .rules) (rulePart (f .result .line))) e)
+    let r = stepped c .line-step in
+    let f = found (stepped c) in
+    let h = at-head f in
+    let l = h .loop in
+    let x = f .line-at .result .line in
+    let k = r .last .1 .1 in
+    let p = r .ensures .1 .1 in (
+      asking-on _ _ _ _ _ _ _ _ _ _ (l .inv .0) (start h .pre .0) (f .line-at .result .next) (in-turn f .loop-test .taken) (f .line-at .ensures .1)
+          x (f .line-at .ensures .0) m (k .0) (k .1 .0) (k .1 .1 .0) (sym (r .ensures .0) ∙ e)
+          (p .0 ∙ ap (λ (o : Step). keptBy o (l .numbers) (l .s .units) (loaderPart x)) e)
+          (p .1 .0 ∙ ap (λ (o : Step). keptBy o (l .units) (2 * l .s .units) (unitPart x)) e)
+          (p .1 .1 ∙ ap (λ (o : Step). keptBy o (l .rules) (4 * l .s .rules) (rulePart x)) e),
+      subst (λ (o : Step). ChainedBy o (k .0) (k .1 .1 .1 .0) (k .1 .1 .1 .1 .0)) e (r .ensures .1 .0),
+    )
 
 same-length : tie.Need-same-length Inv-loop μ-loop
-same-length c = c .before .before .before .before .before .before .before .line-step .kept .1 .1 .0
-    ∙ units-size _ _ _ _ _ _ _ _ (at-head (c .before .before .before) .loop .inv)
+same-length c =
+    let r = stepped (c .before .before .before) in
+    r .line-step .kept .1 .1 .0 ∙ numbers-size _ _ _ _ _ _ _ _ _ _ (at-head (found r) .loop .inv .0)
 
 same-length-2 : tie.Need-same-length-2 Inv-loop μ-loop
-same-length-2 c = c .before .before .before .before .before .before .before .line-step .kept .1 .1 .1 .0
-    ∙ rules-size _ _ _ _ _ _ _ _ (at-head (c .before .before .before) .loop .inv)
+same-length-2 c =
+    let r = stepped (c .before .before .before) in
+    r .line-step .kept .1 .1 .1 .0 ∙ units-size _ _ _ _ _ _ _ _ _ _ (at-head (found r) .loop .inv .0)
+
+same-length-3 : tie.Need-same-length-3 Inv-loop μ-loop
+same-length-3 c =
+    let r = stepped (c .before .before .before) in
+    r .line-step .kept .1 .1 .1 .1 .0 ∙ rules-size _ _ _ _ _ _ _ _ _ _ (at-head (found r) .loop .inv .0)
 
 add-n : tie.Need-add-n Inv-loop μ-loop
 add-n c =
-    let l = at-head (c .before .before .before) in
-    omega (arith, l .loop .inv .number, l .loop .inv .place, in-turn (c .before .before .before) .loop-test .taken, start l .good .0 .1)
+    let f = found (stepped (c .before .before .before)) in
+    let i = at-head f .loop .inv .0 in
+    omega (arith, i .number, i .place, in-turn f .loop-test .taken, start (at-head f) .good .0 .1)
 
 loop-less : tie.Need-loop-less Inv-loop μ-loop
-loop-less c = omega (
-  arith,
-  c .before .before .before .before .before .before .before .before .before .before .line-at .ensures .1,
-  in-turn
-      (c .before .before .before) .loop-test .taken,
-)
+loop-less c = let f = found (stepped (c .before .before .before)) in omega (arith, f .line-at .ensures .1, in-turn f .loop-test .taken)
 
 returns-3 : tie.Need-returns-3 Inv-loop μ-loop
 returns-3 c =
-    let l = c .before .before .before .loop in
+    let i = c .before .before .before .loop .inv .0 in
     let h = c .before .before .loop-test .left in (
-      asking-sheet _ _ _ _ _ _ _ _ (l .inv) h (c .if1 .left),
+      asking-sheet _ _ _ _ _ _ _ _ _ _ i h (c .if1 .left),
       record {
-        few-units = l .inv .counts .few-units;
-        few-rules = l .inv .counts .few-rules;
-        in-units = units-kept _ _ _ _ _ _ _ _ (l .inv) h;
-        in-rules = rules-kept _ _ _ _ _ _ _ _ (l .inv) h;
+        few-units = i .counts .few-units;
+        few-rules = i .counts .few-rules;
+        in-numbers = numbers-kept _ _ _ _ _ _ _ _ _ _ i h;
+        in-units = units-kept _ _ _ _ _ _ _ _ _ _ i h;
+        in-rules = rules-kept _ _ _ _ _ _ _ _ _ _ i h;
       },
     )
 
 pub ask-text-spec : {M : Type 1} → statement M
-ask-text-spec = tie.close (tie.spec Inv-loop μ-loop (λ c κs. tt) (λ c κs. tt) (λ c κs. tt) loop-holds line-at-requires line-step-requires
-    (λ c. c .match .keys1) same-length same-length-2 (λ c. (refuses (c .before .before .before) _ (c .before .step .given .1), tt))
+ask-text-spec = tie.close (tie.spec Inv-loop μ-loop (λ c κs. tt) (λ c κs. tt) (λ c κs. tt) loop-holds line-at-requires
+    (λ c. sym (at-head (c .before .before .before .before) .loop .inv .1 .linked .wide))
+    (λ c. sym (at-head (c .before .before .before .before .before) .loop .inv .1 .in-nexts)) line-step-requires
+    (λ c. c .match .keys1) same-length same-length-2 same-length-3 (λ c. (refuses (c .before .before .before) _ (c .before .step .given .1), tt))
     (λ c. c .match .keys2) add-n loop-less (λ c. goes-on (c .before .before .before) _ (c .before .step2 .given .1))
-    (λ c. units-size _ _ _ _ _ _ _ _ (c .before .before .before .loop .inv)) (λ c. rules-size _ _ _ _ _ _ _ _ (c .before .before .before .loop .inv))
-    (λ c. (asking-none _ _ _ _ _ _ _ _ (c .before .before .before .loop .inv) (c .before .before .loop-test .left) (c .if1 .taken), tt))
-    (λ c. units-size _ _ _ _ _ _ _ _ (c .before .before .before .loop .inv)) (λ c. rules-size _ _ _ _ _ _ _ _ (c .before .before .before .loop .inv))
+    (λ c. numbers-size _ _ _ _ _ _ _ _ _ _ (c .before .before .before .loop .inv .0))
+    (λ c. units-size _ _ _ _ _ _ _ _ _ _ (c .before .before .before .loop .inv .0))
+    (λ c. rules-size _ _ _ _ _ _ _ _ _ _ (c .before .before .before .loop .inv .0))
+    (λ c. (asking-none _ _ _ _ _ _ _ _ _ _ (c .before .before .before .loop .inv .0) (c .before .before .loop-test .left) (c .if1 .taken), tt))
+    (λ c. numbers-size _ _ _ _ _ _ _ _ _ _ (c .before .before .before .loop .inv .0))
+    (λ c. units-size _ _ _ _ _ _ _ _ _ _ (c .before .before .before .loop .inv .0))
+    (λ c. rules-size _ _ _ _ _ _ _ _ _ _ (c .before .before .before .loop .inv .0))
     returns-3)
