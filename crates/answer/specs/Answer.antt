@@ -5,7 +5,7 @@ use mathlib.Core.List.{List}
 use Prim.Native.Nat.{ℕ}
 use lib.Dec.{T}
 use Rattle.network.specs.Table.{Passed, finished, stopped}
-use Rattle.sheet.specs.Sheet.{Sheet, isRing}
+use Rattle.sheet.specs.Sheet.{Sheet, WrittenSheet, plain, loaders, isRing}
 use Rattle.questions.specs.Questions.{Verdict, no, allYes, firstNo}
 use Rattle.read_ask.specs.Reading.{questions, roomsForAll, sheetIn}
 use Rattle.plan_solve.specs.Planning.{passed}
@@ -16,18 +16,18 @@ use Rattle.print.specs.Printing.{planBytes, ringBytes}
 abbrev pub maxRefusal : ℕ
 maxRefusal = 26
 
--- the answer to a sheet, by the pass over its limits: the page of its plan, or the page of a ring, which may be any
-abbrev pub ByPass : Passed → Sheet → List ℕ → Type 0
-ByPass (finished t) s bytes = bytes ≡ planBytes s
-ByPass stopped s bytes = (ring : List ℕ) × T (isRing s ring) × (bytes ≡ ringBytes s ring)
+-- the answer to a sheet whose units have these loader numbers, by the pass over its limits: the page of its plan, or the page of a ring, which may be any
+abbrev pub ByPass : Passed → List ℕ → Sheet → List ℕ → Type 0
+ByPass (finished t) ks s bytes = bytes ≡ planBytes ks s
+ByPass stopped ks s bytes = (ring : List ℕ) × T (isRing s ring) × (bytes ≡ ringBytes s ring)
 
-abbrev pub AnswerToSheet : Sheet → List ℕ → Type 0
-AnswerToSheet s bytes = ByPass (passed s) s bytes
+abbrev pub AnswerToSheet : List ℕ → Sheet → List ℕ → Type 0
+AnswerToSheet ks s bytes = ByPass (passed s) ks s bytes
 
 -- the answer by reading's first no, or to the sheet that was read
-abbrev pub ByReading : Verdict → Sheet → List ℕ → Type 0
-ByReading (no number line) s bytes = bytes ≡ refusedLine number line
-ByReading allYes s bytes = AnswerToSheet s bytes
+abbrev pub ByReading : Verdict → WrittenSheet → List ℕ → Type 0
+ByReading (no number line) w bytes = bytes ≡ refusedLine number line
+ByReading allYes w bytes = AnswerToSheet (loaders w) (plain w) bytes
 
 -- the answer to a text, with rooms for every sheet
 abbrev pub AnswerTo : List ℕ → List ℕ → Type 0

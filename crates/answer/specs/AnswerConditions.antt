@@ -8,16 +8,14 @@ use mathlib.Core.List.{List, [], _∷_}
 use Prim.Native.Nat.{ℕ, _≤_}
 use native.Mathlib.Omega.{arith}
 use lib.Dec.{T}
-use lib.ListN.{length}
-use Rattle.lists.specs.Members.{within-iff}
+use lib.ListN.{length, length-map}
 use Rattle.network.specs.Table.{Passed, finished, stopped, entry}
-use Rattle.sheet.specs.Sheet.{Sheet, lawful, boundaries, printedPlan}
-use Rattle.sheet.specs.Questions.{accepted}
+use Rattle.sheet.specs.Sheet.{Sheet, WrittenSheet, plain, loaders, lawful, boundaries, printedPlan}
 use Rattle.sheet.specs.QuestionLaws.{accepted-valid}
 use Rattle.read_ask.specs.Reading.{questions, roomsForAll, sheetIn}
 use Rattle.questions.specs.Questions.{Verdict, no, allYes, firstNo}
-use Rattle.read_ask.specs.AcceptedLaws.{reading-accepts}
-use Rattle.read_ask.specs.RefusalLaws.{reading-refusals}
+use Rattle.read_ask.specs.AcceptedLaws.{reading-accepts, reading-loaders}
+use Rattle.read_ask.specs.RefusalLaws.{asksText, reading-refusals}
 use Rattle.plan_solve.specs.Planning.{passed}
 use Rattle.plan_solve.specs.PlanningLaws.{passed-solved}
 use Rattle.print_page.specs.Page.{maxPage}
@@ -28,7 +26,7 @@ use Rattle.print.specs.Printing.{planBytes, ringBytes}
 use Rattle.print.specs.Pages.{PlanPage, NonePage}
 use Rattle.print.specs.PagesLaws.{plan-page, none-page}
 use Rattle.answer.specs.Answer.{ByPass, ByReading, AnswerTo, Answered}
-use Rattle.answer.specs.AnswerLaws.{refused-short}
+use Rattle.answer.specs.AnswerLaws.{refused-short, two-digits}
 
 -- the question that refuses a text, by number and line, or that every answer is yes
 abbrev pub verdict : List ℕ → Verdict
@@ -39,19 +37,29 @@ bytes-short : (input bytes : List ℕ) → AnswerTo input bytes → length bytes
 unfolding planBytes ringBytes
 bytes-short input bytes = by-reading (verdict input) refl
   where
-    by-pass : (p : Passed) → T (accepted (sheetIn input)) → ByPass p (sheetIn input) bytes → length bytes ≤ maxPage
-    by-pass (finished t) ok a = omega (arith, ap length a, plan-short (sheetIn input) ok)
-    by-pass stopped ok a = omega (arith, ap length (a .2), none-short (sheetIn input) ok (a .0) (a .1))
+    abbrev w : WrittenSheet
+    w = sheetIn input
 
-    by-reading : (v : Verdict) → verdict input ≡ v → ByReading v (sheetIn input) bytes → length bytes ≤ maxPage
+    by-pass : (p : Passed) → verdict input ≡ allYes → ByPass p (loaders w) (plain w) bytes → length bytes ≤ maxPage
+    by-pass (finished t) e a =
+        omega (arith, ap length a, plan-short (plain w) (reading-accepts input roomsForAll e) (loaders w) (reading-loaders input roomsForAll e))
+    by-pass stopped e a = omega (arith, ap length (a .2), none-short (plain w) (reading-accepts input roomsForAll e) (a .0) (a .1))
+
+    by-reading : (v : Verdict) → verdict input ≡ v → ByReading v w bytes → length bytes ≤ maxPage
     by-reading (no n l) e a =
         let r = reading-refusals input n l e in
-        omega (arith, ap length a, refused-short n l (omega (arith, within-iff 1 11 n .0 (r .number-known) .1)) (r .line-known))
-    by-reading allYes e a = by-pass (passed (sheetIn input)) (reading-accepts input roomsForAll e) a
+        omega (arith, ap length a, refused-short n l (two-digits n (r .number-known)) (r .line-known))
+    by-reading allYes e a = by-pass (passed (plain w)) e a
 
 module _ (input page left : List ℕ) (next : ℕ) (call : Answered (AnswerTo input) page left next) (size : length page ≡ maxPage) where
+  abbrev pub w : WrittenSheet
+  w = sheetIn input
+
+  abbrev pub ks : List ℕ
+  ks = loaders w
+
   abbrev pub s : Sheet
-  s = sheetIn input
+  s = plain w
 
   abbrev pub lines : List Said
   lines = answerOn left 0 next
@@ -63,7 +71,7 @@ module _ (input page left : List ℕ) (next : ℕ) (call : Answered (AnswerTo in
 
   -- A text that reading refuses has the page of that refusal, one line with the first no's number and line.
   pub page-of-a-refusal : (q n : ℕ) → verdict input ≡ no q n → lines ≡ refused q n ∷ []
-  page-of-a-refusal q n e = sym lines-are ∙ ap readLines (subst (λ v. ByReading v s (call .bytes)) e (call .answers)) ∙ refused-read q n
+  page-of-a-refusal q n e = sym lines-are ∙ ap readLines (subst (λ v. ByReading v w (call .bytes)) e (call .answers)) ∙ refused-read q n
 
   -- No answer is longer than the page that the program lends.
   pub answer-short : next ≤ maxPage
@@ -71,21 +79,22 @@ module _ (input page left : List ℕ) (next : ℕ) (call : Answered (AnswerTo in
 
   -- ---- how a text that is not refused is answered: by a plan or by a ring
   data Way : Type 0 where
-    plan : PlanPage s (printedPlan s) lines → Way
+    plan : PlanPage ks s (printedPlan s) lines → Way
     none : (ring : List ℕ) → NonePage s ring lines → Way
 
   way : verdict input ≡ allYes → Way
-  way e = go (passed s) refl (subst (λ v. ByReading v s (call .bytes)) e (call .answers))
+  way e = go (passed s) refl (subst (λ v. ByReading v w (call .bytes)) e (call .answers))
     where
-      go : (p : Passed) → passed s ≡ p → ByPass p s (call .bytes) → Way
+      go : (p : Passed) → passed s ≡ p → ByPass p ks s (call .bytes) → Way
       go (finished t) f b =
-          plan (subst (PlanPage s (printedPlan s)) (ap readLines (sym b) ∙ lines-are)
-          (plan-page s (entry (boundaries s) t) (passed-solved s (accepted-valid s (reading-accepts input roomsForAll e)) t f)))
+          plan (subst (PlanPage ks s (printedPlan s)) (ap readLines (sym b) ∙ lines-are)
+          (plan-page ks s (entry (boundaries s) t) (passed-solved s (accepted-valid s (reading-accepts input roomsForAll e)) t f)
+          (reading-loaders input roomsForAll e) (length-map (w .units) (λ u. u .loader) ∙ sym (length-map (w .units) (λ u. u .window)))))
       go stopped f b = none (b .0) (subst (NonePage s (b .0)) (ap readLines (sym (b .2)) ∙ lines-are) (none-page s (b .0) (b .1)))
 
-  -- No text is refused by 12, and none by 15.
-  never : (q n : ℕ) → lines ≡ refused q n ∷ [] → (q ≤ 11 → ⊥) → ⊥
-  never q n f small = by-reading (verdict input) refl
+  -- No text is refused by 12, and none by 15: a refusal is by a question that is asked of every text.
+  never : (q n : ℕ) → lines ≡ refused q n ∷ [] → (T (asksText q) → ⊥) → ⊥
+  never q n f other = by-reading (verdict input) refl
     where
       by-way : Way → ⊥
       by-way (plan p) = let e = p .lines in let z : _≡_ {A = ℕ} 0 1 = cc in omega arith
@@ -95,23 +104,23 @@ module _ (input page left : List ℕ) (next : ℕ) (call : Answered (AnswerTo in
       by-reading (no k l) e =
           let g = page-of-a-refusal k l e in
           let same : k ≡ q = cc in
-          small (omega (arith, same, within-iff 1 11 k .0 (reading-refusals input k l e .number-known) .1))
+          other (subst (λ i. T (asksText i)) same (reading-refusals input k l e .number-known))
       by-reading allYes e = by-way (way e)
 
   pub never-12 : (n : ℕ) → lines ≡ refused 12 n ∷ [] → ⊥
-  never-12 n f = never 12 n f (λ h. omega arith)
+  never-12 n f = never 12 n f (λ h. h)
 
   pub never-15 : (n : ℕ) → lines ≡ refused 15 n ∷ [] → ⊥
-  never-15 n f = never 15 n f (λ h. omega arith)
+  never-15 n f = never 15 n f (λ h. h)
 
   -- ---- 2 and 3. A text that is not refused
   module _ (all-yes : verdict input ≡ allYes) where
     -- gets the page of a plan exactly when some assignment meets all windows and all rules of the sheet in the text. What the page says, whole, is
     -- `PlanPage`: the plan is lawful, has the seat property, and by the end of each slot no lawful plan has more; each narrowed window and each slot's range.
-    pub plan-exactly-when-lawful : ((x : List ℕ) × PlanPage s x lines) ↔ ((x : List ℕ) × T (lawful s x))
+    pub plan-exactly-when-lawful : ((x : List ℕ) × PlanPage ks s x lines) ↔ ((x : List ℕ) × T (lawful s x))
     plan-exactly-when-lawful = (λ p. (p .0, p .1 .legal), λ x. go (x .0) (x .1) (way all-yes))
       where
-        go : (x : List ℕ) → T (lawful s x) → Way → (x : List ℕ) × PlanPage s x lines
+        go : (x : List ℕ) → T (lawful s x) → Way → (x : List ℕ) × PlanPage ks s x lines
         go x h (plan p) = (printedPlan s, p)
         go x h (none ring p) = absurd (p .unlawful x h)
 

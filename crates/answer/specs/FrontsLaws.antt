@@ -9,13 +9,14 @@ use lib.Dec.{T, eqb, eqb-refl}
 use lib.ListN.{length, take, drop, length-append, length-map}
 use lib.Seq.{take-at}
 use Rattle.lists.specs.Members.{both}
-use Rattle.sheet.specs.Sheet.{Window, Rule, Sheet}
-use Rattle.sheet.specs.Questions.{windowsOf, rulesOf, sheetOf, listsAgree, accepted}
+use Rattle.sheet.specs.Sheet.{Window, Rule, WrittenSheet, plain, loaders}
+use Rattle.sheet.specs.Questions.{windowsOf, rulesOf, sheetOf, listsAgree, accepted, loadersFit}
 use Rattle.sheet.specs.declared.Sheet.{Sheet as Read}
 use Rattle.read_ask.specs.Reading.{ListRooms, read}
 use Rattle.lists.specs.Lists.{onFront}
 use Rattle.read.specs.Rooms.{leaves}
-use Rattle.sheet.specs.Lists.{Lists, listed, given, agree}
+use Rattle.sheet.specs.Lists.{WrittenLists, written, givenBy, agree}
+use Rattle.plan_ask.specs.SolvableLaws.{Listed}
 use Rattle.answer.specs.Fronts.{fronts, Held}
 
 -- ---- a sheet in parallel lists is the sheet again
@@ -28,21 +29,23 @@ rules-back : (rs : List Rule) → rulesOf (map (λ r. r .from) rs) (map (λ r. r
 rules-back [] = refl
 rules-back (x ∷ xs) = ap (λ r. x ∷ r) (rules-back xs)
 
-abbrev listsOf : Sheet → Lists
-listsOf s =
-    listed (s .span) (map (λ w. w .first) (s .units)) (map (λ w. w .last) (s .units))
+abbrev listsOf : WrittenSheet → WrittenLists
+listsOf w =
+    let s = plain w in
+    written (s .span) (loaders w) (map (λ v. v .first) (s .units)) (map (λ v. v .last) (s .units))
     (map (λ r. r .from) (s .rules)) (map (λ r. r .to) (s .rules)) (map (λ r. r .low) (s .rules)) (map (λ r. r .high) (s .rules))
 
-given-back : (s : Sheet) → given (listsOf s) ≡ s
+given-back : (w : WrittenSheet) → givenBy (listsOf w) ≡ plain w
 unfolding sheetOf
-given-back s = rw (windows-back (s .units), rules-back (s .rules)) refl
+given-back w = rw (windows-back (plain w .units), rules-back (w .rules)) refl
 
 same-length : {A : Type 0} (xs : List A) (f g : A → ℕ) → T (eqb (length (map f xs)) (length (map g xs)))
 same-length xs f g = subst (λ k. T (eqb (length (map f xs)) k)) (length-map xs f ∙ sym (length-map xs g)) (eqb-refl (length (map f xs)))
 
-agree-back : (s : Sheet) → T (agree (listsOf s))
+agree-back : (w : WrittenSheet) → T (agree (listsOf w .plain))
 unfolding listsAgree
-agree-back s =
+agree-back w =
+    let s = plain w in
     let a = eqb (length (map (λ w. w .last) (s .units))) (length (map (λ w. w .first) (s .units))) in
     let b = eqb (length (map (λ r. r .to) (s .rules))) (length (map (λ r. r .from) (s .rules))) in
     let c = eqb (length (map (λ r. r .low) (s .rules))) (length (map (λ r. r .from) (s .rules))) in
@@ -50,6 +53,15 @@ agree-back s =
     both a (b && (c && d)) (same-length (s .units) (λ w. w .last) (λ w. w .first))
     (both b (c && d) (same-length (s .rules) (λ r. r .to) (λ r. r .from))
     (both c d (same-length (s .rules) (λ r. r .low) (λ r. r .from)) (same-length (s .rules) (λ r. r .high) (λ r. r .from))))
+
+-- a sheet that reading accepts passes planning's questions
+passes-back : (w : WrittenSheet) → T (accepted (plain w)) → T (loadersFit (loaders w)) → Listed (listsOf w)
+passes-back w ok fit = record {
+  as-many = length-map (w .units) (λ u. u .loader) ∙ sym (length-map (w .units) (λ u. u .window)) ∙ sym (length-map (plain w .units) (λ v. v .first));
+  lists = agree-back w;
+  sheet = subst (λ s. T (accepted s)) (sym (given-back w)) ok;
+  loaders = fit;
+}
 
 -- ---- the front of each room
 module _ {A : Type 0} (f : A → ℕ) (xs : List A) (n : ℕ) (e : n ≡ length xs) (room : List ℕ) where
@@ -59,34 +71,42 @@ module _ {A : Type 0} (f : A → ℕ) (xs : List A) (n : ℕ) (e : n ≡ length 
   front-fits : n ≤ length (onFront (map f xs) room)
   front-fits = omega (arith, e, length-map xs f, length-append (map f xs) (drop (length (map f xs)) room))
 
-module _ (s : Sheet) (t : Read) (span : t .span ≡ s .span) (units : t .units ≡ length (s .units)) (rules : t .rules ≡ length (s .rules))
+module _ (w : WrittenSheet) (t : Read) (span : t .span ≡ w .span) (units : t .units ≡ length (w .units)) (rules : t .rules ≡ length (w .rules))
     (m : ListRooms (List ℕ)) where
   abbrev left : ListRooms (List ℕ)
-  left = leaves (read 0 0 0) s m
+  left = leaves (read 0 0 0) w m
 
-  fronts-are : fronts t left ≡ listsOf s
+  -- as many windows as units
+  windows : t .units ≡ length (plain w .units)
+  windows = units ∙ sym (length-map (w .units) (λ u. u .window))
+
+  fronts-are : fronts t left ≡ listsOf w
   fronts-are =
       rw (
         span,
-        front (λ w. w .first) (s .units) (t .units) units (m .first),
-        front (λ w. w .last) (s .units) (t .units) units (m .last),
-        front (λ r. r .from) (s .rules) (t .rules) rules (m .from),
-        front (λ r. r .to) (s .rules) (t .rules) rules (m .to),
-        front (λ r. r .low) (s .rules) (t .rules) rules (m .low),
-        front (λ r. r .high) (s .rules) (t .rules) rules (m .high),
+        front (λ u. u .loader) (w .units) (t .units) units (m .loader),
+        front (λ v. v .first) (plain w .units) (t .units) windows (m .first),
+        front (λ v. v .last) (plain w .units) (t .units) windows (m .last),
+        front (λ r. r .from) (w .rules) (t .rules) rules (m .from),
+        front (λ r. r .to) (w .rules) (t .rules) rules (m .to),
+        front (λ r. r .low) (w .rules) (t .rules) rules (m .low),
+        front (λ r. r .high) (w .rules) (t .rules) rules (m .high),
       ) refl
 
-  pub held : T (accepted s) → Held t left
-  held ok = record {
-    in-first = front-fits (λ w. w .first) (s .units) (t .units) units (m .first);
-    in-last = front-fits (λ w. w .last) (s .units) (t .units) units (m .last);
-    in-from = front-fits (λ r. r .from) (s .rules) (t .rules) rules (m .from);
-    in-to = front-fits (λ r. r .to) (s .rules) (t .rules) rules (m .to);
-    in-low = front-fits (λ r. r .low) (s .rules) (t .rules) rules (m .low);
-    in-high = front-fits (λ r. r .high) (s .rules) (t .rules) rules (m .high);
-    lists = subst (λ l. T (agree l)) (sym fronts-are) (agree-back s);
-    sheet = subst (λ l. T (accepted (given l))) (sym fronts-are) (subst (λ q. T (accepted q)) (sym (given-back s)) ok);
+  pub held : T (accepted (plain w)) → T (loadersFit (loaders w)) → Held t left
+  held ok fit = record {
+    in-loader = front-fits (λ u. u .loader) (w .units) (t .units) units (m .loader);
+    in-first = front-fits (λ v. v .first) (plain w .units) (t .units) windows (m .first);
+    in-last = front-fits (λ v. v .last) (plain w .units) (t .units) windows (m .last);
+    in-from = front-fits (λ r. r .from) (w .rules) (t .rules) rules (m .from);
+    in-to = front-fits (λ r. r .to) (w .rules) (t .rules) rules (m .to);
+    in-low = front-fits (λ r. r .low) (w .rules) (t .rules) rules (m .low);
+    in-high = front-fits (λ r. r .high) (w .rules) (t .rules) rules (m .high);
+    passes = subst Listed (sym fronts-are) (passes-back w ok fit);
   }
 
-  pub front-sheet : given (fronts t left) ≡ s
-  front-sheet = ap given fronts-are ∙ given-back s
+  pub front-loaders : fronts t left .loader ≡ loaders w
+  front-loaders = ap (λ l. l .loader) fronts-are
+
+  pub front-sheet : givenBy (fronts t left) ≡ plain w
+  front-sheet = ap givenBy fronts-are ∙ given-back w

@@ -1,7 +1,7 @@
 ghost use Prim.Native.Nat.{_≤_, _<_};
 ghost use Rattle.sheet.specs.Sizes.{maxBytes};
 ghost use Rattle.read_ask.specs.Reading.{rooms};
-ghost use Rattle.sheet.specs.Lists.{given};
+ghost use Rattle.sheet.specs.Lists.{givenBy};
 ghost use Rattle.print_bytes.specs.Writing.{Written, refusedLine};
 ghost use Rattle.answer.specs.Answer.{AnswerToSheet, AnswerTo, Answered};
 ghost use Rattle.answer.specs.Fronts.{fronts, Held};
@@ -34,6 +34,7 @@ fn refuse(page: &mut [u8; MAX_PAGE], number: usize, line: usize) -> usize
 // The answer to the sheet that reading left at the front of the lists.
 fn answer_sheet(
     s: Sheet,
+    loader: &[u16],
     first: &[u16],
     last: &[u16],
     from: &[u16],
@@ -42,9 +43,11 @@ fn answer_sheet(
     high: &[u16],
     page: &mut [u8; MAX_PAGE],
 ) -> usize
-    requires { ⌜ Held s (rooms (now first) (now last) (now from) (now to) (now low) (now high)) ⌝ }
-    ensures { λ r. let m = rooms (now (first .entry)) (now (last .entry)) (now (from .entry)) (now (to .entry)) (now (low .entry)) (now (high .entry)) in
-        ⌜ Answered (AnswerToSheet (given (fronts s m))) (now (page .entry)) (now (page .exit)) r ⌝ }
+    requires { ⌜ Held s (rooms (now loader) (now first) (now last) (now from) (now to) (now low) (now high)) ⌝ }
+    ensures { λ r.
+        let l = fronts s (rooms (now (loader .entry)) (now (first .entry)) (now (last .entry))
+        (now (from .entry)) (now (to .entry)) (now (low .entry)) (now (high .entry))) in
+        ⌜ Answered (AnswerToSheet (l .loader) (givenBy l)) (now (page .entry)) (now (page .exit)) r ⌝ }
 {
     let n = s.units;
     let r = s.rules;
@@ -55,6 +58,7 @@ fn answer_sheet(
     let mut ring = [0u16; Sheet::MAX_BOUNDARIES];
     let printed = print::print(
         s.span,
+        &loader[..n],
         &first[..n],
         &last[..n],
         &from[..r],
@@ -81,6 +85,7 @@ fn answer_sheet(
 pub fn answer(text: &[u8], page: &mut [u8; MAX_PAGE]) -> usize
     ensures { λ r. ⌜ Answered (AnswerTo (now (text .entry))) (now (page .entry)) (now (page .exit)) r ⌝ }
 {
+    let mut loader = [0u16; Sheet::MAX_UNITS];
     let mut first = [0u16; Sheet::MAX_UNITS];
     let mut last = [0u16; Sheet::MAX_UNITS];
     let mut from = [0u16; Sheet::MAX_RULES];
@@ -89,6 +94,7 @@ pub fn answer(text: &[u8], page: &mut [u8; MAX_PAGE]) -> usize
     let mut high = [0u16; Sheet::MAX_RULES];
     let reading = read::read(
         text,
+        &mut loader,
         &mut first,
         &mut last,
         &mut from,
@@ -98,6 +104,6 @@ pub fn answer(text: &[u8], page: &mut [u8; MAX_PAGE]) -> usize
     );
     match reading {
         Reading::Refused(refusal) => refuse(page, refusal.number, refusal.line),
-        Reading::Sheet(s) => answer_sheet(s, &first, &last, &from, &to, &low, &high, page),
+        Reading::Sheet(s) => answer_sheet(s, &loader, &first, &last, &from, &to, &low, &high, page),
     }
 }

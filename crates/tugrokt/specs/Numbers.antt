@@ -3,7 +3,7 @@ use mathlib.Core.Path.{_≡_}
 use mathlib.Core.List.{List}
 use Prim.Native.Nat.{ℕ}
 use Rattle.sheet.specs.Sheet.{Sheet}
-use Rattle.sheet.specs.Lists.{Lists}
+use Rattle.sheet.specs.Lists.{WrittenLists}
 use Rattle.read_ask.specs.Reading as reading
 use Rattle.plan_ask.specs.Questions.{Rooms}
 use Rattle.plan_solve.specs.Planning.{Conclusion, Settled}
@@ -39,7 +39,7 @@ printingOf at (printing.refused q n) = record { number = q; line = n; length = 0
 printingOf at (printing.plan next) = record { number = 0; line = 0; length = 0; place = next }
 printingOf at (printing.none k next) = record { number = 0; line = 0; length = k; place = next }
 
-pub record PrintTold (l : Lists) (before : Rooms) (page : List ℕ) (at : ℕ) (numbers : Printing) (after : Rooms) (left : List ℕ) : Type 0 where
+pub record PrintTold (l : WrittenLists) (before : Rooms) (page : List ℕ) (at : ℕ) (numbers : Printing) (after : Rooms) (left : List ℕ) : Type 0 where
   pub reply : printing.Reply
   pub call : print.Printing l before page at reply after left
   pub told : numbers ≡ printingOf at reply

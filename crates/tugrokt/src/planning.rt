@@ -1,5 +1,5 @@
 ghost use mathlib.Core.Path.{_≡_};
-ghost use Rattle.sheet.specs.Lists.{listed, given};
+ghost use Rattle.sheet.specs.Lists.{written, givenBy};
 ghost use Rattle.plan_ask.specs.Questions.{lent};
 ghost use Rattle.plan_solve.specs.Planning.{conclusion};
 ghost use Rattle.plan_solve.specs.Reply.{replyOf};
@@ -41,6 +41,7 @@ fn numbers_of(answer: Answer) -> Planning
 #[no_mangle]
 pub extern "C" fn tugrokt_plan(
     span: usize,
+    loader: &[u16],
     first: &[u16],
     last: &[u16],
     from: &[u16],
@@ -54,13 +55,15 @@ pub extern "C" fn tugrokt_plan(
     ring: &mut [u16],
 ) -> Planning
     ensures { λ r.
-        let l = listed span (now (first .entry)) (now (last .entry)) (now (from .entry)) (now (to .entry)) (now (low .entry)) (now (high .entry)) in
+        let l = written span (now (loader .entry)) (now (first .entry)) (now (last .entry))
+        (now (from .entry)) (now (to .entry)) (now (low .entry)) (now (high .entry)) in
         let before = lent (now (table .entry)) (now (plan .entry)) (now (earliest .entry)) (now (latest .entry)) (now (ring .entry)) in
-        ⌜ PlanTold (conclusion l before) (given l) before r
+        ⌜ PlanTold (conclusion l before) (givenBy l) before r
         (lent (now (table .exit)) (now (plan .exit)) (now (earliest .exit)) (now (latest .exit)) (now (ring .exit))) ⌝ }
 {
     let answer = plan::plan(
         span,
+        loader,
         first,
         last,
         from,

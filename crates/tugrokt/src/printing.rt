@@ -1,5 +1,5 @@
 ghost use mathlib.Core.Path.{_≡_};
-ghost use Rattle.sheet.specs.Lists.{listed};
+ghost use Rattle.sheet.specs.Lists.{written};
 ghost use Rattle.plan_ask.specs.Questions.{lent};
 ghost use Rattle.print.specs.Reply.{replyOf};
 ghost use Rattle.tugrokt.specs.Numbers.{printingOf, PrintTold};
@@ -44,6 +44,7 @@ fn numbers_of(at: usize, printed: Printed) -> Printing
 #[no_mangle]
 pub extern "C" fn tugrokt_print(
     span: usize,
+    loader: &[u16],
     first: &[u16],
     last: &[u16],
     from: &[u16],
@@ -59,12 +60,14 @@ pub extern "C" fn tugrokt_print(
     place: usize,
 ) -> Printing
     ensures { λ r.
-        ⌜ PrintTold (listed span (now (first .entry)) (now (last .entry)) (now (from .entry)) (now (to .entry)) (now (low .entry)) (now (high .entry)))
+        ⌜ PrintTold (written span (now (loader .entry)) (now (first .entry)) (now (last .entry))
+        (now (from .entry)) (now (to .entry)) (now (low .entry)) (now (high .entry)))
         (lent (now (table .entry)) (now (plan .entry)) (now (earliest .entry)) (now (latest .entry)) (now (ring .entry))) (now (page .entry)) place r
         (lent (now (table .exit)) (now (plan .exit)) (now (earliest .exit)) (now (latest .exit)) (now (ring .exit))) (now (page .exit)) ⌝ }
 {
     let printed = print::print(
         span,
+        loader,
         first,
         last,
         from,

@@ -39,6 +39,7 @@ fn numbers_of(reply: read_ask::Reading) -> Reading
 #[no_mangle]
 pub extern "C" fn tugrokt_read(
     text: &[u8],
+    loader: &mut [u16],
     first: &mut [u16],
     last: &mut [u16],
     from: &mut [u16],
@@ -46,12 +47,13 @@ pub extern "C" fn tugrokt_read(
     low: &mut [u16],
     high: &mut [u16],
 ) -> Reading
-    ensures { λ r. ⌜ r ≡ readingOf (reading (now (text .entry))
-        (sizesOf (rooms (now (first .entry)) (now (last .entry)) (now (from .entry)) (now (to .entry)) (now (low .entry)) (now (high .entry))))) ⌝ }
-    ensures { λ _. ⌜ rooms (now (first .exit)) (now (last .exit)) (now (from .exit)) (now (to .exit)) (now (low .exit)) (now (high .exit))
-        ≡ roomsAfter (now (text .entry))
-        (rooms (now (first .entry)) (now (last .entry)) (now (from .entry)) (now (to .entry)) (now (low .entry)) (now (high .entry))) ⌝ }
+    ensures { λ r. ⌜ r ≡ readingOf (reading (now (text .entry)) (sizesOf (rooms (now (loader .entry)) (now (first .entry)) (now (last .entry))
+        (now (from .entry)) (now (to .entry)) (now (low .entry)) (now (high .entry))))) ⌝ }
+    ensures { λ _.
+        ⌜ rooms (now (loader .exit)) (now (first .exit)) (now (last .exit)) (now (from .exit)) (now (to .exit)) (now (low .exit)) (now (high .exit))
+        ≡ roomsAfter (now (text .entry)) (rooms (now (loader .entry)) (now (first .entry)) (now (last .entry))
+        (now (from .entry)) (now (to .entry)) (now (low .entry)) (now (high .entry))) ⌝ }
 {
-    let reply = read::read(text, first, last, from, to, low, high);
+    let reply = read::read(text, loader, first, last, from, to, low, high);
     numbers_of(reply)
 }

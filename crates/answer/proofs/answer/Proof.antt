@@ -15,7 +15,7 @@ use Rattle.answer.proofs.answer.Tie as tie
 
 -- the lists as the call makes them
 abbrev empty : ListRooms (List ℕ)
-empty = rooms (replicate maxUnits 0) (replicate maxUnits 0) (replicate maxRules 0) (replicate maxRules 0) (replicate maxRules 0) (replicate maxRules 0)
+empty = rooms (replicate maxUnits 0) (replicate maxUnits 0) (replicate maxUnits 0) (replicate maxRules 0) (replicate maxRules 0) (replicate maxRules 0) (replicate maxRules 0)
 
 sizes : sizesOf empty ≡ roomsForAll
 sizes = refl
