@@ -82,8 +82,8 @@ isUnitWith t other = false
 abbrev pub unitLinesWith : ℕ → List Said → ℕ
 unitLinesWith t ls = howMany (isUnitWith t) ls
 
--- ---- what the lines of a plan are to say: of the unit at place j, with its loader number, its slot and the ends of its narrowed window, and of slot t, with its
--- count and range
+-- ---- what the lines of a plan are to say: of the unit at place j, with its loader number, its slot and the ends of its narrowed window, and of slot t, with
+-- its count and range
 
 abbrev pub unitSaid : (ℕ → ℕ) → (ℕ → ℕ) → (ℕ → ℕ) → (ℕ → ℕ) → ℕ → Said
 unitSaid loaders slots earliest latest j = unit (loaders j) (slots j) (earliest j) (latest j)
