@@ -26,7 +26,8 @@ use Rattle.print_bytes.specs.Writing.{Room, Written, planHead, unitLine, slotLi
 use Rattle.print_bytes.specs.WritingLaws.{written-part}
 use Rattle.print_page.specs.Page.{unitLineAt, unitLines, slotLineAt, slotLines, unitsAt, planPage, stepLine, stepLines, ringLines, shortfallOf, nonePage}
 use Rattle.print_page.specs.PageLines.{Said, plan, unit, slot, none, atMost, atLeast, shortfall, refused, other, Reading, reading, readings}
-use Rattle.print_page.specs.PageLines.{readBy, readLine, saidBy, readLines, answerOn, isUnitWith, unitLinesWith, unitSaid, slotSaid, stepSaid, stepsSaid, ringSaid}
+use Rattle.print_page.specs.PageLines.{readBy, readLine, saidBy, readLines, answerOn, isUnitWith, unitLinesWith}
+use Rattle.print_page.specs.PageLines.{unitSaid, slotSaid, stepSaid, stepsSaid, ringSaid}
 
 -- ---- lines
 
