@@ -29,43 +29,41 @@ module _ (k : ℕ) (ks : List ℕ) (n : ℕ) (h : n ≤ length ks) where
       member-nowhere k (take n ks)
       (λ i l e. let m : i < n = omega (arith, length-take-le n ks h) in f i m (sym (getD-take n ks i 0 m) ∙ e))
 
--- ---- down a chain: of the first n numbers, k is not at place p or past it
-unfoldable pub Past : List ℕ → ℕ → ℕ → ℕ → Type 0
-Past ks n k p = (i : ℕ) → p ≤ i → i < n → getD ks i 0 ≡ k → ⊥
+-- ---- down the chain of k: it has come to place p, and of the first n numbers k is not at p or past it
+pub record Sought (ks : List ℕ) (n k p : ℕ) : Type 0 where
+  pub most : p ≤ n
+  pub own : 0 < p → getD ks (p - 1) 0 % chains ≡ k % chains
+  pub past : (i : ℕ) → p ≤ i → i < n → getD ks i 0 ≡ k → ⊥
 
--- the chain has ended
-pub none-past : (ks : List ℕ) (n k p : ℕ) → Past ks n k p → p ≡ 0 → (i : ℕ) → i < n → getD ks i 0 ≡ k → ⊥
-unfolding Past
-none-past ks n k p f e i = f i (omega arith)
+module _ (ks heads nexts : List ℕ) (n k : ℕ) (L : Linked ks n heads nexts) where
+  pub sought-head : Sought ks n k (getD heads (k % chains) 0)
+  sought-head =
+      let f = L .head (k % chains) (chain-of k) in
+      record { most = f .most; own = f .own; past = λ i l m e. f .others i l m (ap (λ (x : ℕ). x % chains) e) }
 
-pub past-head : (ks heads nexts : List ℕ) (n k : ℕ) → Linked ks n heads nexts → Past ks n k (getD heads (k % chains) 0)
-unfolding Past
-past-head ks heads nexts n k L i l m e = L .head (k % chains) (chain-of k) .others i l m (ap (λ (x : ℕ). x % chains) e)
+  module _ (p : ℕ) (hp : 0 < p) (S : Sought ks n k p) (other : getD ks (p - 1) 0 ≡ k → ⊥) where
+    abbrev q : ℕ
+    q = getD nexts (p - 1) 0
 
-module _ (ks heads nexts : List ℕ) (n k p : ℕ) (L : Linked ks n heads nexts) (hp : 0 < p) (hn : p ≤ n) (own : getD ks (p - 1) 0 % chains ≡ k % chains)
-    (past : Past ks n k p) (other : getD ks (p - 1) 0 ≡ k → ⊥) where
-  abbrev q : ℕ
-  q = getD nexts (p - 1) 0
+    from : From ks (p - 1) (getD ks (p - 1) 0 % chains) q
+    from = L .next (p - 1) (omega (arith, S .most))
 
-  from : From ks (p - 1) (getD ks (p - 1) 0 % chains) q
-  from = L .next (p - 1) (omega arith)
+    past-next : (i : ℕ) → q ≤ i → i < n → getD ks i 0 ≡ k → ⊥
+    past-next i l m e =
+        elim (ℕ-discrete i (p - 1)) [
+          | yes s ↦ other (ap (λ (j : ℕ). getD ks j 0) (sym s) ∙ e)
+          | no ne ↦ ⊎-elim (λ (g : p ≤ i). S .past i g m e) (λ (g : i < p - 1). from .others i l g (ap (λ (x : ℕ). x % chains) e ∙ sym (S .own hp)))
+              (side i ne)
+        ]
+      where
+        side : (i : ℕ) → (i ≡ p - 1 → ⊥) → (p ≤ i) ⊎ (i < p - 1)
+        side i ne = elim (decLe p i) [ yes g ↦ inl g | no g ↦ inr (omega arith) ]
 
-  pub past-next : Past ks n k q
-  unfolding Past
-  past-next i l m e =
-      elim (ℕ-discrete i (p - 1)) [
-        | yes s ↦ other (ap (λ (j : ℕ). getD ks j 0) (sym s) ∙ e)
-        | no ne ↦ ⊎-elim (λ (g : p ≤ i). past i g m e) (λ (g : i < p - 1). from .others i l g (ap (λ (x : ℕ). x % chains) e ∙ sym own)) (side i ne)
-      ]
-    where
-      side : (i : ℕ) → (i ≡ p - 1 → ⊥) → (p ≤ i) ⊎ (i < p - 1)
-      side i ne = elim (decLe p i) [ yes g ↦ inl g | no g ↦ inr (omega arith) ]
+    pub falls : q < p
+    falls = omega (arith, from .most)
 
-  pub below : q < p
-  below = omega (arith, from .most)
-
-  pub own-next : 0 < q → getD ks (q - 1) 0 % chains ≡ k % chains
-  own-next h = from .own h ∙ own
+    pub sought-next : Sought ks n k q
+    sought-next = record { most = omega (arith, from .most, S .most); own = λ h. from .own h ∙ S .own hp; past = past-next }
 
 -- ---- one number more
 module _ (ks heads nexts : List ℕ) (n : ℕ) (L : Linked ks n heads nexts) (room : n < length nexts) where
@@ -112,6 +110,6 @@ module _ (ks heads nexts : List ℕ) (n : ℕ) (L : Linked ks n heads nexts) (ro
 pub linked-none : (ks nexts : List ℕ) → Linked ks 0 (replicate chains 0) nexts
 linked-none ks nexts = record {
   wide = length-replicate {A = ℕ} chains 0;
-  head = λ b h. let z = getD-replicate chains b 0 0 h in record { most = omega arith; own = λ l. absurd (omega arith); others = λ i l m. absurd (omega arith) };
+  head = λ b h. let z = getD-replicate {A = ℕ} chains b 0 0 h in record { most = omega arith; own = λ l. absurd (omega arith); others = λ i l m. absurd (omega arith) };
   next = λ j h. absurd (omega arith);
 }

@@ -25,7 +25,7 @@ use Rattle.sheet.specs.PlanLaws.{lawful-iff, earliest-bound, earliest-attained,
 use Rattle.plans.specs.PrintedLaws.{Printed, some-printed}
 use Rattle.plans.specs.CountLaws.{solved-plan, range, greatest-entry, least-entry}
 use Rattle.plan_ask.specs.Questions.{Rooms, places, refusal}
-use Rattle.sheet.specs.Lists.{Lists, given}
+use Rattle.sheet.specs.Lists.{WrittenLists, givenBy}
 use Rattle.plan_solve.specs.Planning.{conclusion, Settled}
 use Rattle.plan_solve.specs.Reply as says
 use Rattle.plan_solve.specs.Reply.{refusalOf}
@@ -36,9 +36,9 @@ pub ring-contradicts : (s : Sheet) (ring : List ℕ) → T (isRing s ring) → (
 unfolding isRing
 ring-contradicts s ring h x l = cycle-infeasible (limit s) (top s) (λ b. pos (countIn 1 b x)) (lawful-feasible s x l (top s)) ring h
 
-module _ (l : Lists) (before : Rooms) (reply : says.Reply) (after : Rooms) (call : Settled (conclusion l before) (given l) before reply after) where
+module _ (l : WrittenLists) (before : Rooms) (reply : says.Reply) (after : Rooms) (call : Settled (conclusion l before) (givenBy l) before reply after) where
   abbrev pub s : Sheet
-  s = given l
+  s = givenBy l
 
   -- ---- 1. Ground. (That a call ends and does nothing undefined is what the checker asks of every function; `plan` has no `requires`.)
 

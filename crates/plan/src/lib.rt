@@ -1,5 +1,5 @@
 ghost use mathlib.Core.Path.{_≡_};
-ghost use Rattle.sheet.specs.Lists.{listed, given};
+ghost use Rattle.sheet.specs.Lists.{written, givenBy};
 ghost use Rattle.plan_ask.specs.Questions.{lent};
 ghost use Rattle.plan_solve.specs.Planning.{conclusion, Settled};
 ghost use Rattle.plan_solve.specs.Reply.{replyOf, fitReply};
@@ -20,6 +20,7 @@ fn answered(fit: Fit) -> Answer
 // Plans from lists. The questions come first; then the sheet gets a plan, or none and a ring.
 pub fn plan(
     span: usize,
+    loader: &[u16],
     first: &[u16],
     last: &[u16],
     from: &[u16],
@@ -33,13 +34,14 @@ pub fn plan(
     ring: &mut [u16],
 ) -> Answer
     ensures { λ r.
-        let l = listed span (now (first .entry)) (now (last .entry)) (now (from .entry)) (now (to .entry)) (now (low .entry)) (now (high .entry)) in
+        let l = written span (now (loader .entry)) (now (first .entry)) (now (last .entry))
+        (now (from .entry)) (now (to .entry)) (now (low .entry)) (now (high .entry)) in
         let before = lent (now (table .entry)) (now (plan .entry)) (now (earliest .entry)) (now (latest .entry)) (now (ring .entry)) in
-        ⌜ Settled (conclusion l before) (given l) before (replyOf r)
+        ⌜ Settled (conclusion l before) (givenBy l) before (replyOf r)
         (lent (now (table .exit)) (now (plan .exit)) (now (earliest .exit)) (now (latest .exit)) (now (ring .exit))) ⌝ }
 {
     let rooms = plan_ask::lengths_of(table, plan, earliest, latest, ring);
-    let asked = plan_ask::ask(span, first, last, from, to, low, high, rooms);
+    let asked = plan_ask::ask(span, loader, first, last, from, to, low, high, rooms);
     match asked {
         Checked::No(refusal) => Answer::Refused(refusal),
         Checked::Yes => answered(plan_solve::solve(

@@ -31,7 +31,7 @@ lengthsFit w n r = leb (w * w) (r .table) && (leb n (r .plan) && (leb n (r .earl
 abbrev pub fitLengths : Sheet → Lengths → Bool
 fitLengths s r = roomsFit s (r .table) (r .plan) (r .earliest) (r .latest) (r .ring)
 
--- every question is answered yes; `fit` is the answer to 12, whatever rooms the call asks for
+-- every question that solving rests on is answered yes: all but 16; `fit` is the answer to 12, whatever rooms the call asks for
 pub record Solvable (l : Lists) (fit : Bool) : Type 0 where
   pub lists : T (agree l)
   pub sheet : T (accepted (given l))

@@ -1,19 +1,21 @@
 -- The questions as the code asks them are the questions of docs/RULES.md.
 -- Key idea: a test of each unit or rule that looks at two numbers of it is a test of two lists, place by place; and at each place what is left to ask
 -- gives the whole answer.
-use mathlib.Core.Path.{_≡_, refl, ap, ap₂, _∙_}
+use mathlib.Core.Path.{_≡_, refl, sym, ap, ap₂, subst, _∙_}
 use mathlib.Core.Bool.{Bool, true, false, _&&_}
 use mathlib.Core.List.{List, [], _∷_}
 use Prim.Native.Nat.{ℕ, suc, _+_, _≤_, _<_}
 use native.Mathlib.Omega.{arith}
-use lib.Dec.{T, leb}
+use lib.Dec.{T, leb, eqb, eqb→eq}
 use lib.ListN.{length, getD, drop, drop-of-length-le}
 use lib.Seq.{drop-cons}
+use borrow.Author.Tests.{eq-eqb}
 use Rattle.lists.specs.Lists.{every}
+use Rattle.lists.specs.Members.{both, left, right}
 use Rattle.sheet.specs.Sizes.{maxSlots, maxUnits, maxRules, maxCount, boundariesOf}
 use Rattle.sheet.specs.Sheet.{Window, top, noWindow}
 use Rattle.sheet.specs.Questions.{windowsOf, rulesOf, sheetOf, isSpan, rising, spanFits, unitsFit, rulesFit, windowsFit, stretchesFit, countsFit, accepted}
-use Rattle.sheet.specs.Lists.{Lists, given, agree}
+use Rattle.sheet.specs.Lists.{Lists, given, agree, WrittenLists, allAgree}
 use Rattle.sheet.specs.QuestionLaws.{Agree, listsAgree-read, windowsOf-length, windowsOf-at, rulesOf-length, accepted-sized}
 use Rattle.plan_ask.specs.Asking.{fitLengths, allRising, lengthsFit}
 use Rattle.plan_ask.specs.Questions.{roomsFit}
@@ -70,6 +72,17 @@ module _ (t : ℕ → ℕ → Bool) where
   counts-as-windows (x ∷ fs) (y ∷ ts) (l ∷ ls) [] e f g = absurd (omega arith)
   counts-as-windows (x ∷ fs) (y ∷ ts) (l ∷ ls) (h ∷ hs) e f g =
       ap (λ b. t l h && b) (counts-as-windows fs ts ls hs (omega arith) (omega arith) (omega arith))
+
+-- 13: the loader numbers are as many as the units, and the other lists agree
+module _ (l : WrittenLists) where
+  abbrev as-many : Bool
+  as-many = eqb (length (l .loader)) (length (l .plain .first))
+
+  pub all-agree-read : T (allAgree l) → (length (l .loader) ≡ length (l .plain .first)) × T (agree (l .plain))
+  all-agree-read h = (eqb→eq (length (l .loader)) (length (l .plain .first)) (left as-many (agree (l .plain)) h), right as-many (agree (l .plain)) h)
+
+  pub read-all-agree : length (l .loader) ≡ length (l .plain .first) → T (agree (l .plain)) → T (allAgree l)
+  read-all-agree e = both as-many (agree (l .plain)) (subst T (sym (eq-eqb (length (l .loader)) (length (l .plain .first)) e)) tt)
 
 module _ (l : Lists) where
   pub lists-read : T (agree l) → Agree (l .first) (l .last) (l .from) (l .to) (l .low) (l .high)

@@ -8,8 +8,8 @@ use lib.IntN.{ℤ}
 use Rattle.questions.specs.Questions.{Question, ask, Verdict, firstNo}
 use Rattle.slots.specs.Slots.{Slot}
 use Rattle.sheet.specs.Sheet.{Sheet, boundaries}
-use Rattle.sheet.specs.Lists.{Lists, given, agree}
-use Rattle.sheet.specs.Questions.{sheetQuestions}
+use Rattle.sheet.specs.Lists.{WrittenLists, givenBy, allAgree}
+use Rattle.sheet.specs.Questions.{loadersFit, slotQuestions, countQuestions}
 
 -- ---- the rooms of a call
 
@@ -39,17 +39,17 @@ fitsRooms s r = roomsFit s (length (r .table)) (length (r .plan)) (length (r .ea
 -- ---- the questions, in their order; none is asked of a line
 
 -- what is asked of the lists
-abbrev pub listQuestions : Lists → List Question
-listQuestions l = ask 13 0 (agree l) ∷ sheetQuestions (given l)
+abbrev pub listQuestions : WrittenLists → List Question
+listQuestions l = ask 13 0 (allAgree l) ∷ (slotQuestions (givenBy l) ++ (ask 16 0 (loadersFit (l .loader)) ∷ countQuestions (givenBy l)))
 
 -- what a call asks: its lists, and then whether the rooms that it asks for are long enough (12)
-abbrev pub questions : Lists → Bool → List Question
+abbrev pub questions : WrittenLists → Bool → List Question
 questions l rooms = listQuestions l ++ (ask 12 0 rooms ∷ [])
 
 -- the refusal, by number and line, or none
-unfoldable pub refusalBy : Lists → Bool → Verdict
+unfoldable pub refusalBy : WrittenLists → Bool → Verdict
 refusalBy l rooms = firstNo (questions l rooms)
 
 -- that of planning, whose rooms are these
-abbrev pub refusal : Lists → Rooms → Verdict
-refusal l r = refusalBy l (fitsRooms (given l) r)
+abbrev pub refusal : WrittenLists → Rooms → Verdict
+refusal l r = refusalBy l (fitsRooms (givenBy l) r)

@@ -1,23 +1,55 @@
--- A call is not refused exactly when its lists make a sheet that is accepted and its rooms are long enough, whatever rooms it asks for.
+-- A call is not refused exactly when its lists make a sheet that is accepted, its loader numbers fit and its rooms are long enough, whatever rooms it asks for.
 -- Key idea: no question is the first no exactly when every answer is yes; and the lists' verdict goes on to that of the rooms.
 use mathlib.Core.Path.{_≡_}
 use mathlib.Core.Bool.{Bool, true, cond}
-use mathlib.Core.List.{List, [], _∷_}
+use mathlib.Core.List.{List, [], _∷_, _++_}
 use lib.Dec.{T}
+use lib.ListN.{length}
 use Rattle.lists.specs.Members.{both, left, right, every-both}
-use Rattle.questions.specs.Questions.{Question, ask, Verdict, no, allYes, firstNo, andThen}
+use Rattle.questions.specs.Questions.{Question, ask, Verdict, no, allYes, firstNo, andThen, AllYes}
 use Rattle.questions.specs.FirstNoLaws.{first-then, yes-every, every-yes, yes-front, yes-back, yes-at}
-use Rattle.sheet.specs.Questions.{accepted}
-use Rattle.sheet.specs.Lists.{Lists, given, agree}
+use Rattle.sheet.specs.Sheet.{Sheet}
+use Rattle.sheet.specs.Questions.{loadersFit, slotQuestions, countQuestions, accepted}
+use Rattle.sheet.specs.Lists.{WrittenLists, givenBy, agree, allAgree}
 use Rattle.plan_ask.specs.Questions.{listQuestions, questions, refusalBy}
 use Rattle.plan_ask.specs.Asking.{Solvable}
+use Rattle.plan_ask.specs.AskingLaws.{all-agree-read, read-all-agree}
 
-module _ (l : Lists) where
-  pub lists-yes : firstNo (listQuestions l) ≡ allYes → T (agree l) × T (accepted (given l))
+-- what the lists of a call that passed its questions are
+pub record Listed (l : WrittenLists) : Type 0 where
+  pub as-many : length (l .loader) ≡ length (l .plain .first)
+  pub lists : T (agree (l .plain))
+  pub sheet : T (accepted (givenBy l))
+  pub loaders : T (loadersFit (l .loader))
+
+module _ (l : WrittenLists) where
+  abbrev s : Sheet
+  s = givenBy l
+
+  abbrev new : Question
+  new = ask 16 0 (loadersFit (l .loader))
+
+  pub lists-yes : firstNo (listQuestions l) ≡ allYes → Listed l
   unfolding accepted
   lists-yes e =
       let h = yes-every (listQuestions l) e in
-      (left (agree l) _ h, right (agree l) _ h)
+      let agreed = all-agree-read l (left (allAgree l) _ h) in
+      let asked : AllYes (slotQuestions s ++ (new ∷ countQuestions s)) = right (allAgree l) _ h in
+      let slots = yes-front (slotQuestions s) (new ∷ countQuestions s) asked in
+      let rest = yes-back (slotQuestions s) (new ∷ countQuestions s) asked in
+      record {
+        as-many = agreed .0;
+        lists = agreed .1;
+        sheet = every-both (λ q. q .yes) (slotQuestions s) (countQuestions s) slots (right (loadersFit (l .loader)) _ rest);
+        loaders = left (loadersFit (l .loader)) _ rest;
+      }
+
+  yes-lists : Listed l → AllYes (listQuestions l)
+  unfolding accepted
+  yes-lists y =
+      both (allAgree l) _ (read-all-agree l (y .as-many) (y .lists))
+      (every-both (λ q. q .yes) (slotQuestions s) (new ∷ countQuestions s) (yes-front (slotQuestions s) (countQuestions s) (y .sheet))
+      (both (loadersFit (l .loader)) _ (y .loaders) (yes-back (slotQuestions s) (countQuestions s) (y .sheet))))
 
   module _ (rooms : Bool) where
     abbrev last : List Question
@@ -28,15 +60,16 @@ module _ (l : Lists) where
     unfolding refusalBy firstNo
     refusal-then = first-then (listQuestions l) last
 
-    pub asked-yes : refusalBy l rooms ≡ allYes → Solvable l rooms
+    pub asked-lists : refusalBy l rooms ≡ allYes → Listed l
+    unfolding refusalBy
+    asked-lists e = lists-yes (every-yes (listQuestions l) (yes-front (listQuestions l) last (yes-every (questions l rooms) e)))
+
+    pub asked-yes : refusalBy l rooms ≡ allYes → Solvable (l .plain) rooms
     unfolding refusalBy
     asked-yes e =
-        let h = yes-every (questions l rooms) e in
-        let y = lists-yes (every-yes (listQuestions l) (yes-front (listQuestions l) last h)) in
-        record { lists = y .0; sheet = y .1; rooms = yes-at last (yes-back (listQuestions l) last h) 0 tt }
+        let y = asked-lists e in
+        record { lists = y .lists; sheet = y .sheet; rooms = yes-at last (yes-back (listQuestions l) last (yes-every (questions l rooms) e)) 0 tt }
 
-    pub yes-asked : Solvable l rooms → refusalBy l rooms ≡ allYes
-    unfolding refusalBy accepted
-    yes-asked y =
-        every-yes (questions l rooms)
-        (every-both (λ q. q .yes) (listQuestions l) last (both (agree l) _ (y .lists) (y .sheet)) (both rooms true (y .rooms) tt))
+    pub yes-asked : Listed l → T rooms → refusalBy l rooms ≡ allYes
+    unfolding refusalBy
+    yes-asked y fit = every-yes (questions l rooms) (every-both (λ q. q .yes) (listQuestions l) last (yes-lists y) (both rooms true fit tt))

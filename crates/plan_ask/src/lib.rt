@@ -3,8 +3,7 @@ ghost use Prim.Native.Nat.{_≤_};
 ghost use lib.ListN.{length};
 ghost use Rattle.questions.specs.Questions.{firstNo, verdictOf};
 ghost use Rattle.network.specs.Table.{maxBoundaries};
-ghost use Rattle.sheet.specs.Questions.{listsAgree};
-ghost use Rattle.sheet.specs.Lists.{listed, given};
+ghost use Rattle.sheet.specs.Lists.{written, givenBy, allAgree};
 ghost use Rattle.plan_ask.specs.Questions.{lent, listQuestions, refusalBy};
 ghost use Rattle.plan_ask.specs.Asking.{lengthsOf, allRising, lengthsFit, fitLengths};
 use questions::Checked;
@@ -38,8 +37,9 @@ pub fn lengths_of(
     }
 }
 
-// Question 13.
+// Question 13; the span is no list.
 fn lists_agree(
+    loader: &[u16],
     first: &[u16],
     last: &[u16],
     from: &[u16],
@@ -47,8 +47,12 @@ fn lists_agree(
     low: &[u16],
     high: &[u16],
 ) -> bool
-    ensures { λ r. ⌜ r ≡ listsAgree (now (first .entry)) (now (last .entry)) (now (from .entry)) (now (to .entry)) (now (low .entry)) (now (high .entry)) ⌝ }
+    ensures { λ r. ⌜ r ≡ allAgree (written 0 (now (loader .entry)) (now (first .entry)) (now (last .entry))
+        (now (from .entry)) (now (to .entry)) (now (low .entry)) (now (high .entry))) ⌝ }
 {
+    if loader.len() != first.len() {
+        return false;
+    }
     if last.len() != first.len() {
         return false;
     }
@@ -105,6 +109,7 @@ fn rooms_fit(w: usize, units: usize, rooms: Lengths) -> bool
 // What is asked of the lists, in its order: the first no, or none. No line is to blame. Every call asks this, and then for rooms of its own.
 pub fn ask_lists(
     span: usize,
+    loader: &[u16],
     first: &[u16],
     last: &[u16],
     from: &[u16],
@@ -113,10 +118,10 @@ pub fn ask_lists(
     high: &[u16],
 ) -> Checked
     ensures { λ r.
-        ⌜ verdictOf r ≡ firstNo (listQuestions
-        (listed span (now (first .entry)) (now (last .entry)) (now (from .entry)) (now (to .entry)) (now (low .entry)) (now (high .entry)))) ⌝ }
+        ⌜ verdictOf r ≡ firstNo (listQuestions (written span (now (loader .entry)) (now (first .entry)) (now (last .entry))
+        (now (from .entry)) (now (to .entry)) (now (low .entry)) (now (high .entry)))) ⌝ }
 {
-    if lists_agree(first, last, from, to, low, high) {} else {
+    if lists_agree(loader, first, last, from, to, low, high) {} else {
         return Checked::No(Refusal {
             number: 13,
             line: 0,
@@ -140,6 +145,12 @@ pub fn ask_lists(
     if all_rise(1, span, from, to) {} else {
         return Checked::No(Refusal { number: 7, line: 0 });
     }
+    if loaders::all_new(loader) {} else {
+        return Checked::No(Refusal {
+            number: 16,
+            line: 0,
+        });
+    }
     if all_rise(0, sheet::Sheet::MAX_COUNT, low, high) {
         Checked::Yes
     } else {
@@ -150,6 +161,7 @@ pub fn ask_lists(
 // What planning asks: the lists first, and then for the rooms that it lends.
 pub fn ask(
     span: usize,
+    loader: &[u16],
     first: &[u16],
     last: &[u16],
     from: &[u16],
@@ -159,10 +171,11 @@ pub fn ask(
     rooms: Lengths,
 ) -> Checked
     ensures { λ r.
-        let l = listed span (now (first .entry)) (now (last .entry)) (now (from .entry)) (now (to .entry)) (now (low .entry)) (now (high .entry)) in
-        ⌜ verdictOf r ≡ refusalBy l (fitLengths (given l) rooms) ⌝ }
+        let l = written span (now (loader .entry)) (now (first .entry)) (now (last .entry))
+        (now (from .entry)) (now (to .entry)) (now (low .entry)) (now (high .entry)) in
+        ⌜ verdictOf r ≡ refusalBy l (fitLengths (givenBy l) rooms) ⌝ }
 {
-    let asked = ask_lists(span, first, last, from, to, low, high);
+    let asked = ask_lists(span, loader, first, last, from, to, low, high);
     match asked {
         Checked::No(refusal) => Checked::No(refusal),
         Checked::Yes => {

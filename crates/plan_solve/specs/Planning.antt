@@ -9,7 +9,7 @@ use lib.IntN.{ℤ}
 use Rattle.network.specs.Table.{Passed, finished, stopped, tableOf, passOf, cleared}
 use Rattle.questions.specs.Questions.{Verdict, no, allYes}
 use Rattle.sheet.specs.Sheet.{Sheet, boundaries, limit, printedPlan, earliestSlots, latestSlots, isRing}
-use Rattle.sheet.specs.Lists.{Lists, given}
+use Rattle.sheet.specs.Lists.{WrittenLists, givenBy}
 use Rattle.plan_ask.specs.Questions.{Rooms, places, fitsRooms, refusalBy}
 use Rattle.plan_solve.specs.Reply as says
 
@@ -55,12 +55,12 @@ abbrev pub concluding : Verdict → Passed → Conclusion
 concluding (no q n) p = refuse q n
 concluding allYes p = byPass p
 
-unfoldable pub conclusionBy : Lists → Bool → Conclusion
-conclusionBy l rooms = concluding (refusalBy l rooms) (passed (given l))
+unfoldable pub conclusionBy : WrittenLists → Bool → Conclusion
+conclusionBy l rooms = concluding (refusalBy l rooms) (passed (givenBy l))
 
 -- that of planning, whose rooms are these
-abbrev pub conclusion : Lists → Rooms → Conclusion
-conclusion l r = conclusionBy l (fitsRooms (given l) r)
+abbrev pub conclusion : WrittenLists → Rooms → Conclusion
+conclusion l r = conclusionBy l (fitsRooms (givenBy l) r)
 
 -- The reply and the rooms after the call follow from the conclusion. A refusal changes nothing. The ring is the one freedom: it may be any ring of the
 -- sheet's own limits.

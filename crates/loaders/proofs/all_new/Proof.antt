@@ -1,72 +1,54 @@
--- The numbers before place j are in their chains, so the first that is no new one decides.
-use Prim.Native.Nat.{ℕ, _+_, _-_, _%_, _≤_, _<_}
-use mathlib.Core.Path.{_≡_, refl, sym, ap, _∙_, subst}
+-- The numbers before place j are in their chains, so the first that is not new decides.
+use Prim.Native.Nat.{_+_, _-_, _≤_, _<_}
+use mathlib.Core.Path.{_≡_, refl, sym, _∙_, subst}
 use mathlib.Core.List.{List}
 use native.Mathlib.Omega.{arith}
-use native.Mathlib.Nat.{mod-lt}
-use lib.ListN.{length, take, drop, set, getD, replicate, getD-replicate}
-use Rattle.sheet.specs.Questions.{loadersFit, allNew}
-use Rattle.loaders.specs.Chains.{chains, Linked}
-use Rattle.loaders.specs.LoaderLaws.{linked-none, linked-after, new-next, new-stop, new-end}
 use borrow.Author.Needs.{needs}
+use lib.ListN.{length, take, drop}
+use Rattle.sheet.specs.Sizes.{maxUnits}
+use Rattle.sheet.specs.Questions.{loadersFit, allNew}
+use Rattle.sheet.specs.LoaderLaws.{new-next, new-stop, new-end}
+use Rattle.loaders.specs.Chains.{Linked}
+use Rattle.loaders.specs.ChainLaws.{linked-none, linked-more}
 use Rattle.loaders.proofs.all_new.Statement.{statement}
 use Rattle.loaders.proofs.all_new.Tie as tie
 
 abbrev Inv-loop : tie.InvT-loop
-Inv-loop ks heads₀ nexts₀ j₀ heads nexts j = (j ≤ length ks) × (length nexts ≡ 300) × Linked ks j heads nexts × (loadersFit ks ≡ allNew (take j ks) (drop j ks))
+Inv-loop ks heads₀ nexts₀ j₀ heads nexts j =
+    (j ≤ length ks) × (length nexts ≡ maxUnits) × Linked ks j heads nexts × (loadersFit ks ≡ allNew (take j ks) (drop j ks))
 
 abbrev μ-loop : tie.MeasureT-loop
 μ-loop ks heads₀ nexts₀ j₀ heads nexts j = length ks - j
 
-loop-holds : tie.Need-loop-holds Inv-loop μ-loop
-loop-holds c = (omega arith, refl, linked-none _ (replicate 128 0) (replicate 300 0) refl (λ b h. getD-replicate 128 b 0 0 h), refl)
+-- the loop's place from that of a number that is new, and the function's start from the loop's place
+abbrev asked : tie.Then1 Inv-loop μ-loop → tie.At-loop Inv-loop μ-loop
+asked c = c .before .before .before .before .before .before
 
-mul-k : tie.Need-mul-k Inv-loop μ-loop
-mul-k c = omega arith
-
-shared-slice-read-k : tie.Need-shared-slice-read-k Inv-loop μ-loop
-shared-slice-read-k c = omega arith
-
-slice-aggregate-is-new : tie.Need-slice-aggregate-is-new Inv-loop μ-loop
-slice-aggregate-is-new c = sym (c .before .before .before .loop .inv .2 .wide)
-
-slice-aggregate-is-new-2 : tie.Need-slice-aggregate-is-new-2 Inv-loop μ-loop
-slice-aggregate-is-new-2 c = sym (c .before .before .before .before .loop .inv .1)
+abbrev start : tie.At-loop Inv-loop μ-loop → tie.Start Inv-loop μ-loop
+start c = c .before .before
 
 is-new-requires : tie.Need-is-new-requires Inv-loop μ-loop
-is-new-requires c κs = let l = c .before .before .before .before .loop in (omega arith, omega (arith, l .inv .1, c .before .before .before .before .before .before .pre), l .inv .2)
-
-slice-aggregate-link : tie.Need-slice-aggregate-link Inv-loop μ-loop
-slice-aggregate-link c = sym (c .before .before .before .before .before .before .before .loop .inv .2 .wide)
-
-slice-aggregate-link-2 : tie.Need-slice-aggregate-link-2 Inv-loop μ-loop
-slice-aggregate-link-2 c = sym (c .before .before .before .before .before .before .before .before .loop .inv .1)
+is-new-requires c κs =
+    let p = c .before .before .before .before in
+    (omega arith, omega (arith, p .loop .inv .0, p .loop .inv .1, start p .pre), p .loop .inv .2)
 
 link-requires : tie.Need-link-requires Inv-loop μ-loop
 link-requires c κs =
-    let l = c .before .before .before .before .before .before .before .before .loop in
-    let p = c .before .before .before .before .before .before .before .before .before .before .pre in
-    (l .inv .2 .wide, omega (arith, p), omega (arith, p, l .inv .1))
-
-add-j : tie.Need-add-j Inv-loop μ-loop
-add-j c = omega arith
-
-loop-less : tie.Need-loop-less Inv-loop μ-loop
-loop-less c = omega arith
+    let p = asked (c .before .before) in
+    (p .loop .inv .2 .wide, omega (arith, start p .pre), omega (arith, start p .pre, p .loop .inv .1))
 
 loop-again : tie.Need-loop-again Inv-loop μ-loop
 loop-again c =
-    let l = c .before .before .before .before .before .before .before .before .before .before .before .loop in
-    let ks = c .before .before .before .before .before .before .before .before .before .before .before .before .before .args .ks .now in
-    let p = c .before .before .before .before .before .before .before .before .before .before .before .before .before .pre in
+    let then = c .before .before .before .before .before in
+    let p = asked then in
+    let l = p .loop in
+    let ks = start p .args .ks .now in
     let k = c .before .before .link in
-    let h : l .j < length ks = c .before .before .before .before .before .before .before .before .before .before .loop-test .taken in
-    let new = sym (c .before .before .before .before .before .before .is-new .ensures) ∙ c .before .before .before .before .before .if1 .taken in
-    (
+    let h : l .j < length ks = then .before .before .before .before .before .loop-test .taken in
+    let new = sym (then .before .is-new .ensures) ∙ then .if1 .taken in (
       omega arith,
       k .kept .1 .1 .1 .0 ∙ l .inv .1,
-      linked-after ks (l .heads) (l .nexts) (l .j) (l .inv .2) (omega (arith, p, l .inv .1)) (mod-lt (getD ks (l .j) 0) {m = chains} (omega arith))
-          (k .last .1 .1 .0) (k .last .1 .1 .1 .0) (k .ensures .0) (k .ensures .1),
+      rw (k .ensures .0, k .ensures .1) (linked-more ks (l .heads) (l .nexts) (l .j) (l .inv .2) (omega (arith, start p .pre, l .inv .1))),
       l .inv .3 ∙ new-next ks (l .j) h new,
     )
 
@@ -76,28 +58,8 @@ returns c =
     let ks = c .before .before .before .before .before .before .before .before .args .ks .now in
     sym (l .inv .3 ∙ new-stop ks (l .j) (c .before .before .before .before .before .loop-test .taken) (sym (c .before .is-new .ensures) ∙ c .if1 .left))
 
-returns-2 : tie.Need-returns-2 Inv-loop μ-loop
-returns-2 c =
-    let l = c .before .loop in
-    sym (l .inv .3 ∙ new-end (c .before .before .before .args .ks .now) (l .j) (omega arith))
-
 pub all-new-spec : {M : Type 1} → statement M
-all-new-spec =
-    tie.close
-    (tie.spec
-    Inv-loop
-    μ-loop
-    loop-holds
-    mul-k
-    shared-slice-read-k
-    slice-aggregate-is-new
-    slice-aggregate-is-new-2
-    is-new-requires
-    slice-aggregate-link
-    slice-aggregate-link-2
-    link-requires
-    add-j
-    loop-less
-    loop-again
-    returns
-    returns-2)
+all-new-spec = tie.close (tie.spec Inv-loop μ-loop (λ c. (omega arith, refl, linked-none _ _, refl)) (λ c. omega arith) (λ c. omega arith)
+    (λ c. sym (c .before .before .before .loop .inv .2 .wide)) (λ c. sym (c .before .before .before .before .loop .inv .1)) is-new-requires
+    (λ c. sym (asked (c .before) .loop .inv .2 .wide)) (λ c. sym (asked (c .before .before) .loop .inv .1)) link-requires (λ c. omega arith) (λ c. omega arith)
+    loop-again returns (λ c. sym (c .before .loop .inv .3 ∙ new-end (c .before .before .before .args .ks .now) (c .before .loop .j) (omega arith))))

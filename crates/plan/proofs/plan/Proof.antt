@@ -2,7 +2,7 @@
 use borrow.Author.Needs.{needs}
 use mathlib.Core.Path.{_≡_, sym, ap, _∙_, subst}
 use Rattle.questions.specs.Questions.{Verdict, allYes, verdictOf}
-use Rattle.sheet.specs.Lists.{Lists, listed, given}
+use Rattle.sheet.specs.Lists.{WrittenLists, written, givenBy}
 use Rattle.plan_ask.specs.Questions.{Rooms, lent, fitsRooms, refusalBy, refusal}
 use Rattle.plan_ask.specs.Asking.{fitLengths}
 use Rattle.plan_ask.specs.SolvableLaws.{asked-yes}
@@ -13,10 +13,10 @@ use Rattle.plan_solve.specs.Reply.{Reply, replyOf, fitReply}
 use Rattle.plan.proofs.plan.Statement.{statement}
 use Rattle.plan.proofs.plan.Tie as tie
 
-abbrev lists : tie.Start → Lists
+abbrev lists : tie.Start → WrittenLists
 lists c =
     let a = c .args in
-    listed (a .span) (a .first .now) (a .last .now) (a .from .now) (a .to .now) (a .low .now) (a .high .now)
+    written (a .span) (a .loader .now) (a .first .now) (a .last .now) (a .from .now) (a .to .now) (a .low .now) (a .high .now)
 
 abbrev before : tie.Start → Rooms
 before c =
@@ -25,14 +25,14 @@ before c =
 
 -- back to the start, from the questions' answer
 abbrev start : tie.After-ask → tie.Start
-start c = c .before .before .before .before .before .before .before .before .before .before .before .before .before .before .before .before .before
+start c = c .before .before .before .before .before .before .before .before .before .before .before .before .before .before .before .before .before .before
 
 -- which is that of the rooms' own lengths
 asked-of : (c : tie.After-ask) (v : Verdict) → verdictOf (c .ask .result) ≡ v → refusal (lists (start c)) (before (start c)) ≡ v
 asked-of c v e =
     let l = lists (start c) in
     let n = c .before .lengths-of in
-    sym (subst (λ (r : Lengths). verdictOf (c .ask .result) ≡ refusalBy l (fitLengths (given l) r)) (n .ensures) (c .ask .ensures)) ∙ e
+    sym (subst (λ (r : Lengths). verdictOf (c .ask .result) ≡ refusalBy l (fitLengths (givenBy l) r)) (n .ensures) (c .ask .ensures)) ∙ e
 
 -- where the answer was yes
 abbrev asked : tie.After-enum-told → tie.Start
@@ -45,7 +45,7 @@ solve-requires : tie.Need-solve-requires
 solve-requires c κs =
     let p : tie.After-enum-told = c .before .before .before .before .before in
     let s = asked p in
-    asked-yes (lists s) (fitsRooms (given (lists s)) (before s)) (yes p)
+    asked-yes (lists s) (fitsRooms (givenBy (lists s)) (before s)) (yes p)
 
 returns : tie.Need-returns
 returns c =
@@ -54,10 +54,10 @@ returns c =
     refused-settled (lists (start d)) (before (start d)) (f .0 .0 .number) (f .0 .0 .line) (asked-of d _ (ap verdictOf (f .1)))
 
 -- what solving leaves, where the reply is what it gave
-solved : (l : Lists) (room after : Rooms) (reply fit : Reply) → refusal l room ≡ allYes → reply ≡ fit
-    → Settled (byPass (passed (given l))) (given l) room fit after → Settled (conclusion l room) (given l) room reply after
+solved : (l : WrittenLists) (room after : Rooms) (reply fit : Reply) → refusal l room ≡ allYes → reply ≡ fit
+    → Settled (byPass (passed (givenBy l))) (givenBy l) room fit after → Settled (conclusion l room) (givenBy l) room reply after
 solved l room after reply fit e same h =
-    solved-settled l room e reply after (subst (λ (x : Reply). Settled (byPass (passed (given l))) (given l) room x after) (sym same) h)
+    solved-settled l room e reply after (subst (λ (x : Reply). Settled (byPass (passed (givenBy l))) (givenBy l) room x after) (sym same) h)
 
 returns-2 : tie.Need-returns-2
 returns-2 c =
