@@ -19,7 +19,7 @@ use Rattle.sheet.specs.Sheet.{Sheet, top, boundaries, lawful, countIn, printedP
 use Rattle.sheet.specs.Lists.{WrittenLists, givenBy}
 use Rattle.plan_ask.specs.Questions.{Rooms, fitsRooms, refusal}
 use Rattle.plan_ask.specs.AskingLaws.{lists-read, units-length}
-use Rattle.plan_ask.specs.SolvableLaws.{asked-yes, asked-loaders, asked-length}
+use Rattle.plan_ask.specs.SolvableLaws.{Listed, asked-lists}
 use Rattle.plan_solve.specs.Planning.{conclusion, Settled}
 use Rattle.plan_solve.specs.Reply as planning
 use Rattle.plan.specs.ConditionLaws.{call-planned}
@@ -66,11 +66,12 @@ module _ (l : WrittenLists) (before : Rooms) (page : List ℕ) (at : ℕ) (reply
   first-no : planning.refusalOf (call .answer) ≡ refusal l before
   first-no = plans.number-is-first-no l before (call .answer) (call .planned) (call .call)
 
-  -- a unit for each loader number
+  -- what the lists of a call that planning's questions do not refuse are; they have a unit for each loader number
+  listed : refusal l before ≡ allYes → Listed l
+  listed = asked-lists l (fitsRooms s before)
+
   as-many : refusal l before ≡ allYes → length ks ≡ n
-  as-many y =
-      let S = asked-yes l (fitsRooms s before) y in
-      asked-length l (fitsRooms s before) y ∙ sym (units-length (l .plain) (lists-read (l .plain) (S .lists)))
+  as-many y = listed y .as-many ∙ sym (units-length (l .plain) (lists-read (l .plain) (listed y .lists)))
 
   way : Way
   unfolding planBytes ringBytes
@@ -92,14 +93,12 @@ module _ (l : WrittenLists) (before : Rooms) (page : List ℕ) (at : ℕ) (reply
       go (planning.refused q n) e o = refused q n e (o .replied) (o .lent) (o .shown)
       go planning.plan e o =
           let y = sym first-no ∙ ap planning.refusalOf e in
-          let ok = asked-yes l (fitsRooms s before) y .sheet in
-          asked says.plan (planBytes ks s) y (plan-short s ok ks (asked-loaders l (fitsRooms s before) y)) (plan e) (holds page at (planBytes ks s)) refl o
+          asked says.plan (planBytes ks s) y (plan-short s (listed y .sheet) ks (listed y .loaders)) (plan e) (holds page at (planBytes ks s)) refl o
       go (planning.none k) e o =
           let y = sym first-no ∙ ap planning.refusalOf e in
-          let ok = asked-yes l (fitsRooms s before) y .sheet in
           let ring = take k (call .planned .ring) in
           let closed = plans.ring-at l before (call .answer) (call .planned) (call .call) k e in
-          asked (says.none k) (ringBytes s ring) y (none-short s ok ring closed) (none k e) (holds page at (ringBytes s ring)) refl o
+          asked (says.none k) (ringBytes s ring) y (none-short s (listed y .sheet) ring closed) (none k e) (holds page at (ringBytes s ring)) refl o
 
   -- ---- 1. Ground. (That a call ends and does nothing undefined is what the checker asks of every function; `print` has no `requires`.)
 
@@ -171,7 +170,7 @@ module _ (l : WrittenLists) (before : Rooms) (page : List ℕ) (at : ℕ) (reply
           let lines : readLines (planBytes ks s) ≡ answerOn left at next = sym (ap (answerOn left at) (sym place) ∙ answer-read (h .room) (h .written)) in
           subst (λ x. PlanPage ks s x (answerOn left at next)) slots
           (subst (PlanPage ks s (printedPlan s)) lines (plan-page ks s (entry (boundaries s) (P .table)) (P .solved)
-          (asked-loaders l (fitsRooms s before) y) (as-many y)))
+          (listed y .loaders) (as-many y)))
       go (none k a h) = let r = h .replied in let z : _≡_ {A = ℕ} 0 1 = cc in absurd (omega arith)
       go (full y short r e p) = let z : _≡_ {A = ℕ} 0 1 = cc in absurd (omega arith)
 

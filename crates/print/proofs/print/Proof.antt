@@ -6,7 +6,7 @@ use Rattle.questions.specs.Questions.{Verdict, allYes, verdictOf}
 use Rattle.sheet.specs.Lists.{WrittenLists, written, givenBy}
 use Rattle.plan_ask.specs.Questions.{Rooms, lent, fitsRooms, refusalBy, refusal}
 use Rattle.plan_ask.specs.Asking.{fitLengths}
-use Rattle.plan_ask.specs.SolvableLaws.{asked-yes, asked-loaders, asked-length}
+use Rattle.plan_ask.specs.SolvableLaws.{asked-yes, asked-lists}
 use Rattle.plan_ask.specs.declared.Lengths.{Lengths}
 use Rattle.print.specs.CallLaws.{refused-printed, solved-printed}
 use Rattle.print.proofs.print.Statement.{statement}
@@ -47,7 +47,7 @@ print-solved-requires c κs =
     let s = asked p in
     let l = lists s in
     let r = fitsRooms (givenBy l) (before s) in
-    (asked-yes l r (yes p), (asked-loaders l r (yes p), asked-length l r (yes p)))
+    (asked-yes l r (yes p), (asked-lists l r (yes p) .loaders, asked-lists l r (yes p) .as-many))
 
 returns : tie.Need-returns
 returns c =

@@ -58,7 +58,8 @@ pub print-plan-spec : {M : Type 1} → statement M
 print-plan-spec = tie.close (tie.spec (λ c. search needs) (λ c κs. let s = c .before .before .before .before .before .before .before .before .before in
     (s .pre .0, own-room maxPage (s .pre .1 .1)))
     (λ c κs. tt)
-    (λ c κs. c .before .before .before .before .before .before .before .before .before .before .before .before .before .before .before .before .before .pre .1 .0)
+    (λ c κs.
+    c .before .before .before .before .before .before .before .before .before .before .before .before .before .before .before .before .before .pre .1 .0)
     (λ c. long (c .before .before .before .before .before .before .before .before .before .before .before .before .before .before .before .before))
     (λ c. sym (length-take-le _ _ (long
     (c .before .before .before .before .before .before .before .before .before .before .before .before .before .before .before .before .before))))
