@@ -18,7 +18,7 @@ use Rattle.network.specs.PassLaws.{finished-kept}
 use Rattle.sheet.specs.Sizes.{boundariesOf}
 use Rattle.sheet.specs.Sheet.{Sheet, top, boundaries, limit, earliest, latest, earliestSlots, latestSlots, printedPlan, leastIn, greatestIn, isRing}
 use Rattle.sheet.specs.PlanLaws.{lawful-iff}
-use Rattle.sheet.specs.Questions.{accepted}
+use Rattle.sheet.specs.Questions.{accepted, loadersFit}
 use Rattle.sheet.specs.QuestionLaws.{accepted-sized, accepted-valid}
 use Rattle.sheet.specs.Solved.{Solved}
 use Rattle.limits.specs.LimitTable.{limitTable}
@@ -64,12 +64,13 @@ module _ (s : Sheet) (ok : T (accepted s)) where
     unfolding latestSlots
     lasts-size = length-listOf (latest s) (length (s .units))
 
-    pub plan-printable : Printable (s .span) (printedPlan s) (earliestSlots s) (latestSlots s) t
-    plan-printable =
+    pub plan-printable : (ks : List ℕ) → length ks ≡ length (s .units) → Printable (s .span) ks (printedPlan s) (earliestSlots s) (latestSlots s) t
+    plan-printable ks long =
         let sized = accepted-sized s ok in
         record {
           slots = sized .slots .1;
           units = omega (arith, seats-size, sized .units);
+          loaders = long ∙ sym seats-size;
           earliest = firsts-size ∙ sym seats-size;
           latest = lasts-size ∙ sym seats-size;
           entries = omega (arith, table-size, places-span);
@@ -93,13 +94,14 @@ module _ (s : Sheet) (ok : T (accepted s)) where
           ap (λ w. up (entry w t (k - 1) k)) (sym boundaries-span) ∙ ap up (sym g) ∙ ap (λ i. greatestIn s i k) one;
     }
 
-    pub plan-bytes : tablePage (s .span) (printedPlan s) (earliestSlots s) (latestSlots s) t ≡ planBytes s
+    pub plan-bytes : (ks : List ℕ) → tablePage (s .span) ks (printedPlan s) (earliestSlots s) (latestSlots s) t ≡ planBytes ks s
     unfolding planBytes
-    plan-bytes = planPage-same (s .span) (printedPlan s) (earliestSlots s) (latestSlots s) least-same greatest-same
+    plan-bytes ks = planPage-same (s .span) ks (printedPlan s) (earliestSlots s) (latestSlots s) least-same greatest-same
 
-    pub plan-fits : length (tablePage (s .span) (printedPlan s) (earliestSlots s) (latestSlots s) t) ≤ maxPage
+    pub plan-fits : (ks : List ℕ) → T (loadersFit ks)
+        → length (tablePage (s .span) ks (printedPlan s) (earliestSlots s) (latestSlots s) t) ≤ maxPage
     unfolding planBytes
-    plan-fits = omega (arith, ap length plan-bytes, plan-short s ok)
+    plan-fits ks fit = omega (arith, ap length (plan-bytes ks), plan-short s ok ks fit)
 
   -- ---- a ring, and the table of the limits in front of some room
   module _ (ring : List ℕ) (h : T (isRing s ring)) (room : List ℤ) (fits : places s ≤ length room) where
@@ -136,7 +138,9 @@ module _ (s : Sheet) (ok : T (accepted s)) where
 
     pub ring-bytes : nonePage (entry (boundariesOf (s .span)) (limitTable s room)) ring ≡ ringBytes s ring
     unfolding ringBytes top
-    ring-bytes = nonePage-same (s .span) (entry (boundariesOf (s .span)) (limitTable s room)) (limit s) (λ a b ha hb. limits-are a b (omega arith) (omega arith)) ring (read .upto)
+    ring-bytes =
+        nonePage-same (s .span) (entry (boundariesOf (s .span)) (limitTable s room)) (limit s)
+        (λ a b ha hb. limits-are a b (omega arith) (omega arith)) ring (read .upto)
 
     pub ring-fits : length (nonePage (entry (boundariesOf (s .span)) (limitTable s room)) ring) ≤ maxRingPage
     unfolding ringBytes

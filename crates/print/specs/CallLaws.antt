@@ -15,7 +15,7 @@ use Rattle.questions.specs.Questions.{no, allYes}
 use Rattle.sheet.specs.Sheet.{Sheet, printedPlan, earliestSlots, latestSlots, isRing}
 use Rattle.limits.specs.LimitTable.{limitTable}
 use Rattle.sheet.specs.Questions.{accepted}
-use Rattle.sheet.specs.Lists.{Lists, given}
+use Rattle.sheet.specs.Lists.{WrittenLists, givenBy}
 use Rattle.plan_ask.specs.Questions.{Rooms, lent, places, refusal}
 use Rattle.plan_solve.specs.Planning.{passed, planned, ringed, byPass, Settled}
 use Rattle.plan_solve.specs.ConclusionLaws.{refused-settled, solved-settled}
@@ -67,31 +67,31 @@ with-plan false told bytes t t₁ t₂ p e l r r₁ r₂ page at reply left o =
     record { replied = o .replied; lent = ap (λ q. lent (q .table) p e l (q .ring)) (o .lent); shown = o .shown }
 
 -- ---- what the call leaves
-module _ (s : Sheet) (ok : T (accepted s)) (table : List ℤ) (plan earliest latest ring page : List ℕ) (at : ℕ) where
+module _ (ks : List ℕ) (s : Sheet) (ok : T (accepted s)) (table : List ℤ) (plan earliest latest ring page : List ℕ) (at : ℕ) where
   abbrev before : Rooms
   before = lent table plan earliest latest ring
 
   module _ (reply : says.Reply) (left : List ℕ) where
     -- a plan
     pub plan-printed : (t : List ℤ) → passed s ≡ finished t → (table′ : List ℤ) (plan′ earliest′ latest′ : List ℕ)
-        → (let bytes = tablePage (s .span) (printedPlan s) (earliestSlots s) (latestSlots s) t in
+        → (let bytes = tablePage (s .span) ks (printedPlan s) (earliestSlots s) (latestSlots s) t in
         Asked (holds page at bytes) says.plan bytes (lent table plan earliest latest [])
         (lent (onFront t table) (onFront (printedPlan s) plan) (onFront (earliestSlots s) earliest) (onFront (latestSlots s) latest) [])
         page at reply (lent table′ plan′ earliest′ latest′ []) left)
-        → PrintingOf (byPass (passed s)) s before page at reply (lent table′ plan′ earliest′ latest′ ring) left
+        → PrintingOf (byPass (passed s)) ks s before page at reply (lent table′ plan′ earliest′ latest′ ring) left
     plan-printed t e table′ plan′ earliest′ latest′ o =
         let n = length (s .units) in
         let rooms : lent (onFront t table) (onFront (printedPlan s) plan) (onFront (earliestSlots s) earliest) (onFront (latestSlots s) latest) ring
         ≡ planned s t before =
         rw (table-size s ok t e, seats-size s ok t e, firsts-size s ok t e, lasts-size s ok t e) refl in
-        let bytes = tablePage (s .span) (printedPlan s) (earliestSlots s) (latestSlots s) t in
+        let bytes = tablePage (s .span) ks (printedPlan s) (earliestSlots s) (latestSlots s) t in
         record {
           answer = planning.plan;
           planned = planned s t before;
           call = subst (λ p. Settled (byPass p) s before planning.plan (planned s t before)) (sym e) (refl, refl);
           shown =
               subst (λ bs. Asked (holds page at bs) says.plan bs before (planned s t before) page at reply (lent table′ plan′ earliest′ latest′ ring) left)
-              (plan-bytes s ok t e)
+              (plan-bytes s ok t e ks)
               (subst (λ r. Asked (holds page at bytes) says.plan bytes before r page at reply (lent table′ plan′ earliest′ latest′ ring) left) rooms
               (with-ring (holds page at bytes) says.plan bytes table (onFront t table) table′ plan (onFront (printedPlan s) plan) plan′ earliest
               (onFront (earliestSlots s) earliest) earliest′ latest (onFront (latestSlots s) latest) latest′ ring page at reply left o));
@@ -101,9 +101,9 @@ module _ (s : Sheet) (ok : T (accepted s)) (table : List ℤ) (plan earliest lat
     pub ring-printed : (c : List ℕ) (h : T (isRing s c)) → passed s ≡ stopped → (w : ℕ) → w ≡ boundariesOf (s .span) → (room : List ℤ) → places s ≤ length room
         → (table′ : List ℤ) (ring′ : List ℕ)
         → (let bytes = nonePage (entry w (limitTable s room)) c in
-        Asked (holds page at bytes) (says.none (length c)) bytes (lent table [] [] [] ring) (lent (cleared (w * w) table) [] [] [] (onFront c ring)) page at reply
-        (lent table′ [] [] [] ring′) left)
-        → PrintingOf (byPass (passed s)) s before page at reply (lent table′ plan earliest latest ring′) left
+        Asked (holds page at bytes) (says.none (length c)) bytes (lent table [] [] [] ring) (lent (cleared (w * w) table) [] [] [] (onFront c ring))
+        page at reply (lent table′ [] [] [] ring′) left)
+        → PrintingOf (byPass (passed s)) ks s before page at reply (lent table′ plan earliest latest ring′) left
     ring-printed c h e w sw room fits table′ ring′ o =
         let bytes = nonePage (entry w (limitTable s room)) c in
         let rooms : lent (cleared (w * w) table) plan earliest latest (onFront c ring) ≡ ringed s c before =
@@ -116,15 +116,15 @@ module _ (s : Sheet) (ok : T (accepted s)) (table : List ℤ) (plan earliest lat
           planned = ringed s c before;
           call = subst (λ p. Settled (byPass p) s before (planning.none (length c)) (ringed s c before)) (sym e) (c, h, refl, refl);
           shown =
-              subst (λ bs. Asked (holds page at bs) (says.none (length c)) bs before (ringed s c before) page at reply (lent table′ plan earliest latest ring′) left)
-              same
+              subst (λ bs. Asked (holds page at bs) (says.none (length c)) bs before (ringed s c before) page at reply
+              (lent table′ plan earliest latest ring′) left) same
               (subst (λ r. Asked (holds page at bytes) (says.none (length c)) bytes before r page at reply (lent table′ plan earliest latest ring′) left) rooms
-              (with-plan (holds page at bytes) (says.none (length c)) bytes table (cleared (w * w) table) table′ plan earliest latest ring (onFront c ring) ring′
-              page at reply left o));
+              (with-plan (holds page at bytes) (says.none (length c)) bytes table (cleared (w * w) table) table′ plan earliest latest ring
+              (onFront c ring) ring′ page at reply left o));
         }
 
 -- ---- the questions
-module _ (l : Lists) (before : Rooms) (page : List ℕ) (at : ℕ) where
+module _ (l : WrittenLists) (before : Rooms) (page : List ℕ) (at : ℕ) where
   -- one of them is answered no: nothing is changed
   pub refused-printed : (q n : ℕ) → refusal l before ≡ no q n → Printing l before page at (says.refused q n) before page
   refused-printed q n e = record {
@@ -136,7 +136,7 @@ module _ (l : Lists) (before : Rooms) (page : List ℕ) (at : ℕ) where
 
   -- all are answered yes: the pass decides
   pub solved-printed : refusal l before ≡ allYes → (reply : says.Reply) (after : Rooms) (left : List ℕ)
-      → PrintingOf (byPass (passed (given l))) (given l) before page at reply after left → Printing l before page at reply after left
+      → PrintingOf (byPass (passed (givenBy l))) (l .loader) (givenBy l) before page at reply after left → Printing l before page at reply after left
   solved-printed e reply after left p = record {
     answer = p .answer;
     planned = p .planned;

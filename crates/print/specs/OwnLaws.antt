@@ -15,7 +15,7 @@ use Rattle.network.specs.Table.{finished, stopped, cleared, entry, maxBoundarie
 use Rattle.sheet.specs.Sizes.{maxUnits, maxCells, boundariesOf}
 use Rattle.sheet.specs.Sheet.{Sheet, top, boundaries, printedPlan, earliestSlots, latestSlots, isRing}
 use Rattle.limits.specs.LimitTable.{limitTable, Fillable}
-use Rattle.sheet.specs.Questions.{accepted, sheetOf}
+use Rattle.sheet.specs.Questions.{accepted, sheetOf, loadersFit}
 use Rattle.sheet.specs.QuestionLaws.{accepted-sized}
 use Rattle.sheet.specs.Lists.{Lists, given}
 use Rattle.plan_ask.specs.Questions.{Rooms, lent, places, roomsFit, fitsRooms}
@@ -123,8 +123,9 @@ module _ (l : Lists) (before : Rooms) (S : Solvable l (fitsRooms (given l) befor
         let f = none-left s own after k (subst Settled-as e ends) in
         (f .0, f .1, f .3, front k (f .0) (drop (length (f .0)) (own .ring)) (after .ring) (sym (f .2)) (ap (λ r. r .ring) (f .4)))
 
-  -- ---- the parts of the own arrays that a plan is in
-  module _ (after : Rooms) (t : List ℤ) (halts : passed s ≡ finished t) (f : PlanFronts s w (length (l .first)) t after) where
+  -- ---- the parts of the own arrays that a plan is in, and the units' loader numbers
+  module _ (ks : List ℕ) (fit : T (loadersFit ks)) (long : length ks ≡ length (l .first))
+      (after : Rooms) (t : List ℤ) (halts : passed s ≡ finished t) (f : PlanFronts s w (length (l .first)) t after) where
     -- what printing a plan asks, of these parts
     abbrev closed : List ℤ
     closed = take (w * w) (after .table)
@@ -138,13 +139,13 @@ module _ (l : Lists) (before : Rooms) (S : Solvable l (fitsRooms (given l) befor
     abbrev late : List ℕ
     late = take (length (l .first)) (after .latest)
 
-    pub plan-asked : Printable (l .span) seated early late closed
+    pub plan-asked : Printable (l .span) ks seated early late closed
         × (((length closed ≤ length (before .table)) × (length seated ≤ length (before .plan))
         × (length early ≤ length (before .earliest)) × (length late ≤ length (before .latest)))
-        × (length (tablePage (l .span) seated early late closed) ≤ maxPage))
+        × (length (tablePage (l .span) ks seated early late closed) ≤ maxPage))
     unfolding sheetOf
     plan-asked = (
-      rw (f .closed .part, f .seats .part, f .firsts .part, f .lasts .part) (plan-printable s (S .sheet) t halts),
+      rw (f .closed .part, f .seats .part, f .firsts .part, f .lasts .part) (plan-printable s (S .sheet) t halts ks (long ∙ sym units-are)),
       (
         (
           omega (arith, length-take (w * w) (after .table), cells-lent),
@@ -152,20 +153,20 @@ module _ (l : Lists) (before : Rooms) (S : Solvable l (fitsRooms (given l) befor
           omega (arith, length-take (length (l .first)) (after .earliest), lends .earliest, units-are),
           omega (arith, length-take (length (l .first)) (after .latest), lends .latest, units-are),
         ),
-        rw (f .closed .part, f .seats .part, f .firsts .part, f .lasts .part) (plan-fits s (S .sheet) t halts),
+        rw (f .closed .part, f .seats .part, f .firsts .part, f .lasts .part) (plan-fits s (S .sheet) t halts ks fit),
       ),
     )
 
     -- and what the call then leaves
     pub plan-shown : (page : List ℕ) (at : ℕ) (out : says.Reply) (shown : List ℕ) (table : List ℤ) (plan earliest latest : List ℕ)
-        → Asked (holds page at (tablePage (l .span) seated early late closed)) says.plan (tablePage (l .span) seated early late closed)
+        → Asked (holds page at (tablePage (l .span) ks seated early late closed)) says.plan (tablePage (l .span) ks seated early late closed)
         (lent (before .table) (before .plan) (before .earliest) (before .latest) [])
         (lent (onFront closed (before .table)) (onFront seated (before .plan)) (onFront early (before .earliest)) (onFront late (before .latest)) [])
         page at out (lent table plan earliest latest []) shown
-        → PrintingOf (byPass (passed s)) s before page at out (lent table plan earliest latest (before .ring)) shown
+        → PrintingOf (byPass (passed s)) ks s before page at out (lent table plan earliest latest (before .ring)) shown
     unfolding sheetOf
     plan-shown page at out shown table plan earliest latest o =
-        plan-printed s (S .sheet) (before .table) (before .plan) (before .earliest) (before .latest) (before .ring) page at out shown t halts
+        plan-printed ks s (S .sheet) (before .table) (before .plan) (before .earliest) (before .latest) (before .ring) page at out shown t halts
         table plan earliest latest (rw (f .closed .part, f .seats .part, f .firsts .part, f .lasts .part) at o)
 
   -- ---- the part of the own array that a ring is in, and the limits filled in again
@@ -188,13 +189,13 @@ module _ (l : Lists) (before : Rooms) (S : Solvable l (fitsRooms (given l) befor
         ),
       )
 
-      pub ring-shown : (limits : List ℤ) → limits ≡ limitTable s cleared-room
+      pub ring-shown : (ks : List ℕ) (limits : List ℤ) → limits ≡ limitTable s cleared-room
           → (page : List ℕ) (at : ℕ) (out : says.Reply) (shown : List ℕ) (table : List ℤ) (ring : List ℕ)
           → (let found = take k (after .ring) in
           let bytes = nonePage (entry w limits) found in
           Asked (holds page at bytes) (says.none (length found)) bytes (lent (before .table) [] [] [] (before .ring))
           (lent (cleared (w * w) (before .table)) [] [] [] (onFront found (before .ring))) page at out (lent table [] [] [] ring) shown)
-          → PrintingOf (byPass (passed s)) s before page at out (lent table (before .plan) (before .earliest) (before .latest) ring) shown
-      ring-shown limits e page at out shown table ring o =
-          ring-printed s (S .sheet) (before .table) (before .plan) (before .earliest) (before .latest) (before .ring) page at out shown c h stops w
+          → PrintingOf (byPass (passed s)) ks s before page at out (lent table (before .plan) (before .earliest) (before .latest) ring) shown
+      ring-shown ks limits e page at out shown table ring o =
+          ring-printed ks s (S .sheet) (before .table) (before .plan) (before .earliest) (before .latest) (before .ring) page at out shown c h stops w
           w-of cleared-room room-long table ring (rw (e, f .part) at o)

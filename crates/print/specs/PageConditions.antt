@@ -1,6 +1,6 @@
 -- The user's three conditions, of printing from lists, in the words of lawful plans, of the rooms and of the page's own lines, all of them.
--- `call` is what the entry `print` ensures of every call: `Printing`, in Printing.antt. `reply` is what its answer says (`replyOf`, in Reply.antt), `before` and
--- `after` are the rooms lent, `page` and `left` the page before and after, `at` the running place, `s` the sheet in the lists.
+-- `call` is what the entry `print` ensures of every call: `Printing`, in Printing.antt. `reply` is what its answer says (`replyOf`, in Reply.antt), `before`
+-- and `after` are the rooms lent, `page` and `left` the page before and after, `at` the running place, `s` the sheet in the lists and `ks` its loader numbers.
 use mathlib.Core.Path.{_≡_, refl, sym, ap, _∙_, subst}
 use mathlib.Core.Logic.{_⊎_, inl, inr, ⊎-elim, _↔_}
 use mathlib.Core.Bool.{Bool, true, false}
@@ -16,9 +16,10 @@ use Rattle.network.specs.Table.{entry}
 use Rattle.questions.specs.Questions.{no, allYes}
 use Rattle.slots.specs.Slots.{Boundary, slotBefore, slotAfter}
 use Rattle.sheet.specs.Sheet.{Sheet, top, boundaries, lawful, countIn, printedPlan}
-use Rattle.sheet.specs.Lists.{Lists, given}
+use Rattle.sheet.specs.Lists.{WrittenLists, givenBy}
 use Rattle.plan_ask.specs.Questions.{Rooms, fitsRooms, refusal}
-use Rattle.plan_ask.specs.SolvableLaws.{asked-yes}
+use Rattle.plan_ask.specs.AskingLaws.{lists-read, units-length}
+use Rattle.plan_ask.specs.SolvableLaws.{Listed, asked-lists}
 use Rattle.plan_solve.specs.Planning.{conclusion, Settled}
 use Rattle.plan_solve.specs.Reply as planning
 use Rattle.plan.specs.ConditionLaws.{call-planned}
@@ -34,13 +35,17 @@ use Rattle.print.specs.PagesLaws.{plan-page, none-page}
 use Rattle.print.specs.Reply as says
 use Rattle.print.specs.Reply.{refusalOf}
 
-module _ (l : Lists) (before : Rooms) (page : List ℕ) (at : ℕ) (reply : says.Reply) (after : Rooms) (left : List ℕ)
+module _ (l : WrittenLists) (before : Rooms) (page : List ℕ) (at : ℕ) (reply : says.Reply) (after : Rooms) (left : List ℕ)
     (call : Printing l before page at reply after left) where
   abbrev pub s : Sheet
-  s = given l
+  s = givenBy l
 
   abbrev n : ℕ
   n = length (s .units)
+
+  -- the units' loader numbers
+  abbrev ks : List ℕ
+  ks = l .loader
 
   -- ---- how a call ends
 
@@ -54,12 +59,19 @@ module _ (l : Lists) (before : Rooms) (page : List ℕ) (at : ℕ) (reply : says
   -- refused by planning's questions, a plan, none, or refused by 15
   data Way : Type 0 where
     refused : (q n : ℕ) → call .answer ≡ planning.refused q n → reply ≡ says.refused q n → after ≡ call .planned → left ≡ page → Way
-    plan : call .answer ≡ planning.plan → Held says.plan (planBytes s) → Way
+    plan : call .answer ≡ planning.plan → Held says.plan (planBytes ks s) → Way
     none : (k : ℕ) → call .answer ≡ planning.none k → Held (says.none k) (ringBytes s (take k (call .planned .ring))) → Way
     full : refusal l before ≡ allYes → (at + maxPage ≤ length page → ⊥) → reply ≡ says.refused 15 0 → after ≡ before → left ≡ page → Way
 
   first-no : planning.refusalOf (call .answer) ≡ refusal l before
   first-no = plans.number-is-first-no l before (call .answer) (call .planned) (call .call)
+
+  -- what the lists of a call that planning's questions do not refuse are; they have a unit for each loader number
+  listed : refusal l before ≡ allYes → Listed l
+  listed = asked-lists l (fitsRooms s before)
+
+  as-many : refusal l before ≡ allYes → length ks ≡ n
+  as-many y = listed y .as-many ∙ sym (units-length (l .plain) (lists-read (l .plain) (listed y .lists)))
 
   way : Way
   unfolding planBytes ringBytes
@@ -77,18 +89,16 @@ module _ (l : Lists) (before : Rooms) (page : List ℕ) (at : ℕ) (reply : says
           full e (λ long. let fits = le-leb (at + length bytes) (length page) (omega arith) in let z : _≡_ {A = ℕ} 0 1 = cc in omega arith)
           (o .replied) (o .lent) (o .shown)
 
-      go : (a : planning.Reply) → call .answer ≡ a → Shown a s before (call .planned) page at reply after left → Way
+      go : (a : planning.Reply) → call .answer ≡ a → Shown a ks s before (call .planned) page at reply after left → Way
       go (planning.refused q n) e o = refused q n e (o .replied) (o .lent) (o .shown)
       go planning.plan e o =
           let y = sym first-no ∙ ap planning.refusalOf e in
-          let ok = asked-yes l (fitsRooms s before) y .sheet in
-          asked says.plan (planBytes s) y (plan-short s ok) (plan e) (holds page at (planBytes s)) refl o
+          asked says.plan (planBytes ks s) y (plan-short s (listed y .sheet) ks (listed y .loaders)) (plan e) (holds page at (planBytes ks s)) refl o
       go (planning.none k) e o =
           let y = sym first-no ∙ ap planning.refusalOf e in
-          let ok = asked-yes l (fitsRooms s before) y .sheet in
           let ring = take k (call .planned .ring) in
           let closed = plans.ring-at l before (call .answer) (call .planned) (call .call) k e in
-          asked (says.none k) (ringBytes s ring) y (none-short s ok ring closed) (none k e) (holds page at (ringBytes s ring)) refl o
+          asked (says.none k) (ringBytes s ring) y (none-short s (listed y .sheet) ring closed) (none k e) (holds page at (ringBytes s ring)) refl o
 
   -- ---- 1. Ground. (That a call ends and does nothing undefined is what the checker asks of every function; `print` has no `requires`.)
 
@@ -141,23 +151,26 @@ module _ (l : Lists) (before : Rooms) (page : List ℕ) (at : ℕ) (reply : says
       go (none k a h) = left-so (planning.none k) a (ap says.planningOf (sym (h .replied))) (h .lent)
       go (full y short r e p) = let z : _≡_ {A = ℕ} 0 1 = cc in absurd (omega arith)
 
-  -- ---- 2. Plan or ring, on the page. `answerOn left at next` are the answer's lines, read back from its bytes, from the place at entry to the place in the reply.
+  -- ---- 2. Plan or ring, on the page. `answerOn left at next` are the answer's lines, read back from its bytes, from the place at entry to the place in
+  -- the reply.
 
   -- A printed plan: its page, whole. Its slots are the plan in the lent room.
-  pub page-of-a-plan : (next : ℕ) → reply ≡ says.plan next → PlanPage s (take n (after .plan)) (answerOn left at next)
+  pub page-of-a-plan : (next : ℕ) → reply ≡ says.plan next → PlanPage ks s (take n (after .plan)) (answerOn left at next)
   page-of-a-plan next f = go way
     where
-      go : Way → PlanPage s (take n (after .plan)) (answerOn left at next)
+      go : Way → PlanPage ks s (take n (after .plan)) (answerOn left at next)
       go (refused q m a r e p) = let z : _≡_ {A = ℕ} 0 1 = cc in absurd (omega arith)
       go (plan a h) =
-          let r : reply ≡ says.plan (at + length (planBytes s)) = h .replied in
-          let place : at + length (planBytes s) ≡ next = cc in
+          let r : reply ≡ says.plan (at + length (planBytes ks s)) = h .replied in
+          let place : at + length (planBytes ks s) ≡ next = cc in
+          let y = sym first-no ∙ ap planning.refusalOf a in
           let P = call-planned l before (call .answer) (call .planned) (call .call) a in
           let slots : printedPlan s ≡ take n (after .plan) =
           sym (ap (λ (q : Rooms). take n (q .plan)) (h .lent) ∙ plans.plan-at l before (call .answer) (call .planned) (call .call) a) in
-          let lines : readLines (planBytes s) ≡ answerOn left at next = sym (ap (answerOn left at) (sym place) ∙ answer-read (h .room) (h .written)) in
-          subst (λ x. PlanPage s x (answerOn left at next)) slots
-          (subst (PlanPage s (printedPlan s)) lines (plan-page s (entry (boundaries s) (P .table)) (P .solved)))
+          let lines : readLines (planBytes ks s) ≡ answerOn left at next = sym (ap (answerOn left at) (sym place) ∙ answer-read (h .room) (h .written)) in
+          subst (λ x. PlanPage ks s x (answerOn left at next)) slots
+          (subst (PlanPage ks s (printedPlan s)) lines (plan-page ks s (entry (boundaries s) (P .table)) (P .solved)
+          (listed y .loaders) (as-many y)))
       go (none k a h) = let r = h .replied in let z : _≡_ {A = ℕ} 0 1 = cc in absurd (omega arith)
       go (full y short r e p) = let z : _≡_ {A = ℕ} 0 1 = cc in absurd (omega arith)
 
@@ -181,12 +194,12 @@ module _ (l : Lists) (before : Rooms) (page : List ℕ) (at : ℕ) (reply : says
 
   -- A sheet that is not refused gets the page of a plan exactly when some assignment meets all windows and all rules;
   pub plan-exactly-when-lawful : refusalOf reply ≡ allYes
-      → ((next : ℕ) × (reply ≡ says.plan next) × PlanPage s (take n (after .plan)) (answerOn left at next)) ↔ ((x : List ℕ) × T (lawful s x))
+      → ((next : ℕ) × (reply ≡ says.plan next) × PlanPage ks s (take n (after .plan)) (answerOn left at next)) ↔ ((x : List ℕ) × T (lawful s x))
   plan-exactly-when-lawful answered = (λ p. (take n (after .plan), p .2 .legal), λ x. go (x .0) (x .1) way)
     where
-      go : (x : List ℕ) → T (lawful s x) → Way → (next : ℕ) × (reply ≡ says.plan next) × PlanPage s (take n (after .plan)) (answerOn left at next)
+      go : (x : List ℕ) → T (lawful s x) → Way → (next : ℕ) × (reply ≡ says.plan next) × PlanPage ks s (take n (after .plan)) (answerOn left at next)
       go x h (refused q m a r e p) = let z : _≡_ {A = ℕ} 0 1 = cc in absurd (omega arith)
-      go x h (plan a w) = (at + length (planBytes s), w .replied, page-of-a-plan (at + length (planBytes s)) (w .replied))
+      go x h (plan a w) = (at + length (planBytes ks s), w .replied, page-of-a-plan (at + length (planBytes ks s)) (w .replied))
       go x h (none k a w) = absurd (page-of-a-ring k _ (w .replied) .unlawful x h)
       go x h (full y short r e p) = let z : _≡_ {A = ℕ} 0 1 = cc in absurd (omega arith)
 

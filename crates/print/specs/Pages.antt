@@ -3,28 +3,41 @@
 use mathlib.Core.Path.{_≡_}
 use mathlib.Core.Logic.{_↔_}
 use mathlib.Core.List.{List, [], _∷_, _++_, map}
-use Prim.Native.Nat.{ℕ, _≤_}
+use Prim.Native.Nat.{ℕ, _≤_, _<_}
 use lib.Dec.{T}
 use lib.ListN.{length, getD}
 use Rattle.lists.specs.Lists.{fromTo}
+use Rattle.lists.specs.Members.{In}
 use Rattle.slots.specs.Slots.{Slot, Boundary, slotBefore}
 use Rattle.sheet.specs.Sheet.{Sheet, top, unitPlaces, lawful, fair, countIn, leastIn, greatestIn, earliest, latest, limit, isRing}
 use Rattle.print_page.specs.Page.{shortfallOf}
-use Rattle.print_page.specs.PageLines.{Said, plan, none, shortfall, unitLinesWith, unitSaid, slotSaid, ringSaid}
+use Rattle.print_page.specs.PageLines.{Said, plan, unit, none, shortfall, unitLinesWith, unitSaid, slotSaid, ringSaid}
 
--- The lines of the plan x, all of them. The head has the number of units. Then a line for each unit, in order: its slot in x, and the earliest and the
--- latest slot that it has in any lawful plan. Then a line for each slot, in order: how many of these very lines give a unit this slot, and the least
--- and the greatest count of the slot over lawful plans.
-abbrev pub planLines : Sheet → List Slot → List Said → List Said
-planLines s x ls =
+-- The lines of the plan x, all of them. The head has the number of units. Then a line for each unit, in order: its loader number, its slot in x, and the
+-- earliest and the latest slot that it has in any lawful plan. Then a line for each slot, in order: how many of these very lines give a unit this slot, and
+-- the least and the greatest count of the slot over lawful plans. `ks` are the units' loader numbers.
+abbrev pub planLines : List ℕ → Sheet → List Slot → List Said → List Said
+planLines ks s x ls =
     plan (length (s .units))
-    ∷ (map (unitSaid (λ j. getD x j 0) (earliest s) (latest s)) (unitPlaces s)
+    ∷ (map (unitSaid (λ j. getD ks j 0) (λ j. getD x j 0) (earliest s) (latest s)) (unitPlaces s)
     ++ map (slotSaid (λ t. unitLinesWith t ls) (λ t. leastIn s t t) (λ t. greatestIn s t t)) (fromTo 1 (s .span)))
 
--- The lines are those of the plan x. It is lawful, has the seat property, and by the end of each slot no lawful plan has more deliveries. A number is a
--- slot's count in some lawful plan exactly when it is from the slot line's least to its greatest.
-pub record PlanPage (s : Sheet) (x : List Slot) (ls : List Said) : Type 0 where
-  pub lines : ls ≡ planLines s x ls
+-- A line `unit k t e f` is one unit's: k is the loader number of the unit at this place and of no other unit, t is its slot in the plan x, and e and f are its
+-- earliest and its latest slot.
+pub record UnitOf (ks : List ℕ) (s : Sheet) (x : List Slot) (k t e f : ℕ) : Type 0 where
+  pub place : ℕ
+  pub inside : place < length (s .units)
+  pub number : getD ks place 0 ≡ k
+  pub alone : (i : ℕ) → i < length (s .units) → getD ks i 0 ≡ k → i ≡ place
+  pub slot : t ≡ getD x place 0
+  pub first : e ≡ earliest s place
+  pub last : f ≡ latest s place
+
+-- The lines are those of the plan x, and each unit line is one unit's. The plan is lawful, has the seat property, and by the end of each slot no lawful plan
+-- has more deliveries. A number is a slot's count in some lawful plan exactly when it is from the slot line's least to its greatest.
+pub record PlanPage (ks : List ℕ) (s : Sheet) (x : List Slot) (ls : List Said) : Type 0 where
+  pub lines : ls ≡ planLines ks s x ls
+  pub units : (k t e f : ℕ) → In (unit k t e f) ls → UnitOf ks s x k t e f
   pub legal : T (lawful s x)
   pub seated : T (fair s x)
   pub soonest : (y : List Slot) → T (lawful s y) → (t : Slot) → 1 ≤ t → t ≤ slotBefore (top s) → countIn 1 t y ≤ countIn 1 t x

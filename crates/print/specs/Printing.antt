@@ -7,7 +7,7 @@ use Prim.Native.Nat.{ℕ, _+_}
 use lib.Dec.{leb}
 use lib.ListN.{length, take}
 use Rattle.sheet.specs.Sheet.{Sheet, limit, leastIn, greatestIn, printedPlan, earliestSlots, latestSlots}
-use Rattle.sheet.specs.Lists.{Lists, given}
+use Rattle.sheet.specs.Lists.{WrittenLists, givenBy}
 use Rattle.plan_ask.specs.Questions.{Rooms}
 use Rattle.plan_solve.specs.Planning.{Conclusion, conclusion, Settled}
 use Rattle.plan_solve.specs.Reply as planning
@@ -15,9 +15,9 @@ use Rattle.print_bytes.specs.Writing.{withBytes}
 use Rattle.print_page.specs.Page.{planPage, nonePage}
 use Rattle.print.specs.Reply as says
 
--- the page of the sheet's printed plan: its narrowed windows, and the least and greatest count of each slot over lawful plans
-unfoldable pub planBytes : Sheet → List ℕ
-planBytes s = planPage (s .span) (printedPlan s) (earliestSlots s) (latestSlots s) (λ t. leastIn s t t) (λ t. greatestIn s t t)
+-- the page of the sheet's printed plan: its units' loader numbers, its narrowed windows, and the least and greatest count of each slot over lawful plans
+unfoldable pub planBytes : List ℕ → Sheet → List ℕ
+planBytes ks s = planPage (s .span) ks (printedPlan s) (earliestSlots s) (latestSlots s) (λ t. leastIn s t t) (λ t. greatestIn s t t)
 
 -- the page of a ring: the sheet's own limits
 unfoldable pub ringBytes : Sheet → List ℕ → List ℕ
@@ -39,21 +39,22 @@ Asked true told bytes before planned page at reply after left = Outcome reply af
 Asked false told bytes before planned page at reply after left = Outcome reply after left (says.refused 15 0) before page
 
 -- printing, after planning has replied and left the rooms so
-abbrev pub Shown : planning.Reply → Sheet → Rooms → Rooms → List ℕ → ℕ → says.Reply → Rooms → List ℕ → Type 0
-Shown (planning.refused q n) s before planned page at reply after left = Outcome reply after left (says.refused q n) planned page
-Shown planning.plan s before planned page at reply after left =
-    Asked (holds page at (planBytes s)) says.plan (planBytes s) before planned page at reply after left
-Shown (planning.none k) s before planned page at reply after left =
+abbrev pub Shown : planning.Reply → List ℕ → Sheet → Rooms → Rooms → List ℕ → ℕ → says.Reply → Rooms → List ℕ → Type 0
+Shown (planning.refused q n) ks s before planned page at reply after left = Outcome reply after left (says.refused q n) planned page
+Shown planning.plan ks s before planned page at reply after left =
+    Asked (holds page at (planBytes ks s)) says.plan (planBytes ks s) before planned page at reply after left
+Shown (planning.none k) ks s before planned page at reply after left =
     let bytes = ringBytes s (take k (planned .ring)) in
     Asked (holds page at bytes) (says.none k) bytes before planned page at reply after left
 
 -- a call of print that comes to a conclusion: what planning replies and leaves, as `Settled` says, and what printing makes of it
-pub record PrintingOf (v : Conclusion) (s : Sheet) (before : Rooms) (page : List ℕ) (at : ℕ) (reply : says.Reply) (after : Rooms) (left : List ℕ) : Type 0 where
+pub record PrintingOf (v : Conclusion) (ks : List ℕ) (s : Sheet) (before : Rooms) (page : List ℕ) (at : ℕ)
+    (reply : says.Reply) (after : Rooms) (left : List ℕ) : Type 0 where
   pub answer : planning.Reply
   pub planned : Rooms
   pub call : Settled v s before answer planned
-  pub shown : Shown answer s before planned page at reply after left
+  pub shown : Shown answer ks s before planned page at reply after left
 
 -- a call of print, from its lists and rooms, its page and its place
-abbrev pub Printing : Lists → Rooms → List ℕ → ℕ → says.Reply → Rooms → List ℕ → Type 0
-Printing l before page at reply after left = PrintingOf (conclusion l before) (given l) before page at reply after left
+abbrev pub Printing : WrittenLists → Rooms → List ℕ → ℕ → says.Reply → Rooms → List ℕ → Type 0
+Printing l before page at reply after left = PrintingOf (conclusion l before) (l .loader) (givenBy l) before page at reply after left

@@ -4,8 +4,9 @@ ghost use Prim.Native.Nat.{_+_, _*_, _≤_};
 ghost use lib.Dec.{leb};
 ghost use lib.ListN.{length, drop};
 ghost use Rattle.network.specs.Table.{entry, cleared};
-ghost use Rattle.sheet.specs.Questions.{sheetOf};
-ghost use Rattle.sheet.specs.Lists.{listed, given};
+ghost use lib.Dec.{T};
+ghost use Rattle.sheet.specs.Questions.{sheetOf, loadersFit};
+ghost use Rattle.sheet.specs.Lists.{listed, written, given};
 ghost use Rattle.plan_ask.specs.Questions.{lent, fitsRooms};
 ghost use Rattle.plan_ask.specs.Asking.{Solvable};
 ghost use Rattle.plan_solve.specs.Planning.{passed, byPass};
@@ -64,6 +65,7 @@ fn keep_plan(
 // The page of a plan is written into an array of the call's own. Where the lent page holds it, it is put there, and the rooms hold the plan too.
 fn print_plan(
     span: usize,
+    loader: &[u16],
     closed: &[i16],
     seats: &[u16],
     firsts: &[u16],
@@ -75,12 +77,12 @@ fn print_plan(
     page: &mut [u8],
     at: usize,
 ) -> Printed
-    requires { ⌜ Printable span (now seats) (now firsts) (now lasts) (now closed) ⌝ }
+    requires { ⌜ Printable span (now loader) (now seats) (now firsts) (now lasts) (now closed) ⌝ }
     requires { ⌜ (length (now closed) ≤ length (now table)) × (length (now seats) ≤ length (now plan))
         × (length (now firsts) ≤ length (now earliest)) × (length (now lasts) ≤ length (now latest)) ⌝ }
-    requires { ⌜ length (tablePage span (now seats) (now firsts) (now lasts) (now closed)) ≤ maxPage ⌝ }
+    requires { ⌜ length (tablePage span (now loader) (now seats) (now firsts) (now lasts) (now closed)) ≤ maxPage ⌝ }
     ensures { λ r.
-        let bytes = tablePage span (now (seats .entry)) (now (firsts .entry)) (now (lasts .entry)) (now (closed .entry)) in
+        let bytes = tablePage span (now (loader .entry)) (now (seats .entry)) (now (firsts .entry)) (now (lasts .entry)) (now (closed .entry)) in
         ⌜ Asked (holdsAnswer (now (page .entry)) at bytes) says.plan bytes
         (lent (now (table .entry)) (now (plan .entry)) (now (earliest .entry)) (now (latest .entry)) [])
         (lent (onFront (now (closed .entry)) (now (table .entry))) (onFront (now (seats .entry)) (now (plan .entry)))
@@ -89,7 +91,7 @@ fn print_plan(
         (lent (now (table .exit)) (now (plan .exit)) (now (earliest .exit)) (now (latest .exit)) []) (now (page .exit)) ⌝ }
 {
     let mut answer = [0u8; MAX_PAGE];
-    let length = print_page::put_plan(&mut answer, 0, span, seats, firsts, lasts, closed);
+    let length = print_page::put_plan(&mut answer, 0, span, loader, seats, firsts, lasts, closed);
     if holds(page.len(), at, length) {
         keep_plan(closed, seats, firsts, lasts, table, plan, earliest, latest);
         let next = print_writer::write(page, at, &answer[..length]);
@@ -141,6 +143,7 @@ fn print_ring(
 // A sheet of which every question of planning is answered yes. It is planned in arrays of this call's own: a refusal by 15 changes nothing.
 fn print_solved(
     span: usize,
+    loader: &[u16],
     first: &[u16],
     last: &[u16],
     from: &[u16],
@@ -157,10 +160,12 @@ fn print_solved(
 ) -> Printed
     requires { let l = listed span (now first) (now last) (now from) (now to) (now low) (now high) in
         ⌜ Solvable l (fitsRooms (given l) (lent (now table) (now plan) (now earliest) (now latest) (now ring))) ⌝ }
+    requires { ⌜ T (loadersFit (now loader)) × (length (now loader) ≡ length (now first)) ⌝ }
     ensures { λ r.
         let s = sheetOf span (now (first .entry)) (now (last .entry)) (now (from .entry)) (now (to .entry)) (now (low .entry)) (now (high .entry)) in
-        ⌜ PrintingOf (byPass (passed s)) s
-        (lent (now (table .entry)) (now (plan .entry)) (now (earliest .entry)) (now (latest .entry)) (now (ring .entry))) (now (page .entry)) at (says.replyOf r)
+        ⌜ PrintingOf (byPass (passed s)) (now (loader .entry)) s
+        (lent (now (table .entry)) (now (plan .entry)) (now (earliest .entry)) (now (latest .entry)) (now (ring .entry)))
+        (now (page .entry)) at (says.replyOf r)
         (lent (now (table .exit)) (now (plan .exit)) (now (earliest .exit)) (now (latest .exit)) (now (ring .exit))) (now (page .exit)) ⌝ }
 {
     let mut closed = [0i16; Sheet::MAX_CELLS];
@@ -188,6 +193,7 @@ fn print_solved(
     match fit {
         Fit::Fits => print_plan(
             span,
+            loader,
             &closed[..cells],
             &seats[..n],
             &firsts[..n],
@@ -210,6 +216,7 @@ fn print_solved(
 // that is printed leaves the rooms as planning does, and the place just past it is in the reply; a refusal leaves page and place.
 pub fn print(
     span: usize,
+    loader: &[u16],
     first: &[u16],
     last: &[u16],
     from: &[u16],
@@ -225,16 +232,19 @@ pub fn print(
     at: usize,
 ) -> Printed
     ensures { λ r.
-        ⌜ Printing (listed span (now (first .entry)) (now (last .entry)) (now (from .entry)) (now (to .entry)) (now (low .entry)) (now (high .entry)))
-        (lent (now (table .entry)) (now (plan .entry)) (now (earliest .entry)) (now (latest .entry)) (now (ring .entry))) (now (page .entry)) at (says.replyOf r)
+        ⌜ Printing (written span (now (loader .entry)) (now (first .entry)) (now (last .entry)) (now (from .entry)) (now (to .entry)) (now (low .entry))
+        (now (high .entry)))
+        (lent (now (table .entry)) (now (plan .entry)) (now (earliest .entry)) (now (latest .entry)) (now (ring .entry)))
+        (now (page .entry)) at (says.replyOf r)
         (lent (now (table .exit)) (now (plan .exit)) (now (earliest .exit)) (now (latest .exit)) (now (ring .exit))) (now (page .exit)) ⌝ }
 {
     let rooms = plan_ask::lengths_of(table, plan, earliest, latest, ring);
-    let asked = plan_ask::ask(span, first, last, from, to, low, high, rooms);
+    let asked = plan_ask::ask(span, loader, first, last, from, to, low, high, rooms);
     match asked {
         Checked::No(refusal) => Printed::Refused(refusal),
         Checked::Yes => print_solved(
             span,
+            loader,
             first,
             last,
             from,

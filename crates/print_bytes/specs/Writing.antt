@@ -27,7 +27,7 @@ unfoldable pub planHead : ℕ → List ℕ
 planHead units = formLine planHeadForm (units ∷ [])
 
 unfoldable pub unitLine : ℕ → ℕ → ℕ → ℕ → List ℕ
-unitLine unit slot earliest latest = formLine unitLineForm (unit ∷ slot ∷ earliest ∷ latest ∷ [])
+unitLine loader slot earliest latest = formLine unitLineForm (loader ∷ slot ∷ earliest ∷ latest ∷ [])
 
 unfoldable pub slotLine : ℕ → ℕ → ℕ → ℕ → List ℕ
 slotLine slot count least greatest = formLine slotLineForm (slot ∷ count ∷ least ∷ greatest ∷ [])

@@ -132,16 +132,16 @@ pub fn put_two_numbers(
 pub fn put_unit(
     page: &mut [u8],
     at: usize,
-    unit: u16,
+    loader: u16,
     slot: u16,
     earliest: u16,
     latest: u16,
 ) -> usize
-    requires { ⌜ Room (now page) at (unitLine unit slot earliest latest) ⌝ }
-    ensures { λ r. ⌜ Written (now (page .entry)) at (unitLine unit slot earliest latest) (now (page .exit)) r ⌝ }
+    requires { ⌜ Room (now page) at (unitLine loader slot earliest latest) ⌝ }
+    ensures { λ r. ⌜ Written (now (page .entry)) at (unitLine loader slot earliest latest) (now (page .exit)) r ⌝ }
 {
     let next = put_word(page, at, b"(unit ");
-    let next2 = put_number(page, next, unit);
+    let next2 = put_number(page, next, loader);
     let next3 = put_word(page, next2, b" (slot ");
     let next4 = put_number(page, next3, slot);
     let next5 = put_word(page, next4, b") (between ");

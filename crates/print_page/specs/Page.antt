@@ -3,7 +3,7 @@
 use mathlib.Core.Path.{_≡_}
 use mathlib.Core.Bool.{cond}
 use mathlib.Core.List.{List, [], _∷_, map}
-use Prim.Native.Nat.{ℕ, suc, _+_, _*_, _≤_, _<_}
+use Prim.Native.Nat.{ℕ, _+_, _*_, _≤_, _<_}
 use lib.Dec.{ltb, eqb}
 use lib.ListN.{length, getD}
 use lib.IntN.{ℤ, negℤ}
@@ -20,12 +20,12 @@ use Rattle.print_bytes.specs.Writing.{planHead, unitLine, slotLine, noneHead, a
 
 -- ---- the page of a plan
 
--- the line of the unit at a place of the lists; units are numbered from 1
-unfoldable pub unitLineAt : List ℕ → List ℕ → List ℕ → ℕ → List ℕ
-unitLineAt slots earliest latest j = unitLine (suc j) (getD slots j 0) (getD earliest j 0) (getD latest j 0)
+-- the line of the unit at a place of the lists, by its loader number
+unfoldable pub unitLineAt : List ℕ → List ℕ → List ℕ → List ℕ → ℕ → List ℕ
+unitLineAt loaders slots earliest latest j = unitLine (getD loaders j 0) (getD slots j 0) (getD earliest j 0) (getD latest j 0)
 
-unfoldable pub unitLines : List ℕ → List ℕ → List ℕ → List ℕ
-unitLines slots earliest latest = joined (map (unitLineAt slots earliest latest) (run 0 (length slots)))
+unfoldable pub unitLines : List ℕ → List ℕ → List ℕ → List ℕ → List ℕ
+unitLines loaders slots earliest latest = joined (map (unitLineAt loaders slots earliest latest) (run 0 (length slots)))
 
 unfoldable pub slotLineAt : (Slot → ℕ) → (Slot → ℕ) → (Slot → ℕ) → Slot → List ℕ
 slotLineAt count least greatest t = slotLine t (count t) (least t) (greatest t)
@@ -41,10 +41,10 @@ unitsAt slots t = howMany (eqb t) slots
 unfoldable pub slotCounts : List ℕ → List ℕ
 slotCounts slots = listOf maxBoundaries (unitsAt slots)
 
--- each unit's slot and narrowed window; each slot's count in this plan, and the least and the greatest over lawful plans
-unfoldable pub planPage : ℕ → List ℕ → List ℕ → List ℕ → (ℕ → ℕ) → (ℕ → ℕ) → List ℕ
-planPage span slots earliest latest least greatest =
-    joined (planHead (length slots) ∷ unitLines slots earliest latest ∷ slotLines span (unitsAt slots) least greatest ∷ [])
+-- each unit's loader number, slot and narrowed window; each slot's count in this plan, and the least and the greatest over lawful plans
+unfoldable pub planPage : ℕ → List ℕ → List ℕ → List ℕ → List ℕ → (ℕ → ℕ) → (ℕ → ℕ) → List ℕ
+planPage span loaders slots earliest latest least greatest =
+    joined (planHead (length slots) ∷ unitLines loaders slots earliest latest ∷ slotLines span (unitsAt slots) least greatest ∷ [])
 
 -- the least and the greatest count of a slot, from the finished table of w boundaries: a slot is the stretch from its start to its end
 abbrev pub leastFrom : ℕ → List ℤ → Slot → ℕ
@@ -53,17 +53,19 @@ leastFrom w table t = dn (entry w table (slotEnd t) (slotStart t))
 abbrev pub greatestFrom : ℕ → List ℤ → Slot → ℕ
 greatestFrom w table t = up (entry w table (slotStart t) (slotEnd t))
 
--- a plan, its narrowed windows and a finished table that belong to one sheet
-pub record Printable (span : ℕ) (plan first last : List ℕ) (table : List ℤ) : Type 0 where
+-- loader numbers, a plan, its narrowed windows and a finished table that belong to one sheet
+pub record Printable (span : ℕ) (loader plan first last : List ℕ) (table : List ℤ) : Type 0 where
   pub slots : span ≤ maxSlots
   pub units : length plan ≤ maxUnits
+  pub loaders : length loader ≡ length plan
   pub earliest : length first ≡ length plan
   pub latest : length last ≡ length plan
   pub entries : boundariesOf span * boundariesOf span ≤ length table
 
 -- the page of a plan, with the least and greatest counts of the finished table
-abbrev pub tablePage : ℕ → List ℕ → List ℕ → List ℕ → List ℤ → List ℕ
-tablePage span slots earliest latest table = planPage span slots earliest latest (leastFrom (boundariesOf span) table) (greatestFrom (boundariesOf span) table)
+abbrev pub tablePage : ℕ → List ℕ → List ℕ → List ℕ → List ℕ → List ℤ → List ℕ
+tablePage span loaders slots earliest latest table =
+    planPage span loaders slots earliest latest (leastFrom (boundariesOf span) table) (greatestFrom (boundariesOf span) table)
 
 -- ---- the page of a ring
 
@@ -104,12 +106,13 @@ pub record RingFits (w : ℕ) (limits : List ℤ) (ring : List Boundary) : Type 
 
 -- ---- how long a page can be
 
--- the longest head, and the longest line of a unit, of a slot and of a step: units and counts have at most three digits, slots at most two
+-- the longest head, and the longest line of a unit, of a slot and of a step: loader numbers have at most four digits, the number of units and counts at most
+-- three, slots at most two
 abbrev pub maxHead : ℕ
 maxHead = 18
 
 abbrev pub maxUnitLine : ℕ
-maxUnitLine = 37
+maxUnitLine = 38
 
 abbrev pub maxSlotLine : ℕ
 maxSlotLine = 38

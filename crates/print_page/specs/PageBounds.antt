@@ -1,4 +1,4 @@
--- No answer page of an accepted sheet is longer than maxPage, so a page of that length never refuses one.
+-- No answer page of an accepted sheet with loader numbers is longer than maxPage, so a page of that length never refuses one.
 -- Key idea: a line is no longer than its form's words and so many digits (`line-short`), and a page no longer than so many lines.
 use mathlib.Core.Path.{_≡_, refl, ap}
 use mathlib.Core.Logic.{_⊎_, inl, inr, ⊎-elim}
@@ -19,13 +19,14 @@ use Rattle.lists.specs.Counts.{howMany-count, count-most}
 use Rattle.network.specs.Network.{Weights, via}
 use Rattle.network.specs.NetworkLaws.{Upto, distinct-length, cycle-read}
 use Rattle.network.specs.Table.{maxBoundaries}
-use Rattle.sheet.specs.Sizes.{maxSlots, maxUnits, maxCount}
+use Rattle.sheet.specs.Sizes.{maxSlots, maxUnits, maxCount, maxLoader}
 use Rattle.sheet.specs.Sheet.{Sheet, top, limit, isRing, countIn, lawfulPlans, leastIn, greatestIn, earliest, latest}
 use Rattle.sheet.specs.Sheet.{earliestSlots, latestSlots, soonest, fair, printedPlans, printedPlan, headOr}
 use Rattle.sheet.specs.PlanLaws.{in-lawfulPlans-iff}
 use Rattle.sheet.specs.LimitLaws.{countIn-length}
 use Rattle.limits.specs.LimitTableLaws.{limit-small}
-use Rattle.sheet.specs.Questions.{accepted}
+use Rattle.sheet.specs.Questions.{accepted, loadersFit}
+use Rattle.sheet.specs.LoaderLaws.{loader-size}
 use Rattle.sheet.specs.QuestionLaws.{accepted-sized, accepted-valid}
 use Rattle.forms.specs.Words.{text}
 use Rattle.forms.specs.Forms.{planHeadForm, unitLineForm, slotLineForm, noneHeadForm, atMostForm, atLeastForm, shortfallForm}
@@ -36,9 +37,9 @@ use Rattle.print_page.specs.Page.{stepLine, stepLines, ringLines, shortf
 use Rattle.print_page.specs.PageLaws.{three-length, step-forward, step-backward}
 
 -- ---- lines
-unitLine-short : (u x e l : ℕ) → u < 1000 → x < 100 → e < 100 → l < 100 → length (unitLine u x e l) ≤ maxUnitLine
+unitLine-short : (k x e l : ℕ) → k < 10000 → x < 100 → e < 100 → l < 100 → length (unitLine k x e l) ≤ maxUnitLine
 unfolding unitLine text
-unitLine-short u x e l hu hx he hl = line-short unitLineForm (u ∷ x ∷ e ∷ l ∷ []) (3 ∷ 2 ∷ 2 ∷ 2 ∷ []) (hu, (hx, (he, (hl, tt))))
+unitLine-short k x e l hk hx he hl = line-short unitLineForm (k ∷ x ∷ e ∷ l ∷ []) (4 ∷ 2 ∷ 2 ∷ 2 ∷ []) (hk, (hx, (he, (hl, tt))))
 
 slotLine-short : (t c l g : ℕ) → t < 100 → c < 1000 → l < 1000 → g < 1000 → length (slotLine t c l g) ≤ maxSlotLine
 unfolding slotLine text
@@ -77,19 +78,20 @@ lines-short f m i (suc k) h =
 
 -- ---- the page of a plan
 
--- slots within 48 and counts within 300
-pub record Small (span : ℕ) (slots first last : List ℕ) (low high : ℕ → ℕ) : Type 0 where
+-- loader numbers within 9999, slots within 48 and counts within 300
+pub record Small (span : ℕ) (loader slots first last : List ℕ) (low high : ℕ → ℕ) : Type 0 where
   pub spans : span ≤ maxSlots
   pub units : length slots ≤ maxUnits
+  pub loaders : (j : ℕ) → getD loader j 0 ≤ maxLoader
   pub seats : (j : ℕ) → (getD slots j 0 ≤ maxSlots) × (getD first j 0 ≤ maxSlots) × (getD last j 0 ≤ maxSlots)
   pub ranges : (t : ℕ) → (low t ≤ maxUnits) × (high t ≤ maxUnits)
 
-module _ {span : ℕ} {slots first last : List ℕ} {low high : ℕ → ℕ} (s : Small span slots first last low high) where
-  units-short : length (unitLines slots first last) ≤ length slots * maxUnitLine
+module _ {span : ℕ} {loader slots first last : List ℕ} {low high : ℕ → ℕ} (s : Small span loader slots first last low high) where
+  units-short : length (unitLines loader slots first last) ≤ length slots * maxUnitLine
   unfolding unitLines unitLineAt
-  units-short = lines-short (unitLineAt slots first last) maxUnitLine 0 (length slots)
-      (λ j p q. let b = s .seats j in unitLine-short (suc j) (getD slots j 0) (getD first j 0) (getD last j 0)
-      (omega (arith, s .units)) (omega arith) (omega arith) (omega arith))
+  units-short = lines-short (unitLineAt loader slots first last) maxUnitLine 0 (length slots)
+      (λ j p q. let b = s .seats j in unitLine-short (getD loader j 0) (getD slots j 0) (getD first j 0) (getD last j 0)
+      (omega (arith, s .loaders j)) (omega arith) (omega arith) (omega arith))
 
   slots-short : length (slotLines span (unitsAt slots) low high) ≤ span * maxSlotLine
   unfolding slotLines slotLineAt
@@ -106,12 +108,12 @@ module _ {span : ℕ} {slots first last : List ℕ} {low high : ℕ → ℕ} (s 
             (omega (arith, c, count-most (length slots) (λ i. eqb t (getD slots i 0)), s .units)) (omega arith) (omega arith)),
       )
 
-  pub planPage-short : length (planPage span slots first last low high) ≤ maxPage
+  pub planPage-short : length (planPage span loader slots first last low high) ≤ maxPage
   unfolding planPage
   planPage-short =
       omega (
         arith,
-        three-length (planHead (length slots)) (unitLines slots first last) (slotLines span (unitsAt slots) low high),
+        three-length (planHead (length slots)) (unitLines loader slots first last) (slotLines span (unitsAt slots) low high),
         units-short,
         slots-short,
         head-short (length slots) (omega (arith, s .units)),
@@ -137,6 +139,14 @@ values-small : (f : ℕ → ℕ) (k i n j : ℕ) → ((m : ℕ) → f m ≤ k) �
 values-small f k i zero j h = omega arith
 values-small f k i (suc n) zero h = h i
 values-small f k i (suc n) (suc j) h = values-small f k (suc i) n j h
+
+-- a place past the list has 0
+loader-small : (ks : List ℕ) → T (loadersFit ks) → (j : ℕ) → getD ks j 0 ≤ maxLoader
+loader-small ks fit j =
+    elim (decLe (length ks) j) [
+      | yes h ↦ omega (arith, List·getD-eq-default ks 0 {n = j} h)
+      | no g ↦ loader-size ks fit j (omega arith) .1
+    ]
 
 module _ (s : Sheet) (ok : T (accepted s)) where
   seat-small : (x : List ℕ) → In x (lawfulPlans s) → (j : ℕ) → getD x j 0 ≤ maxSlots
@@ -168,11 +178,13 @@ module _ (s : Sheet) (ok : T (accepted s)) where
       ⊎-elim (λ e. omega (arith, ap length e))
       (λ m. omega (arith, in-lawfulPlans-iff s (printedPlan s) .0 m .seated .size, accepted-sized s ok .units)) printed
 
-  sheet-small : Small (s .span) (printedPlan s) (earliestSlots s) (latestSlots s) (λ t. leastIn s t t) (λ t. greatestIn s t t)
+  sheet-small : (ks : List ℕ) → T (loadersFit ks)
+      → Small (s .span) ks (printedPlan s) (earliestSlots s) (latestSlots s) (λ t. leastIn s t t) (λ t. greatestIn s t t)
   unfolding earliestSlots latestSlots earliest latest leastIn greatestIn
-  sheet-small = record {
+  sheet-small ks fit = record {
     spans = accepted-sized s ok .slots .1;
     units = printed-few;
+    loaders = loader-small ks fit;
     seats = λ j. (
       printed-small j,
       values-small (earliest s) maxSlots 0 (length (s .units)) j (λ m. least-small (λ plan. getD plan m 0) maxSlots (lawfulPlans s) (λ x h. seat-small x h m)),
@@ -184,8 +196,9 @@ module _ (s : Sheet) (ok : T (accepted s)) where
     );
   }
 
-  pub plan-short : length (planPage (s .span) (printedPlan s) (earliestSlots s) (latestSlots s) (λ t. leastIn s t t) (λ t. greatestIn s t t)) ≤ maxPage
-  plan-short = planPage-short sheet-small
+  pub plan-short : (ks : List ℕ) → T (loadersFit ks)
+      → length (planPage (s .span) ks (printedPlan s) (earliestSlots s) (latestSlots s) (λ t. leastIn s t t) (λ t. greatestIn s t t)) ≤ maxPage
+  plan-short ks fit = planPage-short (sheet-small ks fit)
 
 -- ---- the page of a ring
 

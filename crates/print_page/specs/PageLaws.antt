@@ -21,7 +21,8 @@ use Rattle.network.specs.Table.{maxBoundaries}
 use Rattle.sheet.specs.Sizes.{maxSlots}
 use Rattle.limits.specs.LentTableLaws.{place-inside}
 use Rattle.print_bytes.specs.Writing.{planHead, noneHead, atMostLine, atLeastLine, shortfallLine}
-use Rattle.print_page.specs.Page.{unitsAt, slotCounts, unitLines, slotLineAt, slotLines, planPage, stepLine, stepLines, ringLines, shortfallOf, nonePage, RingFits}
+use Rattle.print_page.specs.Page.{unitsAt, slotCounts, unitLines, slotLineAt, slotLines, planPage}
+use Rattle.print_page.specs.Page.{stepLine, stepLines, ringLines, shortfallOf, nonePage, RingFits}
 
 -- a page is three parts
 pub three-length : (a b c : List ℕ) → length (joined (a ∷ b ∷ c ∷ [])) ≡ length a + (length b + length c)
@@ -40,11 +41,12 @@ slotLines-same span {count} {count′} {least} {least′} {greatest} {greatest�
     (λ t h k. let m : t ≤ span = omega arith in rw (c .each t h m, l .each t h m, g .each t h m)))
 
 -- a plan's page depends on the least and greatest counts of its slots alone
-pub planPage-same : (span : ℕ) (slots earliest latest : List ℕ) {least least′ greatest greatest′ : ℕ → ℕ} → SameSlots span least least′
-    → SameSlots span greatest greatest′ → planPage span slots earliest latest least greatest ≡ planPage span slots earliest latest least′ greatest′
+pub planPage-same : (span : ℕ) (loaders slots earliest latest : List ℕ) {least least′ greatest greatest′ : ℕ → ℕ} → SameSlots span least least′
+    → SameSlots span greatest greatest′
+    → planPage span loaders slots earliest latest least greatest ≡ planPage span loaders slots earliest latest least′ greatest′
 unfolding planPage
-planPage-same span slots earliest latest l g =
-    ap (λ ls. joined (planHead (length slots) ∷ unitLines slots earliest latest ∷ ls ∷ []))
+planPage-same span loaders slots earliest latest l g =
+    ap (λ ls. joined (planHead (length slots) ∷ unitLines loaders slots earliest latest ∷ ls ∷ []))
     (slotLines-same span (record { each = λ t h k. refl }) l g)
 
 -- ---- each slot's count, read from the list of counts
@@ -57,12 +59,12 @@ unfolding slotCounts
 counts-length plan = length-listOf (unitsAt plan) maxBoundaries
 
 -- the page of a plan, with each slot's count read from the list of counts
-pub page-counted : (span : ℕ) (plan earliest latest counts : List ℕ) (least greatest : ℕ → ℕ) → span ≤ maxSlots → counts ≡ slotCounts plan
-    → planPage span plan earliest latest least greatest
-    ≡ joined (planHead (length plan) ∷ unitLines plan earliest latest ∷ slotLines span (λ t. getD counts t 0) least greatest ∷ [])
+pub page-counted : (span : ℕ) (loaders plan earliest latest counts : List ℕ) (least greatest : ℕ → ℕ) → span ≤ maxSlots → counts ≡ slotCounts plan
+    → planPage span loaders plan earliest latest least greatest
+    ≡ joined (planHead (length plan) ∷ unitLines loaders plan earliest latest ∷ slotLines span (λ t. getD counts t 0) least greatest ∷ [])
 unfolding planPage
-page-counted span plan earliest latest counts least greatest h e =
-    ap (λ ls. joined (planHead (length plan) ∷ unitLines plan earliest latest ∷ ls ∷ []))
+page-counted span loaders plan earliest latest counts least greatest h e =
+    ap (λ ls. joined (planHead (length plan) ∷ unitLines loaders plan earliest latest ∷ ls ∷ []))
     (slotLines-same span counted (record { each = λ t k m. refl }) (record { each = λ t k m. refl }))
   where
     counted : SameSlots span (unitsAt plan) (λ t. getD counts t 0)

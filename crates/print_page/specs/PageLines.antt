@@ -2,7 +2,7 @@
 -- nothing here knows how the page was written. What stands on a page before an answer's head is no part of the answer.
 use mathlib.Core.Bool.{Bool, false, cond}
 use mathlib.Core.List.{List, [], _∷_, map}
-use Prim.Native.Nat.{ℕ, suc, _-_}
+use Prim.Native.Nat.{ℕ, _-_}
 use lib.Dec.{eqb, ltb}
 use lib.IntN.{negℤ}
 use lib.ListN.{getD, take, drop}
@@ -69,7 +69,7 @@ answerOn page at next = readLines (take (next - at) (drop at page))
 -- the unit lines with a slot
 abbrev pub isUnitWith : ℕ → Said → Bool
 isUnitWith t (plan n) = false
-isUnitWith t (unit j x e l) = eqb t x
+isUnitWith t (unit k x e l) = eqb t x
 isUnitWith t (slot s c l g) = false
 isUnitWith t none = false
 isUnitWith t (atMost v a b) = false
@@ -82,10 +82,11 @@ isUnitWith t other = false
 abbrev pub unitLinesWith : ℕ → List Said → ℕ
 unitLinesWith t ls = howMany (isUnitWith t) ls
 
--- ---- what the lines of a plan are to say: of the unit at place j, with its slot and the ends of its narrowed window, and of slot t, with its count and range
+-- ---- what the lines of a plan are to say: of the unit at place j, with its loader number, its slot and the ends of its narrowed window, and of slot t, with
+-- its count and range
 
-abbrev pub unitSaid : (ℕ → ℕ) → (ℕ → ℕ) → (ℕ → ℕ) → ℕ → Said
-unitSaid slots earliest latest j = unit (suc j) (slots j) (earliest j) (latest j)
+abbrev pub unitSaid : (ℕ → ℕ) → (ℕ → ℕ) → (ℕ → ℕ) → (ℕ → ℕ) → ℕ → Said
+unitSaid loaders slots earliest latest j = unit (loaders j) (slots j) (earliest j) (latest j)
 
 abbrev pub slotSaid : (ℕ → ℕ) → (ℕ → ℕ) → (ℕ → ℕ) → ℕ → Said
 slotSaid count least greatest t = slot t (count t) (least t) (greatest t)

@@ -26,7 +26,8 @@ use Rattle.print_bytes.specs.Writing.{Room, Written, planHead, unitLine, slotLi
 use Rattle.print_bytes.specs.WritingLaws.{written-part}
 use Rattle.print_page.specs.Page.{unitLineAt, unitLines, slotLineAt, slotLines, unitsAt, planPage, stepLine, stepLines, ringLines, shortfallOf, nonePage}
 use Rattle.print_page.specs.PageLines.{Said, plan, unit, slot, none, atMost, atLeast, shortfall, refused, other, Reading, reading, readings}
-use Rattle.print_page.specs.PageLines.{readBy, readLine, saidBy, readLines, answerOn, isUnitWith, unitLinesWith, unitSaid, slotSaid, stepSaid, stepsSaid, ringSaid}
+use Rattle.print_page.specs.PageLines.{readBy, readLine, saidBy, readLines, answerOn, isUnitWith, unitLinesWith}
+use Rattle.print_page.specs.PageLines.{unitSaid, slotSaid, stepSaid, stepsSaid, ringSaid}
 
 -- ---- lines
 
@@ -217,12 +218,12 @@ read-nothing : readLines [] ≡ []
 unfolding readLines lines
 read-nothing = refl
 
-module _ (span : ℕ) (slots first last : List ℕ) (low high : ℕ → ℕ) where
+module _ (span : ℕ) (loaders slots first last : List ℕ) (low high : ℕ → ℕ) where
   abbrev page : List ℕ
-  page = planPage span slots first last low high
+  page = planPage span loaders slots first last low high
 
   abbrev ofUnit : ℕ → Said
-  ofUnit = unitSaid (λ j. getD slots j 0) (λ j. getD first j 0) (λ j. getD last j 0)
+  ofUnit = unitSaid (λ j. getD loaders j 0) (λ j. getD slots j 0) (λ j. getD first j 0) (λ j. getD last j 0)
 
   abbrev ofSlot : (ℕ → ℕ) → ℕ → Said
   ofSlot count = slotSaid count low high
@@ -231,9 +232,10 @@ module _ (span : ℕ) (slots first last : List ℕ) (low high : ℕ → ℕ) whe
   counted-read : readLines page ≡ plan (length slots) ∷ (map ofUnit (run 0 (length slots)) ++ map (ofSlot (unitsAt slots)) (fromTo 1 span))
   unfolding planPage unitLines unitLineAt slotLines slotLineAt
   counted-read =
-      read-next (joined (unitLines slots first last ∷ slotLines span (unitsAt slots) low high ∷ [])) (plan-says (length slots))
+      read-next (joined (unitLines loaders slots first last ∷ slotLines span (unitsAt slots) low high ∷ [])) (plan-says (length slots))
       ∙ ap (λ ls. plan (length slots) ∷ ls)
-      (read-lines (unitLineAt slots first last) ofUnit (λ j. unit-says (suc j) (getD slots j 0) (getD first j 0) (getD last j 0)) 0 (length slots)
+      (read-lines (unitLineAt loaders slots first last) ofUnit
+      (λ j. unit-says (getD loaders j 0) (getD slots j 0) (getD first j 0) (getD last j 0)) 0 (length slots)
       (joined (slotLines span (unitsAt slots) low high ∷ []))
       ∙ ap (λ ls. map ofUnit (run 0 (length slots)) ++ ls)
       (read-lines (slotLineAt (unitsAt slots) low high) (ofSlot (unitsAt slots)) (λ t. slot-says t (unitsAt slots t) (low t) (high t)) 1 (suc span - 1) []

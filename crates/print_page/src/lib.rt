@@ -22,22 +22,29 @@ use slots::Slot;
 
 // The answer page, that of a plan and that of a ring, written into a slice from a place on.
 
-// No answer is longer: the head, a line of 37 bytes for each unit and one of 38 for each slot.
-pub const MAX_PAGE: usize = 18 + 37 * Sheet::MAX_UNITS + 38 * Sheet::MAX_SLOTS;
+// No answer is longer: the head, a line of 38 bytes for each unit, whose loader number has at most four digits, and one of 38 for each slot.
+pub const MAX_PAGE: usize = 18 + 38 * Sheet::MAX_UNITS + 38 * Sheet::MAX_SLOTS;
 
 // No page of a ring is longer: the head, a line of 29 bytes for each boundary, and the shortfall.
 pub const MAX_RING_PAGE: usize = 18 + 29 * Sheet::MAX_BOUNDARIES + 18;
 
-fn put_units(page: &mut [u8], at: usize, plan: &[u16], earliest: &[u16], latest: &[u16]) -> usize
-    requires { ⌜ (length (now earliest) ≡ length (now plan)) × (length (now latest) ≡ length (now plan)) × (length (now plan) ≤ maxUnits) ⌝ }
-    requires { ⌜ Room (now page) at (unitLines (now plan) (now earliest) (now latest)) ⌝ }
-    ensures { λ r. ⌜ Written (now (page .entry)) at (unitLines (now (plan .entry)) (now (earliest .entry)) (now (latest .entry)))
-        (now (page .exit)) r ⌝ }
+fn put_units(
+    page: &mut [u8],
+    at: usize,
+    loader: &[u16],
+    plan: &[u16],
+    earliest: &[u16],
+    latest: &[u16],
+) -> usize
+    requires { ⌜ (length (now loader) ≡ length (now plan)) × (length (now earliest) ≡ length (now plan)) × (length (now latest) ≡ length (now plan)) ⌝ }
+    requires { ⌜ Room (now page) at (unitLines (now loader) (now plan) (now earliest) (now latest)) ⌝ }
+    ensures { λ r. ⌜ Written (now (page .entry)) at
+        (unitLines (now (loader .entry)) (now (plan .entry)) (now (earliest .entry)) (now (latest .entry))) (now (page .exit)) r ⌝ }
 {
     let mut next = at;
     let mut j = 0;
     while j < plan.len() {
-        next = put_unit(page, next, (j + 1) as u16, plan[j], earliest[j], latest[j]);
+        next = put_unit(page, next, loader[j], plan[j], earliest[j], latest[j]);
         j += 1;
     }
     next
@@ -119,20 +126,22 @@ pub fn put_plan(
     page: &mut [u8],
     at: usize,
     span: usize,
+    loader: &[u16],
     plan: &[u16],
     earliest: &[u16],
     latest: &[u16],
     table: &[i16],
 ) -> usize
-    requires { ⌜ Printable span (now plan) (now earliest) (now latest) (now table) ⌝ }
-    requires { ⌜ Room (now page) at (tablePage span (now plan) (now earliest) (now latest) (now table)) ⌝ }
+    requires { ⌜ Printable span (now loader) (now plan) (now earliest) (now latest) (now table) ⌝ }
+    requires { ⌜ Room (now page) at (tablePage span (now loader) (now plan) (now earliest) (now latest) (now table)) ⌝ }
     ensures { λ r. ⌜ Written (now (page .entry)) at
-        (tablePage span (now (plan .entry)) (now (earliest .entry)) (now (latest .entry)) (now (table .entry))) (now (page .exit)) r ⌝ }
+        (tablePage span (now (loader .entry)) (now (plan .entry)) (now (earliest .entry)) (now (latest .entry)) (now (table .entry)))
+        (now (page .exit)) r ⌝ }
 {
     let mut counts = [0u16; Sheet::MAX_BOUNDARIES];
     count_slots(plan, &mut counts);
     let next = put_one_number(page, at, b"(answer plan ", plan.len() as u16, b")");
-    let next2 = put_units(page, next, plan, earliest, latest);
+    let next2 = put_units(page, next, loader, plan, earliest, latest);
     put_slots(page, next2, span, &counts, table)
 }
 

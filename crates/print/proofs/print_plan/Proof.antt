@@ -12,11 +12,11 @@ use Rattle.print.proofs.print_plan.Statement.{statement}
 use Rattle.print.proofs.print_plan.Tie as tie
 
 abbrev bytes : tie.Start → List ℕ
-bytes c = let a = c .args in tablePage (a .span) (now (a .seats)) (now (a .firsts)) (now (a .lasts)) (now (a .closed))
+bytes c = let a = c .args in tablePage (a .span) (now (a .loader)) (now (a .seats)) (now (a .firsts)) (now (a .lasts)) (now (a .closed))
 
 -- back to the start, from where the answer stands in the call's own array
 abbrev start : tie.After-put-plan → tie.Start
-start c = c .before .before .before .before .before .before .before .before .before
+start c = c .before .before .before .before .before .before .before .before .before .before
 
 -- the front of that array is the answer
 module _ (c : tie.After-put-plan) where
@@ -32,15 +32,16 @@ module _ (c : tie.After-put-plan) where
 write-requires : tie.Need-write-requires
 write-requires c κs =
     let p : tie.Then1 = c .before .before .before .before .before .before .before .before .before .before .before .before .before .before in
-    let o = c .before .before .before .before .before .before .before .before .before .before .before .before .before .before .before .before .before in
+    let o = p .before .before .before in
     let a = start o .args in
     rw (part o) (room (now (a .page)) (a .at) (bytes (start o)) (o .put-plan .result) (size o) (p .before .holds .result) (p .before .holds .ensures)
     (p .if1 .taken))
 
 returns : tie.Need-returns
 returns c =
-    let p : tie.Then1 = c .before .before .before .before .before .before .before .before .before .before .before .before .before .before .before .before .before in
-    let o = c .before .before .before .before .before .before .before .before .before .before .before .before .before .before .before .before .before .before .before .before in
+    let p : tie.Then1 =
+    c .before .before .before .before .before .before .before .before .before .before .before .before .before .before .before .before .before in
+    let o = p .before .before .before in
     let a = start o .args in
     let k = c .before .before .before .before .before .before .before .before .before .before .before .before .keep-plan .ensures in
     asked-yes (now (a .page)) (a .at) (bytes (start o)) (o .put-plan .result) (size o) (p .before .holds .result) (p .before .holds .ensures) _ _ _ _ _ _
@@ -54,12 +55,15 @@ returns-2 c =
     (c .if1 .left) refl refl refl
 
 pub print-plan-spec : {M : Type 1} → statement M
-print-plan-spec = tie.close (tie.spec (λ c. search needs) (λ c κs. let s = c .before .before .before .before .before .before .before .before in
+print-plan-spec = tie.close (tie.spec (λ c. search needs) (λ c κs. let s = c .before .before .before .before .before .before .before .before .before in
     (s .pre .0, own-room maxPage (s .pre .1 .1)))
-    (λ c κs. tt) (λ c κs. c .before .before .before .before .before .before .before .before .before .before .before .before .before .before .before .before .pre .1 .0)
+    (λ c κs. tt)
+    (λ c κs.
+    c .before .before .before .before .before .before .before .before .before .before .before .before .before .before .before .before .before .pre .1 .0)
     (λ c. long (c .before .before .before .before .before .before .before .before .before .before .before .before .before .before .before .before))
     (λ c. sym (length-take-le _ _ (long
-    (c .before .before .before .before .before .before .before .before .before .before .before .before .before .before .before .before .before)))) write-requires
+    (c .before .before .before .before .before .before .before .before .before .before .before .before .before .before .before .before .before))))
+    write-requires
     (λ c. c .before .before .before .before .before .before .before .before .before .before .before .before .keep-plan .kept .1 .1 .1 .1 .0)
     (λ c. c .before .before .before .before .before .before .before .before .before .before .before .before .keep-plan .kept .1 .1 .1 .1 .1 .0)
     (λ c. c .before .before .before .before .before .before .before .before .before .before .before .before .keep-plan .kept .1 .1 .1 .1 .1 .1 .0)

@@ -40,7 +40,7 @@ after c =
     lent (r .0) (r .1 .0) (r .1 .1 .0) (r .1 .1 .1 .0) (r .1 .1 .1 .1 .0)
 
 abbrev start : tie.After-solve → tie.Start
-start c = c .before .before .before .before .before .before .before .before .before .before .before .before .before .before .before .before .before
+start c = c .before .before .before .before .before .before .before .before .before .before .before .before .before .before .before .before .before .before
 
 abbrev sheet : tie.After-solve → Sheet
 sheet c = given (lists (start c))
@@ -72,7 +72,7 @@ plan-found : (c : tie.After-enum-told) → let p = where-plan c in
 plan-found c =
     let p = where-plan c in
     let s = start p in
-    plan-own (lists s) (before s) (s .pre) (plan-w c) (plan-w-is c) ownRooms (after p) (said p) (ends p) (ap fitReply (c .enum-told .given .1))
+    plan-own (lists s) (before s) (s .pre .0) (plan-w c) (plan-w-is c) ownRooms (after p) (said p) (ends p) (ap fitReply (c .enum-told .given .1))
 
 -- ---- none, and a ring
 abbrev where-ring : tie.After-fit → tie.After-solve
@@ -93,22 +93,23 @@ ring-found : (c : tie.After-fit) → let p = where-ring c in
 ring-found c =
     let p = where-ring c in
     let s = start p in
-    none-own (lists s) (before s) (s .pre) (ring-w c) (ring-w-is c) ownRooms (after p) (said p) (ends p) (steps c) (ap fitReply (c .fit .given .1))
+    none-own (lists s) (before s) (s .pre .0) (ring-w c) (ring-w-is c) ownRooms (after p) (said p) (ends p) (steps c) (ap fitReply (c .fit .given .1))
 
 -- ---- the needs, in order
 
 solve-requires : tie.Need-solve-requires
 solve-requires c κs =
-    let s : tie.Start = c .before .before .before .before .before .before .before .before .before .before .before .before .before .before .before .before in
-    own-solvable (lists s) (fitsRooms (given (lists s)) (before s)) (s .pre)
+    let s : tie.Start =
+    c .before .before .before .before .before .before .before .before .before .before .before .before .before .before .before .before .before in
+    own-solvable (lists s) (fitsRooms (given (lists s)) (before s)) (s .pre .0)
 
 boundaries-requires : tie.Need-boundaries-requires
-boundaries-requires c κs = let s = start (c .before .before .before .before .before) in span-bound (lists s) (s .pre .sheet)
+boundaries-requires c κs = let s = start (c .before .before .before .before .before) in span-bound (lists s) (s .pre .0 .sheet)
 
 mul-cells : tie.Need-mul-cells
 mul-cells c =
     let s = start (c .before .before .before .before .before .before) in
-    omega (arith, cells-few (lists s) (before s) (s .pre) (c .boundaries .result) (c .boundaries .ensures))
+    omega (arith, cells-few (lists s) (before s) (s .pre .0) (c .boundaries .result) (c .boundaries .ensures))
 
 print-plan-requires : tie.Need-print-plan-requires
 print-plan-requires c κs =
@@ -116,7 +117,8 @@ print-plan-requires c κs =
     let p = where-plan told in
     let s = start p in
     let f = plan-found told in
-    plan-asked (lists s) (before s) (s .pre) (plan-w told) (plan-w-is told) (after p) (f .0) (f .1) (f .2)
+    plan-asked (lists s) (before s) (s .pre .0) (plan-w told) (plan-w-is told) (now (s .args .loader)) (s .pre .1 .0) (s .pre .1 .1) (after p)
+    (f .0) (f .1) (f .2)
 
 fill-limits-requires : tie.Need-fill-limits-requires
 fill-limits-requires c κs =
@@ -124,7 +126,8 @@ fill-limits-requires c κs =
     let p = where-ring told in
     let s = start p in
     let f = ring-found told in
-    limits-fillable (lists s) (before s) (s .pre) (ring-w told) (ring-w-is told) (after p) (f .0) (f .1) (f .2) (steps told) (f .3) (after p .table) (own-cells p)
+    limits-fillable (lists s) (before s) (s .pre .0) (ring-w told) (ring-w-is told) (after p) (f .0) (f .1) (f .2) (steps told) (f .3)
+    (after p .table) (own-cells p)
 
 print-ring-requires : tie.Need-print-ring-requires
 print-ring-requires c κs =
@@ -133,7 +136,7 @@ print-ring-requires c κs =
     let s = start p in
     let f = ring-found told in
     let filled = c .before .before .before .before .before .before .fill-limits in
-    ring-asked (lists s) (before s) (s .pre) (ring-w told) (ring-w-is told) (after p) (f .0) (f .1) (f .2) (steps told) (f .3) (after p .table) (own-cells p)
+    ring-asked (lists s) (before s) (s .pre .0) (ring-w told) (ring-w-is told) (after p) (f .0) (f .1) (f .2) (steps told) (f .3) (after p .table) (own-cells p)
     (filled .last .1 .1 .1 .1 .1 .1 .1 .0) (filled .ensures)
 
 returns : tie.Need-returns
@@ -143,7 +146,8 @@ returns c =
     let p = where-plan told in
     let s = start p in
     let f = plan-found told in
-    plan-shown (lists s) (before s) (s .pre) (plan-w told) (plan-w-is told) (after p) (f .0) (f .1) (f .2) (now (s .args .page)) (s .args .at) _ _ _ _ _ _
+    plan-shown (lists s) (before s) (s .pre .0) (plan-w told) (plan-w-is told) (now (s .args .loader)) (s .pre .1 .0) (s .pre .1 .1) (after p)
+    (f .0) (f .1) (f .2) (now (s .args .page)) (s .args .at) _ _ _ _ _ _
     (printed .print-plan .ensures)
 
 returns-2 : tie.Need-returns-2
@@ -153,8 +157,8 @@ returns-2 c =
     let s = start p in
     let f = ring-found told in
     let filled = c .before .before .before .before .before .before .before .before .before .before .before .before .fill-limits in
-    ring-shown (lists s) (before s) (s .pre) (ring-w told) (ring-w-is told) (after p) (f .0) (f .1) (f .2) (steps told) (f .3) (after p .table) (own-cells p)
-    (filled .last .1 .1 .1 .1 .1 .1 .1 .0) (filled .ensures) (now (s .args .page)) (s .args .at) _ _ _ _
+    ring-shown (lists s) (before s) (s .pre .0) (ring-w told) (ring-w-is told) (after p) (f .0) (f .1) (f .2) (steps told) (f .3) (after p .table) (own-cells p)
+    (now (s .args .loader)) (filled .last .1 .1 .1 .1 .1 .1 .1 .0) (filled .ensures) (now (s .args .page)) (s .args .at) _ _ _ _
     (c .before .before .before .before .before .print-ring .ensures)
 
 pub print-solved-spec : {M : Type 1} → statement M
@@ -168,11 +172,11 @@ print-solved-spec = tie.close (tie.spec (λ c. refl) (λ c. refl) (λ c. refl) (
     (λ c. search needs) (λ c. sym (where-ring (c .before .before) .solve .kept .1 .1 .1 .1 .1 .1 .1 .0)) fill-limits-requires
     (λ c. search needs) (λ c. ring-found (c .before .before .before .before .before) .3 .long)
     (λ c. sym (length-take-le _ _ (ring-found (c .before .before .before .before .before .before) .3 .long))) print-ring-requires
-    (λ c. c .before .before .before .before .before .before .before .before .before .print-plan .kept .1 .1 .1 .1 .1 .0)
     (λ c. c .before .before .before .before .before .before .before .before .before .print-plan .kept .1 .1 .1 .1 .1 .1 .0)
     (λ c. c .before .before .before .before .before .before .before .before .before .print-plan .kept .1 .1 .1 .1 .1 .1 .1 .0)
     (λ c. c .before .before .before .before .before .before .before .before .before .print-plan .kept .1 .1 .1 .1 .1 .1 .1 .1 .0)
-    (λ c. c .before .before .before .before .before .before .before .before .before .print-plan .kept .1 .1 .1 .1 .1 .1 .1 .1 .1 .0) returns
+    (λ c. c .before .before .before .before .before .before .before .before .before .print-plan .kept .1 .1 .1 .1 .1 .1 .1 .1 .1 .0)
+    (λ c. c .before .before .before .before .before .before .before .before .before .print-plan .kept .1 .1 .1 .1 .1 .1 .1 .1 .1 .1 .0) returns
     (λ c. c .before .before .before .before .before .print-ring .kept .1 .1 .1 .0)
     (λ c. c .before .before .before .before .before .print-ring .kept .1 .1 .1 .1 .0)
     (λ c. c .before .before .before .before .before .print-ring .kept .1 .1 .1 .1 .1 .0) returns-2)

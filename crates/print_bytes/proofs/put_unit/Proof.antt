@@ -11,13 +11,13 @@ use Rattle.print_bytes.proofs.put_unit.Statement.{statement}
 use Rattle.print_bytes.proofs.put_unit.Tie as tie
 
 abbrev pairs : tie.Start → List (List ℕ × ℕ)
-pairs c = let a = c .args in (text "(unit ", a .unit) ∷ (text " (slot ", a .slot) ∷ (text ") (between ", a .earliest) ∷ (text " ", a .latest) ∷ []
+pairs c = let a = c .args in (text "(unit ", a .loader) ∷ (text " (slot ", a .slot) ∷ (text ") (between ", a .earliest) ∷ (text " ", a .latest) ∷ []
 
 -- all but k of the line's words and numbers are left to write, once the page and the place are these
 abbrev Left : tie.Start → List ℕ → ℕ → ℕ → Type 0
 Left c page at k =
     let a = c .args in
-    Pending (now (a .page)) (a .at) (unitLine (a .unit) (a .slot) (a .earliest) (a .latest)) page at (drop k (words (pairs c) (text "))")))
+    Pending (now (a .page)) (a .at) (unitLine (a .loader) (a .slot) (a .earliest) (a .latest)) page at (drop k (words (pairs c) (text "))")))
 
 begun : (c : tie.Start) → Left c (now (c .args .page)) (c .args .at) 0
 unfolding unitLine text

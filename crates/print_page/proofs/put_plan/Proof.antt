@@ -15,20 +15,21 @@ use Rattle.print_page.proofs.put_plan.Tie as tie
 
 -- back to the start, from where the units are counted
 abbrev start : tie.After-count-slots → tie.Start
-start c = c .before .before .before .before .before .before
+start c = c .before .before .before .before .before .before .before
 
 begun : (c : tie.After-count-slots) →
     let a = start c .args in
     let w = boundariesOf (a .span) in
-    Pending (now (a .page)) (a .at) (tablePage (a .span) (now (a .plan)) (now (a .earliest)) (now (a .latest)) (now (a .table))) (now (a .page)) (a .at)
-    (planHead (length (now (a .plan))) ∷ unitLines (now (a .plan)) (now (a .earliest)) (now (a .latest))
+    Pending (now (a .page)) (a .at)
+    (tablePage (a .span) (now (a .loader)) (now (a .plan)) (now (a .earliest)) (now (a .latest)) (now (a .table))) (now (a .page)) (a .at)
+    (planHead (length (now (a .plan))) ∷ unitLines (now (a .loader)) (now (a .plan)) (now (a .earliest)) (now (a .latest))
     ∷ slotLines (a .span) (λ t. getD (c .count-slots .last .1 .0) t 0) (leastFrom w (now (a .table))) (greatestFrom w (now (a .table))) ∷ [])
 begun c =
     let s = start c in
     let a = s .args in
     let w = boundariesOf (a .span) in
-    pending-whole _ (page-counted (a .span) (now (a .plan)) (now (a .earliest)) (now (a .latest)) (c .count-slots .last .1 .0) (leastFrom w (now (a .table)))
-    (greatestFrom w (now (a .table))) (s .pre .0 .slots) (c .count-slots .ensures)) (s .pre .1)
+    pending-whole _ (page-counted (a .span) (now (a .loader)) (now (a .plan)) (now (a .earliest)) (now (a .latest)) (c .count-slots .last .1 .0)
+    (leastFrom w (now (a .table))) (greatestFrom w (now (a .table))) (s .pre .0 .slots) (c .count-slots .ensures)) (s .pre .1)
 
 put-one-number-requires : tie.Need-put-one-number-requires
 unfolding planHead text
@@ -39,7 +40,7 @@ unfolding planHead text
 put-units-requires c κs =
     let k = c .before .before .before .before .before .before .before .before in
     let p = start k .pre .0 in
-    ((p .earliest, p .latest, p .units), pending-room (pending-after (begun k) (c .before .before .before .put-one-number .ensures)))
+    ((p .loaders, p .earliest, p .latest), pending-room (pending-after (begun k) (c .before .before .before .put-one-number .ensures)))
 
 put-slots-requires : tie.Need-put-slots-requires
 unfolding planHead text
@@ -48,11 +49,14 @@ put-slots-requires c κs =
     let p = start k .pre .0 in (
       (p .slots, p .entries, ap length (k .count-slots .ensures) ∙ counts-length (now (start k .args .plan))),
       pending-room (pending-after (pending-after (begun k)
-          (c .before .before .before .before .before .before .before .before .put-one-number .ensures)) (c .before .before .before .before .put-units .ensures)),
+          (c .before .before .before .before .before .before .before .before .put-one-number .ensures))
+          (c .before .before .before .before .put-units .ensures)),
     )
 
 same-length : tie.Need-same-length
-same-length c = c .before .before .put-slots .kept .0 ∙ c .before .before .before .before .before .before .before .put-units .kept .0 ∙ c .before .before .before .before .before .before .before .before .before .before .before .put-one-number .kept .0
+same-length c =
+    c .before .before .put-slots .kept .0 ∙ c .before .before .before .before .before .before .before .put-units .kept .0
+    ∙ c .before .before .before .before .before .before .before .before .before .before .before .put-one-number .kept .0
 
 returns : tie.Need-returns
 unfolding planHead text
@@ -63,6 +67,7 @@ returns c =
     (c .before .before .before .before .before .before .before .put-units .ensures)) (c .before .before .put-slots .ensures))
 
 pub put-plan-spec : {M : Type 1} → statement M
-put-plan-spec = tie.close (tie.spec (λ c. refl) (λ c κs. (refl, c .before .before .before .before .before .pre .0 .units)) (λ c. refl) (λ c. omega arith) (λ c. refl)
-    put-one-number-requires put-units-requires (λ c. sym
-    (c .before .before .before .before .before .before .before .before .before .before .before .before .before .count-slots .kept .1 .0)) put-slots-requires same-length returns)
+put-plan-spec = tie.close (tie.spec (λ c. refl) (λ c κs. (refl, c .before .before .before .before .before .before .pre .0 .units)) (λ c. refl)
+    (λ c. omega arith) (λ c. refl) put-one-number-requires put-units-requires (λ c. sym
+    (c .before .before .before .before .before .before .before .before .before .before .before .before .before .count-slots .kept .1 .0))
+    put-slots-requires same-length returns)

@@ -3,7 +3,6 @@ use mathlib.Core.Path.{_≡_, ap}
 use mathlib.Core.List.{List, _∷_, map}
 use Prim.Native.Nat.{ℕ, _+_, _-_, _≤_}
 use native.Mathlib.Omega.{arith}
-use native.Mathlib.Numerals.{add-one}
 use denote.Ref.{now}
 use lib.ListN.{length}
 use Rattle.lists.specs.Lists.{run, joined}
@@ -13,32 +12,33 @@ use Rattle.print_page.proofs.put_units.Statement.{statement}
 use Rattle.print_page.proofs.put_units.Tie as tie
 
 abbrev Inv-loop : tie.InvT-loop
-Inv-loop page₀ at plan earliest latest next₀ j₀ page next j =
-    (j ≤ length plan) × Pending page₀ at (unitLines plan earliest latest) page next (map (unitLineAt plan earliest latest) (run j (length plan - j)))
+Inv-loop page₀ at loader plan earliest latest next₀ j₀ page next j =
+    (j ≤ length plan) × Pending page₀ at (unitLines loader plan earliest latest) page next
+    (map (unitLineAt loader plan earliest latest) (run j (length plan - j)))
 
 abbrev μ-loop : tie.MeasureT-loop
-μ-loop page₀ at plan earliest latest next₀ j₀ page next j = length plan - j
+μ-loop page₀ at loader plan earliest latest next₀ j₀ page next j = length plan - j
 
 -- the line of unit j
 abbrev line : tie.Start Inv-loop μ-loop → ℕ → List ℕ
-line c = unitLineAt (now (c .args .plan)) (now (c .args .earliest)) (now (c .args .latest))
+line c = unitLineAt (now (c .args .loader)) (now (c .args .plan)) (now (c .args .earliest)) (now (c .args .latest))
 
 loop-holds : tie.Need-loop-holds Inv-loop μ-loop
 unfolding unitLines
 loop-holds c =
-    let s : tie.Start Inv-loop μ-loop = c .before .before .before .before in
+    let s : tie.Start Inv-loop μ-loop = c .before .before .before .before .before in
     let n = length (now (s .args .plan)) in
     let e : n ≡ n - 0 = omega arith in
     (omega arith, pending-whole (map (line s) (run 0 (n - 0))) (ap (λ k. joined (map (line s) (run 0 k))) e) (s .pre .1))
 
 -- back to the start, from a turn of the loop
 abbrev start : tie.In-loop Inv-loop μ-loop → tie.Start Inv-loop μ-loop
-start c = c .before .before .before .before .before .before
+start c = c .before .before .before .before .before .before .before
 
 -- the next line is that of unit j
 next : (c : tie.In-loop Inv-loop μ-loop)
     → (let s = start c in let a = s .args in let l = c .before .loop in
-    Pending (now (a .page)) (a .at) (unitLines (now (a .plan)) (now (a .earliest)) (now (a .latest))) (l .page) (l .next)
+    Pending (now (a .page)) (a .at) (unitLines (now (a .loader)) (now (a .plan)) (now (a .earliest)) (now (a .latest))) (l .page) (l .next)
     (line s (l .j) ∷ map (line s) (run (l .j + 1) (length (now (a .plan)) - (l .j + 1)))))
 next c =
     let s = start c in
@@ -46,17 +46,16 @@ next c =
 
 put-unit-requires : tie.Need-put-unit-requires Inv-loop μ-loop
 unfolding unitLineAt
-put-unit-requires c κs = rw (add-one (c .before .before .before .before .before .loop .j)) (pending-room (next (c .before .before .before .before)))
+put-unit-requires c κs = pending-room (next (c .before .before .before .before .before))
 
 loop-again : tie.Need-loop-again Inv-loop μ-loop
 unfolding unitLineAt
 loop-again c =
-    let i : tie.In-loop Inv-loop μ-loop = c .before .before .before .before .before .before .before in
-    (omega arith, pending-after (next i) (rw (add-one (i .before .loop .j)) at (c .before .before .put-unit .ensures)))
+    (omega arith, pending-after (next (c .before .before .before .before .before .before .before .before)) (c .before .before .put-unit .ensures))
 
 returns : tie.Need-returns Inv-loop μ-loop
 returns c =
-    let s : tie.Start Inv-loop μ-loop = c .before .before .before .before .before .before in
+    let s : tie.Start Inv-loop μ-loop = c .before .before .before .before .before .before .before in
     lines-end (line s) (c .before .loop .j) (length (now (s .args .plan))) (c .loop-test .left) (c .before .loop .inv .1)
 
 pub put-units-spec : {M : Type 1} → statement M
