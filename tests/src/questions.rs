@@ -60,6 +60,22 @@ impl Lists {
         });
         Sheet { span: self.span, units: units.collect(), rules: rules.collect() }
     }
+
+    /// Adds units that may sit in slot 1 up to this number, with loader numbers that no unit has yet.
+    pub fn add_units(&mut self, length: usize) {
+        self.first.resize(length, 1);
+        self.last.resize(length, 1);
+        let mut numbers = (1..).filter(|k| !self.loader.contains(k)).take(length.saturating_sub(self.loader.len())).collect();
+        self.loader.append(&mut numbers);
+    }
+
+    /// Adds rules that ask for nothing on slot 1 up to this number.
+    pub fn add_rules(&mut self, length: usize) {
+        self.from.resize(length, 1);
+        self.to.resize(length, 1);
+        self.low.resize(length, 0);
+        self.high.resize(length, MAX_COUNT);
+    }
 }
 
 /// Question 7.
