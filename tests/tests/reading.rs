@@ -48,7 +48,7 @@ fn texts_at_random() {
 /// Every byte in every place of a text that reads, and every byte dropped or doubled.
 #[test]
 fn every_single_byte() {
-    let text = b"(note a (b))\n(sheet 12)\n(unit 907 (window 1 10))\n(unit 9 (window 2 2))\n(rule (slots 3 12) (count 0 300))\n(note)\n";
+    let text = b"(note a (b))\n(sheet 12)\n(unit 97 (window 1 10))\n(unit 9 (window 2 2))\n(rule (slots 3 12) (count 0 300))\n(note)\n";
     let mut tally = Tally::new("reading every single byte", 0);
     hold(&mut tally, text, UNITS, RULES);
     for at in 0..text.len() {
