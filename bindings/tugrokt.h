@@ -11,9 +11,12 @@
  *
  * The questions in the order in which they are asked, by number (docs/RULES.md has their words); the first no decides:
  *
- *     tugrokt_read     1; then line by line 2, 11 (of notes), 3, 4, 5, 6, 7, 8, 9, 10; then 5 for the whole; then 12
- *     tugrokt_plan     13, 6, 9, 10, 7 of the units, 7 of the rules, 8, 12
+ *     tugrokt_read     1; then line by line 2, 11 (of notes), 3, 4, 5, 6, 7, 16, 8, 9, 10; then 5 for the whole; then 12
+ *     tugrokt_plan     13, 6, 9, 10, 7 of the units, 7 of the rules, 16, 8, 12
  *     tugrokt_print    what tugrokt_plan asks, then 15
+ *
+ * 16 asks of each unit: is its loader number 1 to TUGROKT_MAX_LOADER and on no earlier unit? 13 asks whether the lists of units are
+ * equally long, the loader numbers among them, and so are the lists of rules.
  *
  * A refused call changes nothing that it was lent. Places of a room past those that an answer needs never change.
  *
@@ -26,17 +29,18 @@
 #include <stdint.h>
 
 /*
- * The sheet's sizes, the greatest count of a rule, the largest table, the longest text and the longest page. Rooms and pages of
- * such lengths refuse no sheet.
+ * The sheet's sizes, the greatest count of a rule, the largest loader number, the longest text, the largest table and the longest
+ * page. Rooms and pages of such lengths refuse no sheet.
  */
 #define TUGROKT_MAX_SLOTS 48
 #define TUGROKT_MAX_UNITS 300
 #define TUGROKT_MAX_RULES 60
 #define TUGROKT_MAX_COUNT 300
+#define TUGROKT_MAX_LOADER 9999
 #define TUGROKT_MAX_BYTES 16000
 #define TUGROKT_MAX_BOUNDARIES (TUGROKT_MAX_SLOTS + 1)
 #define TUGROKT_MAX_CELLS (TUGROKT_MAX_BOUNDARIES * TUGROKT_MAX_BOUNDARIES)
-#define TUGROKT_MAX_PAGE 12942
+#define TUGROKT_MAX_PAGE 13242
 
 #ifdef __cplusplus
 extern "C" {
@@ -64,11 +68,11 @@ struct tugrokt_printing {
 };
 
 /*
- * Reads a sheet into six lists, each at the front of its room: each unit's window, first to last; each rule's stretch, from to
- * to, and its count, low to high.
+ * Reads a sheet into seven lists, each at the front of its room: each unit's loader number, loader, and its window, first to last;
+ * each rule's stretch, from to to, and its count, low to high.
  */
 struct tugrokt_reading tugrokt_read(
-    const uint8_t *text, size_t text_length,
+    const uint8_t *text, size_t text_length, uint16_t *loader, size_t loader_length,
     uint16_t *first, size_t first_length, uint16_t *last, size_t last_length,
     uint16_t *from, size_t from_length, uint16_t *to, size_t to_length,
     uint16_t *low, size_t low_length, uint16_t *high, size_t high_length);
@@ -81,7 +85,7 @@ struct tugrokt_reading tugrokt_read(
  * Rooms needed: w*w places in table, w in ring, one for each unit in the others.
  */
 struct tugrokt_planning tugrokt_plan(
-    size_t span,
+    size_t span, const uint16_t *loader, size_t loader_length,
     const uint16_t *first, size_t first_length, const uint16_t *last, size_t last_length,
     const uint16_t *from, size_t from_length, const uint16_t *to, size_t to_length,
     const uint16_t *low, size_t low_length, const uint16_t *high, size_t high_length,
@@ -90,11 +94,11 @@ struct tugrokt_planning tugrokt_plan(
     uint16_t *ring, size_t ring_length);
 
 /*
- * Plans from lists and prints the answer on the page from the given place on. The rooms are left as by tugrokt_plan, but
+ * Plans from lists and prints the answer on the page from the given place on, each unit with its loader number. The rooms are left as by tugrokt_plan, but
  * where the page does not hold the whole answer the call is refused by 15 and changes neither page nor rooms.
  */
 struct tugrokt_printing tugrokt_print(
-    size_t span,
+    size_t span, const uint16_t *loader, size_t loader_length,
     const uint16_t *first, size_t first_length, const uint16_t *last, size_t last_length,
     const uint16_t *from, size_t from_length, const uint16_t *to, size_t to_length,
     const uint16_t *low, size_t low_length, const uint16_t *high, size_t high_length,

@@ -11,9 +11,10 @@ pub struct Case {
 }
 
 /// Sheets as in Chabert and Demassey, section 4, by their number of units, rules and slots; the largest sheets, loose, tight, and with no plan by
-/// one unit; sheets whose narrowing has much to do; and the smallest.
-pub const NAMES: [&str; 13] = [
-    "paper-10", "paper-16", "paper-24", "paper-32", "largest-loose", "largest-tight", "largest-none", "narrowing", "distinct",
+/// one unit; the largest tight sheets again, with loader numbers that share four remainders; sheets whose narrowing has much to do; and the
+/// smallest.
+pub const NAMES: [&str; 14] = [
+    "paper-10", "paper-16", "paper-24", "paper-32", "largest-loose", "largest-tight", "largest-none", "loaders", "narrowing", "distinct",
     "chain-2", "chain-4", "staircase", "smallest",
 ];
 
@@ -22,7 +23,7 @@ const NARROWING: &[u8] = include_bytes!("../sheets/narrowing.txt");
 
 pub fn make(name: &str) -> Case {
     let of_paper = |n| (0..50).map(|i| paper_sheet(&mut Random::of_case(1, i), n)).collect();
-    let largest = |slack| (0..5).map(|i| largest_sheet(&mut Random::of_case(2, i), slack, 48)).collect::<Vec<_>>();
+    let largest = |slack| (0..5).map(|i| largest_sheet(&mut Random::of_case(2, i), slack, 48).numbered(&spread(i))).collect::<Vec<_>>();
     let sheets: Vec<Sheet> = match name {
         "paper-10" => of_paper(10),
         "paper-16" => of_paper(16),
@@ -31,6 +32,7 @@ pub fn make(name: &str) -> Case {
         "largest-loose" => largest(3),
         "largest-tight" => largest(0),
         "largest-none" => largest(0).into_iter().map(none_by_one).collect(),
+        "loaders" => largest(0).into_iter().map(|sheet| sheet.numbered(&of_four_remainders())).collect(),
         "narrowing" => vec![model::reading::read(NARROWING).expect("a sheet")],
         "distinct" => (0..5).map(distinct).collect(),
         "chain-2" => vec![chain(2)],
@@ -43,6 +45,22 @@ pub fn make(name: &str) -> Case {
     let sheets: Vec<plain::Sheet> = texts.iter().map(|text| plain::read(text).expect("a sheet")).collect();
     let limits = sheets.iter().map(|sheet| plain::limits(sheet, &plain::windows_inside(sheet))).collect();
     Case { name: name.into(), texts, sheets, limits }
+}
+
+/// 300 loader numbers of four digits, in any order.
+fn spread(i: usize) -> Vec<u16> {
+    let mut all: Vec<u16> = (1_000..=9_999).collect();
+    Random::of_case(4, i).shuffle(&mut all);
+    all.truncate(300);
+    all
+}
+
+/// 300 loader numbers that share as few remainders by 128 as can be, in any order. The planner chains numbers by that remainder and
+/// compares each with those before it in its chain, so no other numbers cost it more: 79 have a remainder such as 1, 2 or 3.
+fn of_four_remainders() -> Vec<u16> {
+    let mut all: Vec<u16> = (1..=4).flat_map(|remainder| (remainder..=9_999).step_by(128)).take(300).collect();
+    Random::new(5).shuffle(&mut all);
+    all
 }
 
 /// A tight sheet, one of whose rules wants one unit more: of all rules that leave no plan so, the one with the longest ring.
@@ -70,7 +88,7 @@ fn answer(sheet: &Sheet) -> plain::Answer {
 /// 300 different windows, and tight rules.
 fn distinct(i: usize) -> Sheet {
     let r = &mut Random::of_case(3, i);
-    let mut sheet = largest_sheet(r, 0, 48);
+    let mut sheet = largest_sheet(r, 0, 48).numbered(&spread(i));
     let plain::Answer::Plan { plan, .. } = answer(&sheet) else { panic!("a sheet with a plan") };
     let mut taken = vec![];
     for (unit, &slot) in sheet.units.iter_mut().zip(&plan) {
@@ -79,7 +97,7 @@ fn distinct(i: usize) -> Sheet {
             let last = r.between(slot as usize, 48) as u16;
             if !taken.contains(&(first, last)) {
                 taken.push((first, last));
-                *unit = Unit { first, last };
+                *unit = Unit { first, last, ..*unit };
                 break;
             }
         }
@@ -101,5 +119,5 @@ fn staircase() -> Sheet {
     let windows: Vec<(u16, u16)> = (0..300).map(|i| (1 + (i % 7) as u16, 8 + (i * 41 / 300) as u16)).collect();
     let mut rules: Vec<(u16, u16, u16, u16)> = (1..=44).map(|s| (s, s + 4, 0, 35)).collect();
     rules.extend((1..=16).map(|s| (3 * s - 2, 3 * s, 0, 22)));
-    Sheet::new(48, &windows, &rules)
+    Sheet::new(48, &windows, &rules).numbered(&spread(0))
 }

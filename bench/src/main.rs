@@ -47,14 +47,16 @@ impl Side for Plain {
             match job {
                 Job::Read => drop(black_box(plain::read(black_box(text)))),
                 Job::Pass => drop(black_box(plain::close(&mut black_box(limits).clone(), sheet.span + 1))),
-                Job::Plan => drop(black_box(plain::plan(black_box(sheet)))),
-                Job::Print => drop(black_box(plain::print(black_box(sheet), &plain::plan(sheet)))),
+                Job::Plan => drop(black_box(self.answer(black_box(sheet)))),
+                Job::Print => drop(black_box(plain::print(sheet, &self.answer(black_box(sheet))))),
                 Job::Whole => drop(black_box(self.page(black_box(text)))),
             }
         }
     }
 
+    /// Lists may be anything, so they are asked first; what was read needs no second asking.
     fn answer(&mut self, sheet: &plain::Sheet) -> plain::Answer {
+        assert_eq!(plain::refusal(sheet), 0, "the cases are sheets");
         plain::plan(sheet)
     }
 
@@ -72,7 +74,7 @@ mod planner {
 
     /// The planner, with rooms that are lent again and again.
     pub struct Planner {
-        lists: [Vec<u16>; 6],
+        lists: [Vec<u16>; 7],
         table: Vec<i16>,
         rooms: [Vec<u16>; 3],
         ring: Vec<u16>,
@@ -80,15 +82,15 @@ mod planner {
     }
 
     fn lists(sheet: &plain::Sheet) -> Lists<'_> {
-        let plain::Sheet { span, first, last, from, to, low, high } = sheet;
-        Lists { span: *span, first, last, from, to, low, high }
+        let plain::Sheet { span, loader, first, last, from, to, low, high } = sheet;
+        Lists { span: *span, loader, first, last, from, to, low, high }
     }
 
     impl Planner {
         pub fn new() -> Planner {
             let [u, r] = [MAX_UNITS, MAX_RULES];
             Planner {
-                lists: [u, u, r, r, r, r].map(|length| vec![0; length]),
+                lists: [u, u, u, r, r, r, r].map(|length| vec![0; length]),
                 table: vec![0; MAX_CELLS],
                 rooms: [u, u, u].map(|length| vec![0; length]),
                 ring: vec![0; MAX_BOUNDARIES],
@@ -97,8 +99,8 @@ mod planner {
         }
 
         fn read(&mut self, text: &[u8]) -> Reading {
-            let [first, last, from, to, low, high] = &mut self.lists;
-            let reply = entry::read(text, ListRooms { first, last, from, to, low, high });
+            let [loader, first, last, from, to, low, high] = &mut self.lists;
+            let reply = entry::read(text, ListRooms { loader, first, last, from, to, low, high });
             assert_eq!(reply.number, 0, "the cases are sheets");
             reply
         }
@@ -127,12 +129,12 @@ mod planner {
 
         fn whole(&mut self, text: &[u8]) -> usize {
             let Reading { span, units, rules, .. } = self.read(text);
-            let [first, last, from, to, low, high] = &self.lists;
-            let [first, last] = [first, last].map(|list| &list[..units]);
+            let [loader, first, last, from, to, low, high] = &self.lists;
+            let [loader, first, last] = [loader, first, last].map(|list| &list[..units]);
             let [from, to, low, high] = [from, to, low, high].map(|list| &list[..rules]);
             let [plan, earliest, latest] = &mut self.rooms;
             let rooms = Rooms { table: &mut self.table, plan, earliest, latest, ring: &mut self.ring };
-            let reply = entry::print(Lists { span, first, last, from, to, low, high }, rooms, &mut self.page, 0);
+            let reply = entry::print(Lists { span, loader, first, last, from, to, low, high }, rooms, &mut self.page, 0);
             assert_eq!(reply.number, 0, "the page is long enough");
             reply.place
         }

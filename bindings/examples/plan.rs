@@ -4,8 +4,8 @@
 
 fn main() {
     let mut sheet = tugrokt::Sheet::new(4);
-    sheet.add_unit(1, 2);
-    sheet.add_unit(1, 4);
+    sheet.add_unit(1, 1, 2);
+    sheet.add_unit(2, 1, 4);
     for from in 1..=3 {
         sheet.add_rule(from, from + 1, 1, 1);
     }
@@ -14,7 +14,7 @@ fn main() {
         Ok(tugrokt::Answer::None { ring }) => println!("no plan: {ring:?}"),
         Ok(tugrokt::Answer::Plan(plan)) => {
             for (i, slot) in plan.slot.iter().enumerate() {
-                println!("unit {}: slot {slot}, from {} to {}", i + 1, plan.earliest[i], plan.latest[i]);
+                println!("unit {}: slot {slot}, from {} to {}", sheet.loader[i], plan.earliest[i], plan.latest[i]);
             }
             for slot in 1..=sheet.span {
                 println!("slot {slot}: {:?}", plan.range(slot, slot));

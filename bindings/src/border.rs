@@ -47,6 +47,8 @@ extern "C" {
     pub fn tugrokt_read(
         text: *const u8,
         text_length: usize,
+        loader: *mut u16,
+        loader_length: usize,
         first: *mut u16,
         first_length: usize,
         last: *mut u16,
@@ -65,6 +67,8 @@ extern "C" {
 extern "C" {
     pub fn tugrokt_plan(
         span: usize,
+        loader: *const u16,
+        loader_length: usize,
         first: *const u16,
         first_length: usize,
         last: *const u16,
@@ -93,6 +97,8 @@ extern "C" {
 extern "C" {
     pub fn tugrokt_print(
         span: usize,
+        loader: *const u16,
+        loader_length: usize,
         first: *const u16,
         first_length: usize,
         last: *const u16,

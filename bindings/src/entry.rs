@@ -13,6 +13,8 @@ pub use crate::border::{Planning, Printing, Reading};
 pub struct Lists<'a> {
     /// The number of slots, 1 to 48.
     pub span: usize,
+    /// Each unit's loader number, 1 to 9999 and on no earlier unit, or the call is refused (16).
+    pub loader: &'a [u16],
     /// Each unit's window: its first and its last slot.
     pub first: &'a [u16],
     pub last: &'a [u16],
@@ -41,6 +43,7 @@ pub struct Rooms<'a> {
 /// The lists that reading fills.
 #[derive(Debug)]
 pub struct ListRooms<'a> {
+    pub loader: &'a mut [u16],
     pub first: &'a mut [u16],
     pub last: &'a mut [u16],
     pub from: &'a mut [u16],
@@ -51,12 +54,14 @@ pub struct ListRooms<'a> {
 
 /// Reads a sheet into the front of the lists.
 pub fn read(text: &[u8], lists: ListRooms) -> Reading {
-    let ListRooms { first, last, from, to, low, high } = lists;
+    let ListRooms { loader, first, last, from, to, low, high } = lists;
     // SAFETY: each pointer comes from a reference with the length beside it, and the entry has no further demand.
     unsafe {
         border::tugrokt_read(
             text.as_ptr(),
             text.len(),
+            loader.as_mut_ptr(),
+            loader.len(),
             first.as_mut_ptr(),
             first.len(),
             last.as_mut_ptr(),
@@ -75,12 +80,14 @@ pub fn read(text: &[u8], lists: ListRooms) -> Reading {
 
 /// Plans from lists.
 pub fn plan(lists: Lists, rooms: Rooms) -> Planning {
-    let Lists { span, first, last, from, to, low, high } = lists;
+    let Lists { span, loader, first, last, from, to, low, high } = lists;
     let Rooms { table, plan, earliest, latest, ring } = rooms;
     // SAFETY: each pointer comes from a reference with the length beside it, and the entry has no further demand.
     unsafe {
         border::tugrokt_plan(
             span,
+            loader.as_ptr(),
+            loader.len(),
             first.as_ptr(),
             first.len(),
             last.as_ptr(),
@@ -109,12 +116,14 @@ pub fn plan(lists: Lists, rooms: Rooms) -> Planning {
 
 /// Plans from lists and prints the answer on the page from `place` on.
 pub fn print(lists: Lists, rooms: Rooms, page: &mut [u8], place: usize) -> Printing {
-    let Lists { span, first, last, from, to, low, high } = lists;
+    let Lists { span, loader, first, last, from, to, low, high } = lists;
     let Rooms { table, plan, earliest, latest, ring } = rooms;
     // SAFETY: each pointer comes from a reference with the length beside it, and the entry has no further demand.
     unsafe {
         border::tugrokt_print(
             span,
+            loader.as_ptr(),
+            loader.len(),
             first.as_ptr(),
             first.len(),
             last.as_ptr(),

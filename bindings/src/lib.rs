@@ -5,7 +5,8 @@
 //!
 //! ```
 //! # fn main() -> Result<(), tugrokt::Refusal> {
-//! let sheet = tugrokt::Sheet::read(b"(sheet 3)\n(unit (window 1 3))\n(rule (slots 2 3) (count 1 1))\n")?;
+//! let sheet = tugrokt::Sheet::read(b"(sheet 3)\n(unit 4017 (window 1 3))\n(rule (slots 2 3) (count 1 1))\n")?;
+//! assert_eq!(sheet.loader, [4017]);
 //! match sheet.plan()? {
 //!     tugrokt::Answer::Plan(plan) => assert_eq!(plan.slot, [2]),
 //!     tugrokt::Answer::None { ring } => println!("no plan: {ring:?}"),
@@ -25,13 +26,15 @@ pub const MAX_UNITS: usize = 300;
 pub const MAX_RULES: usize = 60;
 /// The greatest count of a rule.
 pub const MAX_COUNT: usize = 300;
+/// The largest loader number.
+pub const MAX_LOADER: u16 = 9_999;
 /// The longest text of a sheet.
 pub const MAX_BYTES: usize = 16_000;
 pub const MAX_BOUNDARIES: usize = MAX_SLOTS + 1;
 /// The largest table.
 pub const MAX_CELLS: usize = MAX_BOUNDARIES * MAX_BOUNDARIES;
 /// The longest answer page, as is proved.
-pub const MAX_PAGE: usize = 12_942;
+pub const MAX_PAGE: usize = 13_242;
 
 /// A call that was refused: the number of the question that was answered no, and the line that it names.
 #[derive(Clone, Copy, Debug, PartialEq, Eq)]
@@ -56,10 +59,11 @@ fn unless_refused(number: usize, line: usize) -> Result<(), Refusal> {
     }
 }
 
-/// A sheet as parallel lists: a window for each unit, a stretch and a count for each rule.
+/// A sheet as parallel lists: a loader number and a window for each unit, a stretch and a count for each rule.
 #[derive(Clone, Debug, Default, PartialEq, Eq)]
 pub struct Sheet {
     pub span: usize,
+    pub loader: Vec<u16>,
     pub first: Vec<u16>,
     pub last: Vec<u16>,
     pub from: Vec<u16>,
@@ -79,7 +83,7 @@ pub enum Answer {
 /// The printed plan, and what holds of all lawful plans.
 #[derive(Clone, Debug, PartialEq, Eq)]
 pub struct Plan {
-    /// Each unit's slot.
+    /// Each unit's slot, in the order of the sheet.
     pub slot: Vec<u16>,
     /// The earliest and the latest slot that each unit has in any lawful plan.
     pub earliest: Vec<u16>,
@@ -103,7 +107,8 @@ impl Sheet {
         Sheet { span, ..Sheet::default() }
     }
 
-    pub fn add_unit(&mut self, first: u16, last: u16) {
+    pub fn add_unit(&mut self, loader: u16, first: u16, last: u16) {
+        self.loader.push(loader);
         self.first.push(first);
         self.last.push(last);
     }
@@ -118,6 +123,7 @@ impl Sheet {
     pub fn lists(&self) -> entry::Lists<'_> {
         entry::Lists {
             span: self.span,
+            loader: &self.loader,
             first: &self.first,
             last: &self.last,
             from: &self.from,
@@ -131,9 +137,10 @@ impl Sheet {
     pub fn read(text: &[u8]) -> Result<Sheet, Refusal> {
         let units = || vec![0; MAX_UNITS];
         let rules = || vec![0; MAX_RULES];
-        let (mut first, mut last) = (units(), units());
+        let (mut loader, mut first, mut last) = (units(), units(), units());
         let (mut from, mut to, mut low, mut high) = (rules(), rules(), rules(), rules());
         let lists = entry::ListRooms {
+            loader: &mut loader,
             first: &mut first,
             last: &mut last,
             from: &mut from,
@@ -143,13 +150,13 @@ impl Sheet {
         };
         let reply = entry::read(text, lists);
         unless_refused(reply.number, reply.line)?;
-        for list in [&mut first, &mut last] {
+        for list in [&mut loader, &mut first, &mut last] {
             list.truncate(reply.units);
         }
         for list in [&mut from, &mut to, &mut low, &mut high] {
             list.truncate(reply.rules);
         }
-        Ok(Sheet { span: reply.span, first, last, from, to, low, high })
+        Ok(Sheet { span: reply.span, loader, first, last, from, to, low, high })
     }
 
     /// Plans the sheet.

@@ -21,6 +21,7 @@ pub fn marked_u8(length: usize) -> Vec<u8> {
 pub fn lent(lists: &Lists) -> entry::Lists<'_> {
     entry::Lists {
         span: lists.span,
+        loader: &lists.loader,
         first: &lists.first,
         last: &lists.last,
         from: &lists.from,
@@ -181,17 +182,17 @@ pub fn printing_fault(
 }
 
 /// Reads into marked lists of these lengths, and says what is wrong.
-pub fn reading_fault(text: &[u8], units: [usize; 2], rules: [usize; 4]) -> Option<String> {
-    let marked = || [units[0], units[1], rules[0], rules[1], rules[2], rules[3]].map(marked_u16);
+pub fn reading_fault(text: &[u8], units: [usize; 3], rules: [usize; 4]) -> Option<String> {
+    let marked = || [units[0], units[1], units[2], rules[0], rules[1], rules[2], rules[3]].map(marked_u16);
     let mut rooms = marked();
     let mut expected_rooms = marked();
-    let [first, last, from, to, low, high] = &mut rooms;
-    let reply = entry::read(text, entry::ListRooms { first, last, from, to, low, high });
+    let [loader, first, last, from, to, low, high] = &mut rooms;
+    let reply = entry::read(text, entry::ListRooms { loader, first, last, from, to, low, high });
     let expected = match read_into(text, units, rules) {
         Err(Refusal { number, line }) => Reading { number, line, span: 0, units: 0, rules: 0 },
         Ok(sheet) => {
             let lists = Lists::from(&sheet);
-            let all = [&lists.first, &lists.last, &lists.from, &lists.to, &lists.low, &lists.high];
+            let all = [&lists.loader, &lists.first, &lists.last, &lists.from, &lists.to, &lists.low, &lists.high];
             for (room, list) in expected_rooms.iter_mut().zip(all) {
                 room[..list.len()].copy_from_slice(list);
             }

@@ -133,7 +133,7 @@ pub fn solve(sheet: &Sheet) -> Option<Solved> {
     let mut latest: Vec<u16> = Vec::new();
     for (i, u) in sheet.units.iter().enumerate() {
         // Units with one window have one answer.
-        if let Some(j) = sheet.units[..i].iter().position(|v| v == u) {
+        if let Some(j) = sheet.units[..i].iter().position(|v| v.window() == u.window()) {
             earliest.push(earliest[j]);
             latest.push(latest[j]);
             continue;

@@ -80,22 +80,23 @@ pub fn valid(r: &mut Random) -> Vec<u8> {
 
 /// A number that is often at a limit or past it, sometimes no number at all.
 fn odd_number(r: &mut Random) -> String {
-    const ODD: [&str; 24] = [
+    const ODD: [&str; 25] = [
         "0", "1", "2", "3", "4", "5", "47", "48", "49", "299", "300", "301", "9999", "10000", "65535", "65536", "70000",
-        "00", "05", "007", "", "-1", "99999999999999999999", "4294967296",
+        "00", "05", "007", "0017", "", "-1", "99999999999999999999", "4294967296",
     ];
     if r.chance(50) { r.between(0, 6).to_string() } else { r.pick(&ODD).to_string() }
 }
 
-/// A line of some form whose numbers may be anything.
+/// A line of some form whose numbers may be anything; a unit may have no loader number.
 pub fn odd_line(r: &mut Random) -> Vec<u8> {
     let mut n = || odd_number(r);
     let forms = [
         format!("(sheet {})", n()),
-        format!("(unit (window {} {}))", n(), n()),
+        format!("(unit {} (window {} {}))", n(), n(), n()),
         format!("(rule (slots {} {}) (count {} {}))", n(), n(), n(), n()),
+        format!("(unit (window {} {}))", n(), n()),
     ];
-    let mut line = forms[r.below(3)].clone().into_bytes();
+    let mut line = forms[*r.pick(&[0, 1, 1, 1, 2, 2, 3])].clone().into_bytes();
     match r.below(12) {
         0 => line = note(r),
         1 => line = note_of_depth(r.between(14, 18)),
@@ -123,11 +124,32 @@ pub fn soup(r: &mut Random) -> Vec<u8> {
     text
 }
 
+/// A unit's loader number becomes another unit's, or one at a limit, or goes.
+fn renumber(r: &mut Random, lines: &mut [Vec<u8>]) {
+    const HEAD: &[u8] = b"(unit ";
+    let units: Vec<usize> = (0..lines.len()).filter(|&i| lines[i].starts_with(HEAD)).collect();
+    // The number with the space behind it.
+    let end = |line: &[u8]| line[HEAD.len()..].iter().position(|&b| b == b' ').map_or(line.len(), |i| HEAD.len() + i + 1);
+    let Some(&last) = units.last() else { return };
+    let at = if r.chance(50) { last } else { *r.pick(&units) };
+    let other = &lines[*r.pick(&units)];
+    let number = match r.below(10) {
+        0 => b"0 ".to_vec(),
+        1 => b"9999 ".to_vec(),
+        2 => b"10000 ".to_vec(),
+        3 => b"0017 ".to_vec(),
+        4 => vec![],
+        _ => other[HEAD.len()..end(other)].to_vec(),
+    };
+    let old = HEAD.len()..end(&lines[at]);
+    lines[at].splice(old, number);
+}
+
 /// One fault in one place.
 pub fn damage(r: &mut Random, text: &mut Vec<u8>) {
     const ODD: &[u8] = b"\r\t\x7f\x00\x1f\x80\xff\n  ()00123459noteshuirw-/:@";
     let at = r.below(text.len().max(1)).min(text.len());
-    match r.below(16) {
+    match r.below(18) {
         0..=2 if at < text.len() => text[at] = *r.pick(ODD),
         3 if at < text.len() => text[at] = r.below(256) as u8,
         4 if at < text.len() => text[at] = text[at].wrapping_add(1),
@@ -170,6 +192,11 @@ pub fn damage(r: &mut Random, text: &mut Vec<u8>) {
             let mut line = odd_line(r);
             line.push(b'\n');
             all.insert(r.between(0, all.len()), line);
+            *text = all.concat();
+        }
+        15 | 16 => {
+            let mut all = lines(text);
+            renumber(r, &mut all);
             *text = all.concat();
         }
         _ => {

@@ -7,8 +7,8 @@ pub fn of_plan(sheet: &Sheet, solved: &Solved) -> Vec<u8> {
     let w = sheet.boundaries();
     let mut page = format!("(answer plan {})\n", sheet.units.len());
     for i in 0..sheet.units.len() {
-        let (slot, first, last) = (solved.plan[i], solved.earliest[i], solved.latest[i]);
-        page += &format!("(unit {} (slot {slot}) (between {first} {last}))\n", i + 1);
+        let (loader, slot, first, last) = (sheet.units[i].loader, solved.plan[i], solved.earliest[i], solved.latest[i]);
+        page += &format!("(unit {loader} (slot {slot}) (between {first} {last}))\n");
     }
     for slot in 1..=sheet.span {
         let count = solved.plan.iter().filter(|&&s| s as usize == slot).count();
@@ -35,6 +35,7 @@ pub fn of_ring(sheet: &Sheet, ring: &[u16]) -> Vec<u8> {
 
 #[derive(Clone, Debug, PartialEq, Eq)]
 pub struct UnitLine {
+    pub loader: u16,
     pub slot: u16,
     pub first: u16,
     pub last: u16,
@@ -84,9 +85,9 @@ pub fn parse(page: &[u8]) -> Option<Page> {
     }
     if let Some(n) = numbers(head, "answer plan #") {
         let mut units = Vec::new();
-        for i in 1..=n[0] {
-            let u = numbers(lines.next()?, "unit # (slot #) (between # #)").filter(|u| u[0] == i)?;
-            units.push(UnitLine { slot: u[1] as u16, first: u[2] as u16, last: u[3] as u16 });
+        for _ in 0..n[0] {
+            let u = numbers(lines.next()?, "unit # (slot #) (between # #)")?;
+            units.push(UnitLine { loader: u[0] as u16, slot: u[1] as u16, first: u[2] as u16, last: u[3] as u16 });
         }
         let mut slots = Vec::new();
         for line in lines {

@@ -1,11 +1,12 @@
 //! The questions that planning and printing ask of lists and rooms, in their order (docs/RULES.md, "The order of the questions").
 
-use crate::sheet::{Rule, Sheet, Unit, MAX_COUNT, MAX_RULES, MAX_SLOTS, MAX_UNITS};
+use crate::sheet::{Rule, Sheet, Unit, MAX_COUNT, MAX_LOADER, MAX_RULES, MAX_SLOTS, MAX_UNITS};
 
 /// The lists as they are handed over: any span, any lengths.
 #[derive(Clone, Debug, Default, PartialEq, Eq)]
 pub struct Lists {
     pub span: usize,
+    pub loader: Vec<u16>,
     pub first: Vec<u16>,
     pub last: Vec<u16>,
     pub from: Vec<u16>,
@@ -36,6 +37,7 @@ impl From<&Sheet> for Lists {
     fn from(sheet: &Sheet) -> Lists {
         Lists {
             span: sheet.span,
+            loader: sheet.loaders(),
             first: sheet.units.iter().map(|u| u.first).collect(),
             last: sheet.units.iter().map(|u| u.last).collect(),
             from: sheet.rules.iter().map(|r| r.from).collect(),
@@ -49,7 +51,7 @@ impl From<&Sheet> for Lists {
 impl Lists {
     /// The sheet that lists of fitting lengths give.
     pub fn sheet(&self) -> Sheet {
-        let units = self.first.iter().zip(&self.last).map(|(&first, &last)| Unit { first, last });
+        let units = (0..self.first.len()).map(|i| Unit { loader: self.loader[i], first: self.first[i], last: self.last[i] });
         let rules = (0..self.from.len()).map(|i| Rule {
             from: self.from[i],
             to: self.to[i],
@@ -57,6 +59,22 @@ impl Lists {
             high: self.high[i],
         });
         Sheet { span: self.span, units: units.collect(), rules: rules.collect() }
+    }
+
+    /// Adds units that may sit in slot 1 up to this number, with loader numbers that no unit has yet.
+    pub fn add_units(&mut self, length: usize) {
+        self.first.resize(length, 1);
+        self.last.resize(length, 1);
+        let mut numbers = (1..).filter(|k| !self.loader.contains(k)).take(length.saturating_sub(self.loader.len())).collect();
+        self.loader.append(&mut numbers);
+    }
+
+    /// Adds rules that ask for nothing on slot 1 up to this number.
+    pub fn add_rules(&mut self, length: usize) {
+        self.from.resize(length, 1);
+        self.to.resize(length, 1);
+        self.low.resize(length, 0);
+        self.high.resize(length, MAX_COUNT);
     }
 }
 
@@ -70,10 +88,15 @@ pub fn is_count(low: u16, high: u16) -> bool {
     low <= high && high <= MAX_COUNT
 }
 
+/// Question 16.
+pub fn is_new(loader: u16, earlier: &[u16]) -> bool {
+    1 <= loader && loader <= MAX_LOADER && !earlier.contains(&loader)
+}
+
 /// The first question that is answered no, or 0.
 pub fn planning_refusal(lists: &Lists, rooms: &Lengths) -> usize {
     let (n, k) = (lists.first.len(), lists.from.len());
-    if lists.last.len() != n || lists.to.len() != k || lists.low.len() != k || lists.high.len() != k {
+    if lists.loader.len() != n || lists.last.len() != n || lists.to.len() != k || lists.low.len() != k || lists.high.len() != k {
         return 13;
     }
     if lists.span < 1 || lists.span > MAX_SLOTS {
@@ -89,6 +112,9 @@ pub fn planning_refusal(lists: &Lists, rooms: &Lengths) -> usize {
     let rules_lie = (0..k).all(|i| lies_in_span(lists.from[i], lists.to[i], lists.span));
     if !units_lie || !rules_lie {
         return 7;
+    }
+    if !(0..n).all(|i| is_new(lists.loader[i], &lists.loader[..i])) {
+        return 16;
     }
     if !(0..k).all(|i| is_count(lists.low[i], lists.high[i])) {
         return 8;

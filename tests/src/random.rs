@@ -1,7 +1,7 @@
 //! Random numbers from a printed seed, and random sheets.
 
 use crate::enumerated::count;
-use crate::sheet::{Rule, Sheet, Unit, MAX_COUNT};
+use crate::sheet::{Rule, Sheet, Unit, MAX_COUNT, MAX_LOADER};
 
 /// SplitMix64.
 #[derive(Clone, Debug)]
@@ -42,6 +42,17 @@ impl Random {
         &all[self.below(all.len())]
     }
 
+    pub fn shuffle<T>(&mut self, all: &mut [T]) {
+        for i in (1..all.len()).rev() {
+            all.swap(i, self.below(i + 1));
+        }
+    }
+
+    /// A generator beside this one, which goes on as if nothing had been drawn.
+    fn beside(&self) -> Random {
+        Random(self.0 ^ 0x5851_f42d_4c95_7f2d)
+    }
+
     /// An interval inside 1 to span, at most `widest` slots wide.
     pub fn interval(&mut self, span: usize, widest: usize) -> (u16, u16) {
         let width = self.between(1, widest.clamp(1, span));
@@ -50,11 +61,40 @@ impl Random {
     }
 }
 
-fn windows(r: &mut Random, span: usize, n: usize, widest: usize) -> Vec<Unit> {
-    (0..n)
-        .map(|_| {
+/// Different loader numbers in any order: the smallest or the largest, such as share few remainders, or any.
+pub fn loaders(r: &mut Random, n: usize) -> Vec<u16> {
+    let mut all: Vec<u16> = match r.below(4) {
+        0 => (1..=n as u16).collect(),
+        1 => (MAX_LOADER - n as u16 + 1..=MAX_LOADER).collect(),
+        2 => {
+            let divisor = 1 << r.between(1, 10);
+            let start = r.below(divisor);
+            let of_remainder = |k: usize| (k % divisor..=MAX_LOADER as usize).step_by(divisor);
+            (start..start + divisor).flat_map(of_remainder).filter(|&k| k > 0).take(n).map(|k| k as u16).collect()
+        }
+        _ => {
+            let mut all = Vec::new();
+            while all.len() < n {
+                let k = r.between(1, MAX_LOADER as usize) as u16;
+                if !all.contains(&k) {
+                    all.push(k);
+                }
+            }
+            all
+        }
+    };
+    r.shuffle(&mut all);
+    all
+}
+
+/// Units with windows of at most this width. Their numbers are drawn beside, so that a seed has the windows and rules it has
+/// whatever the numbers are.
+fn units(r: &mut Random, span: usize, n: usize, widest: usize) -> Vec<Unit> {
+    loaders(&mut r.beside(), n)
+        .into_iter()
+        .map(|loader| {
             let (first, last) = r.interval(span, widest);
-            Unit { first, last }
+            Unit { loader, first, last }
         })
         .collect()
 }
@@ -90,7 +130,7 @@ pub fn sheet_up_to(r: &mut Random, most_slots: usize, most_units: usize) -> Shee
     let span = r.between(1, most_slots);
     let n = if r.chance(5) { 0 } else { r.between(1, most_units) };
     let widest = r.between(1, span);
-    let units = windows(r, span, n, widest);
+    let units = units(r, span, n, widest);
     let plan = any_plan(r, &units);
     let around = r.chance(60);
     let tight = r.chance(50);
@@ -121,7 +161,7 @@ pub fn sheet_up_to(r: &mut Random, most_slots: usize, most_units: usize) -> Shee
 /// A sheet of any size up to the greatest, built around a plan. `slack` is the room that rules leave, `shut` how often in a
 /// hundred a rule shuts that plan out by one.
 pub fn sheet_around(r: &mut Random, span: usize, n: usize, k: usize, widest: usize, slack: usize, shut: usize) -> Sheet {
-    let units = windows(r, span, n, widest);
+    let units = units(r, span, n, widest);
     let plan = any_plan(r, &units);
     let rules = (0..k)
         .map(|_| {
@@ -139,7 +179,7 @@ pub fn sheet_around(r: &mut Random, span: usize, n: usize, k: usize, widest: usi
 
 /// A sheet as in Chabert and Demassey, section 4: as many units and rules as slots, counts within one of an a priori plan's.
 pub fn paper_sheet(r: &mut Random, n: usize) -> Sheet {
-    let units = windows(r, n, n, n);
+    let units = units(r, n, n, n);
     let plan = any_plan(r, &units);
     let rules = (0..n)
         .map(|_| {

@@ -1,6 +1,6 @@
 //! A reader of sheets, straight from docs/RULES.md: a line is split by hand, and each question is asked of it in turn.
 
-use crate::questions::{is_count, lies_in_span};
+use crate::questions::{is_count, is_new, lies_in_span};
 use crate::sheet::{Rule, Sheet, Unit, MAX_RULES, MAX_SLOTS, MAX_UNITS};
 
 /// The greatest length of a text (question 1), and the greatest depth of a note (question 11).
@@ -21,7 +21,7 @@ pub fn refusal_page(r: Refusal) -> Vec<u8> {
 /// A line's form, its numbers as their digits.
 enum Form<'a> {
     Sheet(&'a [u8]),
-    Unit([&'a [u8]; 2]),
+    Unit([&'a [u8]; 3]),
     Rule([&'a [u8]; 4]),
 }
 
@@ -46,8 +46,8 @@ fn form(line: &[u8]) -> Option<Form<'_>> {
     if let Some(n) = numbers(line, &["(sheet ", ")"]) {
         return Some(Form::Sheet(n[0]));
     }
-    if let Some(n) = numbers(line, &["(unit (window ", " ", "))"]) {
-        return Some(Form::Unit([n[0], n[1]]));
+    if let Some(n) = numbers(line, &["(unit ", " (window ", " ", "))"]) {
+        return Some(Form::Unit([n[0], n[1], n[2]]));
     }
     let n = numbers(line, &["(rule (slots ", " ", ") (count ", " ", "))"])?;
     Some(Form::Rule([n[0], n[1], n[2], n[3]]))
@@ -119,11 +119,13 @@ impl Reader {
                 self.span = Some(span as usize);
             }
             Form::Unit(digits) => {
-                let [first, last] = all_numbers(digits).ok_or(4usize)?;
+                let [loader, first, last] = all_numbers(digits).ok_or(4usize)?;
                 let span = self.span.ok_or(5usize)?;
                 ask(lies_in_span(first, last, span), 7)?;
+                let earlier: Vec<u16> = self.units.iter().map(|u| u.loader).collect();
+                ask(is_new(loader, &earlier), 16)?;
                 ask(self.units.len() < MAX_UNITS, 9)?;
-                self.units.push(Unit { first, last });
+                self.units.push(Unit { loader, first, last });
             }
             Form::Rule(digits) => {
                 let [from, to, low, high] = all_numbers(digits).ok_or(4usize)?;
@@ -161,8 +163,8 @@ pub fn read(text: &[u8]) -> Result<Sheet, Refusal> {
     }
 }
 
-/// Reading into lists of these lengths: two for units, four for rules.
-pub fn read_into(text: &[u8], units: [usize; 2], rules: [usize; 4]) -> Result<Sheet, Refusal> {
+/// Reading into lists of these lengths: three for units, four for rules.
+pub fn read_into(text: &[u8], units: [usize; 3], rules: [usize; 4]) -> Result<Sheet, Refusal> {
     let sheet = read(text)?;
     let enough = units.iter().all(|&l| l >= sheet.units.len()) && rules.iter().all(|&l| l >= sheet.rules.len());
     if enough { Ok(sheet) } else { Err(Refusal { number: 12, line: 0 }) }

@@ -5,9 +5,11 @@ pub const MAX_SLOTS: usize = 48;
 pub const MAX_UNITS: usize = 300;
 pub const MAX_RULES: usize = 60;
 pub const MAX_COUNT: u16 = 300;
+pub const MAX_LOADER: u16 = 9_999;
 
 #[derive(Clone, Copy, Debug, PartialEq, Eq)]
 pub struct Unit {
+    pub loader: u16,
     pub first: u16,
     pub last: u16,
 }
@@ -36,13 +38,31 @@ pub struct Solved {
     pub table: Vec<i16>,
 }
 
+impl Unit {
+    pub fn window(&self) -> (u16, u16) {
+        (self.first, self.last)
+    }
+}
+
 impl Sheet {
+    /// A sheet whose units are numbered 1, 2, .. by line.
     pub fn new(span: usize, windows: &[(u16, u16)], rules: &[(u16, u16, u16, u16)]) -> Sheet {
         Sheet {
             span,
-            units: windows.iter().map(|&(first, last)| Unit { first, last }).collect(),
+            units: windows.iter().zip(1..).map(|(&(first, last), loader)| Unit { loader, first, last }).collect(),
             rules: rules.iter().map(|&(from, to, low, high)| Rule { from, to, low, high }).collect(),
         }
+    }
+
+    /// The same sheet with these loader numbers, line by line.
+    pub fn numbered(mut self, loaders: &[u16]) -> Sheet {
+        assert_eq!(loaders.len(), self.units.len(), "a number for each unit");
+        self.units.iter_mut().zip(loaders).for_each(|(unit, &loader)| unit.loader = loader);
+        self
+    }
+
+    pub fn loaders(&self) -> Vec<u16> {
+        self.units.iter().map(|u| u.loader).collect()
     }
 
     /// The number of boundaries, 0 to span.
@@ -108,7 +128,7 @@ impl Sheet {
     pub fn text(&self) -> Vec<u8> {
         let mut text = format!("(sheet {})\n", self.span);
         for u in &self.units {
-            text += &format!("(unit (window {} {}))\n", u.first, u.last);
+            text += &format!("(unit {} (window {} {}))\n", u.loader, u.first, u.last);
         }
         for r in &self.rules {
             text += &format!("(rule (slots {} {}) (count {} {}))\n", r.from, r.to, r.low, r.high);

@@ -12,6 +12,7 @@ use tugrokt::{Answer, Refusal, Sheet};
 fn document_cases() {
     for case in cases::all() {
         let sheet = Sheet::read(&case.sheet.text()).unwrap();
+        assert_eq!(sheet.loader, case.sheet.loaders(), "{}", case.name);
         match (sheet.plan().unwrap(), case.says) {
             (Answer::Plan(plan), Says::Plan(slots, windows)) => {
                 assert_eq!(plan.slot, slots);
@@ -36,8 +37,8 @@ fn pages() {
 #[test]
 fn sheets_are_built_and_ranges_are_read() {
     let mut sheet = Sheet::new(4);
-    sheet.add_unit(1, 2);
-    sheet.add_unit(1, 4);
+    sheet.add_unit(4_017, 1, 2);
+    sheet.add_unit(12, 1, 4);
     for from in 1..=3 {
         sheet.add_rule(from, from + 1, 1, 1);
     }
@@ -45,17 +46,30 @@ fn sheets_are_built_and_ranges_are_read() {
     assert_eq!(plan.range(1, 1), (0, 1));
     assert_eq!(plan.range(1, 2), (1, 1));
     assert_eq!(plan.range(1, 4), (2, 2));
+    let page = String::from_utf8(sheet.page().unwrap()).unwrap();
+    let units: Vec<&str> = page.lines().filter(|l| l.starts_with("(unit ")).collect();
+    assert_eq!(units, ["(unit 4017 (slot 1) (between 1 2))", "(unit 12 (slot 3) (between 3 4))"]);
 }
 
 #[test]
 fn refusals() {
     assert_eq!(Sheet::read(b""), Err(Refusal { question: 5, line: 0 }));
-    assert_eq!(Sheet::read(b"(sheet 4)\n(unit (window 4 3))\n"), Err(Refusal { question: 7, line: 2 }));
+    assert_eq!(Sheet::read(b"(sheet 4)\n(unit 1 (window 4 3))\n"), Err(Refusal { question: 7, line: 2 }));
+    let again = b"(sheet 4)\n(unit 12 (window 1 3))\n(note)\n(unit 12 (window 1 4))\n";
+    assert_eq!(Sheet::read(again), Err(Refusal { question: 16, line: 4 }));
     assert_eq!(Sheet::new(0).plan(), Err(Refusal { question: 6, line: 0 }));
     assert_eq!(Sheet::new(usize::MAX).plan(), Err(Refusal { question: 6, line: 0 }));
     let mut lopsided = Sheet::new(4);
     lopsided.first.push(1);
     assert_eq!(lopsided.plan(), Err(Refusal { question: 13, line: 0 }));
+    lopsided.last.push(1);
+    assert_eq!(lopsided.plan(), Err(Refusal { question: 13, line: 0 }), "no loader number");
+    lopsided.loader.push(tugrokt::MAX_LOADER);
+    assert!(lopsided.plan().is_ok());
+    lopsided.add_unit(tugrokt::MAX_LOADER, 1, 4);
+    assert_eq!(lopsided.plan(), Err(Refusal { question: 16, line: 0 }));
+    lopsided.loader[1] = tugrokt::MAX_LOADER + 1;
+    assert_eq!(lopsided.page(), Err(Refusal { question: 16, line: 0 }));
     assert_eq!(Refusal { question: 7, line: 3 }.to_string(), "(refused 7 (line 3))");
 }
 
@@ -128,7 +142,8 @@ fn replies_from_c() {
         let read = format!("reading {number} {line} 0 0 0 unchanged");
         [read, "planning 6 0 0 unchanged".to_string(), "printing 6 0 0 3 unchanged".to_string()]
     };
-    assert_eq!(replies(b"(sheet 4)\n(note)\n(unit (window 4 3))\n", [300, 3, 100]), refused(7, 3));
+    assert_eq!(replies(b"(sheet 4)\n(note)\n(unit 1 (window 4 3))\n", [300, 3, 100]), refused(7, 3));
+    assert_eq!(replies(b"(sheet 4)\n(unit 5 (window 1 3))\n(unit 5 (window 1 3))\n", [300, 3, 100]), refused(16, 3));
     assert_eq!(replies(&[b'x'; 16_001], [300, 3, 100]), refused(1, 0));
 }
 
@@ -139,14 +154,18 @@ fn planning_from_c() {
     let all = cases::all();
     assert_eq!(run(&all[1].sheet.text()), "unit 1: slot 1, from 1 to 2\nunit 2: slot 3, from 3 to 4\n");
     assert_eq!(run(&all[3].sheet.text()), "boundary 0\nboundary 3\n");
+    let numbered = all[1].sheet.clone().numbered(&[4_017, 12]);
+    assert_eq!(run(&numbered.text()), "unit 4017: slot 1, from 1 to 2\nunit 12: slot 3, from 3 to 4\n");
     assert_eq!(run(b"(sheet 49)\n"), "(refused 6 (line 1))\n");
 }
 
 /// The examples that print a page, against the model.
 fn prints_pages(run: impl Fn(&[u8]) -> String) {
     for case in cases::all() {
-        let page = run(&case.sheet.text());
-        assert_eq!(page::fault(&case.sheet, enumerated::solve(&case.sheet).as_ref(), page.as_bytes()), None, "{}", case.name);
+        // Other numbers than the places.
+        let sheet = case.sheet.clone().numbered(&(0..case.sheet.units.len() as u16).map(|i| 4_017 - 5 * i).collect::<Vec<_>>());
+        let page = run(&sheet.text());
+        assert_eq!(page::fault(&sheet, enumerated::solve(&sheet).as_ref(), page.as_bytes()), None, "{}", case.name);
     }
     assert_eq!(run(b"(sheet 49)\n"), "(refused 6 (line 1))\n");
     assert_eq!(run(&[b'x'; 16_001]), "(refused 1 (line 0))\n");

@@ -221,11 +221,12 @@ fn value(text: &str, named: &BTreeMap<String, usize>) -> usize {
     text.replace('_', "").parse().unwrap_or_else(|_| *named.get(name).unwrap_or_else(|| panic!("{name} is no number")))
 }
 
-/// The constants that lines `head` + NAME + `between` + EXPRESSION + `tail` state, in their order.
-fn constants(text: &str, head: &str, between: &str, tail: &str, known: &BTreeMap<String, usize>) -> BTreeMap<String, usize> {
+/// The constants that lines `head` + NAME + one of `between` + EXPRESSION + `tail` state, in their order.
+fn constants(text: &str, head: &str, between: &[&str], tail: &str, known: &BTreeMap<String, usize>) -> BTreeMap<String, usize> {
     let mut all = known.clone();
     for line in text.lines().map(str::trim) {
-        let Some((name, rest)) = line.strip_prefix(head).and_then(|l| l.split_once(between)) else { continue };
+        let Some(named) = line.strip_prefix(head) else { continue };
+        let Some((name, rest)) = between.iter().find_map(|b| named.split_once(b)) else { continue };
         let rest = rest.strip_suffix(tail).unwrap_or_else(|| panic!("{line}"));
         let number = value(rest, &all);
         assert!(all.insert(name.to_string(), number).is_none_or(|old| old == number), "{name} has two values");
@@ -236,16 +237,18 @@ fn constants(text: &str, head: &str, between: &str, tail: &str, known: &BTreeMap
 /// The sizes of a sheet and of a page, in Rattle, in Rust and in C.
 #[test]
 fn numbers() {
-    let of_rattle = |name: &str, known: &BTreeMap<String, usize>| constants(&rattle(name), "pub const ", ": usize = ", ";", known);
+    // Sizes are `usize`; the largest loader number is of the type of the lists.
+    let types = [": usize = ", ": u16 = "];
+    let of_rattle = |name: &str, known: &BTreeMap<String, usize>| constants(&rattle(name), "pub const ", &types, ";", known);
     let of_sheet = of_rattle("sheet", &BTreeMap::new());
     let mut sizes: BTreeMap<String, usize> = of_sheet.iter().filter(|(name, _)| name.starts_with("MAX_")).map(|(n, v)| (n.clone(), *v)).collect();
     let page = ["answer", "print", "print_page"].iter().find_map(|name| of_rattle(name, &of_sheet).get("MAX_PAGE").copied());
     sizes.insert("MAX_PAGE".into(), page.expect("a crate says how long a page can be"));
     let names: Vec<&str> = sizes.keys().map(String::as_str).collect();
-    let expected = ["BOUNDARIES", "BYTES", "CELLS", "COUNT", "PAGE", "RULES", "SLOTS", "UNITS"].map(|n| format!("MAX_{n}"));
+    let expected = ["BOUNDARIES", "BYTES", "CELLS", "COUNT", "LOADER", "PAGE", "RULES", "SLOTS", "UNITS"].map(|n| format!("MAX_{n}"));
     assert_eq!(names, expected);
 
     let package = fs::read_to_string(root().join("bindings/src/lib.rs")).unwrap();
-    assert_eq!(constants(&package, "pub const ", ": usize = ", ";", &BTreeMap::new()), sizes);
-    assert_eq!(constants(&header().replace("TUGROKT_", ""), "#define ", " ", "", &BTreeMap::new()), sizes);
+    assert_eq!(constants(&package, "pub const ", &types, ";", &BTreeMap::new()), sizes);
+    assert_eq!(constants(&header().replace("TUGROKT_", ""), "#define ", &[" "], "", &BTreeMap::new()), sizes);
 }

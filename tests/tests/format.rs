@@ -15,12 +15,13 @@ struct Example {
     answer: Vec<u8>,
 }
 
-/// A line `301 × (..)` stands for that line 301 times.
+/// A line `301 × (..)` stands for that line 301 times, with 1, 2, .. in turn for `#`.
 fn line_of_sheet(line: &str) -> String {
     match line.split_once('×') {
         Some((times, line)) => {
             let times = times.trim().parse().expect("a number of times");
-            format!("{}\n", line.strip_prefix(' ').unwrap_or(line)).repeat(times)
+            let line = line.strip_prefix(' ').unwrap_or(line);
+            (1..=times).map(|i: usize| format!("{}\n", line.replace('#', &i.to_string()))).collect()
         }
         None => format!("{line}\n"),
     }
@@ -64,7 +65,7 @@ fn page_by_calls(text: &[u8]) -> Vec<u8> {
     let windows: Vec<(u16, u16)> = lists.first.iter().copied().zip(lists.last.iter().copied()).collect();
     let rules: Vec<(u16, u16, u16, u16)> =
         (0..lists.from.len()).map(|i| (lists.from[i], lists.to[i], lists.low[i], lists.high[i])).collect();
-    let sheet = Sheet::new(lists.span, &windows, &rules);
+    let sheet = Sheet::new(lists.span, &windows, &rules).numbered(&lists.loader);
     match lists.plan().expect("what is read is planned") {
         Answer::None { ring } => page::of_ring(&sheet, &ring),
         Answer::Plan(plan) => {
@@ -94,7 +95,7 @@ fn the_examples_cover_every_answer() {
     let heads: Vec<String> = examples().iter().map(|e| String::from_utf8_lossy(&e.answer).into_owned()).collect();
     let has = |start: &str| heads.iter().any(|h| h.starts_with(start));
     assert!(has("(answer plan ") && has("(answer none)\n"));
-    for number in 1..=11 {
+    for number in (1..=11).chain([16]) {
         assert!(has(&format!("(refused {number} (line ")), "no example of {number}");
     }
 }

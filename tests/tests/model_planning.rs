@@ -2,8 +2,8 @@
 
 use model::cases::{self, Says};
 use model::page::{self, Page};
-use model::questions::{planning_refusal, Lengths, Lists};
-use model::random::{any_sheet, largest_sheet, small_sheet, Random};
+use model::questions::{is_new, planning_refusal, Lengths, Lists};
+use model::random::{any_sheet, largest_sheet, loaders, small_sheet, Random};
 use model::sheet::{Sheet, Solved};
 use model::{computed, effort, enumerated, seed};
 
@@ -109,6 +109,54 @@ fn seats_ignore_narrowed_windows() {
         assert_eq!(windows(&solved), [(1, 2), (1, 2)]);
         assert_eq!(solved.plan, [2, 1]);
     }
+}
+
+/// Equal closing slots go by line, whatever the loader numbers are: the larger one first, or the smaller.
+#[test]
+fn ties_go_by_line() {
+    let sheet = Sheet::new(2, &[(1, 2), (1, 2)], &[(1, 1, 0, 1)]);
+    for numbers in [[9_999, 1], [1, 9_999]] {
+        let sheet = sheet.clone().numbered(&numbers);
+        for solved in [enumerated::solve(&sheet).unwrap(), computed::solve(&sheet).unwrap()] {
+            assert_eq!(solved.plan, [1, 2], "{numbers:?}");
+        }
+    }
+}
+
+/// A page's unit lines have the loader numbers in the order of the lines, and nothing else in an answer knows them.
+#[test]
+fn numbers_are_only_printed() {
+    for i in 0..effort(2_000) {
+        let mut r = Random::of_case(seed(5), i);
+        let sheet = small_sheet(&mut r);
+        let by_line = sheet.clone().numbered(&(1..=sheet.units.len() as u16).collect::<Vec<_>>());
+        let solved = enumerated::solve(&sheet);
+        assert_eq!(solved, enumerated::solve(&by_line), "seed {} case {i}: {sheet:?}", seed(5));
+        let Some(solved) = solved else { continue };
+        let Some(Page::Plan { units, .. }) = page::parse(&page::of_plan(&sheet, &solved)) else { panic!("case {i}") };
+        assert_eq!(units.iter().map(|u| u.loader).collect::<Vec<_>>(), sheet.loaders(), "seed {} case {i}: {sheet:?}", seed(5));
+    }
+    let sheet = Sheet::new(2, &[(1, 2), (1, 1)], &[(1, 1, 0, 1)]).numbered(&[4_017, 12]);
+    let page = page::of_plan(&sheet, &enumerated::solve(&sheet).unwrap());
+    assert!(page.starts_with(b"(answer plan 2)\n(unit 4017 (slot 2) (between 2 2))\n(unit 12 (slot 1) (between 1 1))\n(slot 1 "));
+}
+
+/// The numbers that are drawn pass 16, are of both ends, and seldom stand in the order of the lines.
+#[test]
+fn numbers_at_random_are_new() {
+    let (mut ordered, mut least, mut greatest) = (0, 0, 0);
+    for i in 0..effort(1_000) {
+        let mut r = Random::of_case(seed(6), i);
+        let n = *r.pick(&[2, 5, 79, 299, 300]);
+        let numbers = loaders(&mut r, n);
+        assert_eq!(numbers.len(), n);
+        assert!((0..n).all(|j| is_new(numbers[j], &numbers[..j])), "seed {} case {i}: {numbers:?}", seed(6));
+        ordered += numbers.is_sorted() as usize;
+        least += numbers.contains(&1) as usize;
+        greatest += numbers.contains(&9_999) as usize;
+    }
+    assert!(5 * ordered < effort(1_000), "{ordered} in order");
+    assert!(10 * least > effort(1_000) && 10 * greatest > effort(1_000), "1 in {least}, 9999 in {greatest}");
 }
 
 /// Cycles can use a cut window twice: no single limit shuts slot 2 out for the first unit, all together do.
@@ -228,10 +276,24 @@ fn planning_questions_keep_their_order() {
     };
     assert_eq!(with(&|l| l.last.push(1)), 13);
     assert_eq!(with(&|l| l.high.clear()), 13);
+    assert_eq!(with(&|l| l.loader.push(3)), 13);
+    assert_eq!(with(&|l| l.loader.truncate(1)), 13);
     assert_eq!(with(&|l| l.span = 0), 6);
     assert_eq!(with(&|l| l.span = 49), 6);
     assert_eq!(with(&|l| l.first[0] = 0), 7);
     assert_eq!(with(&|l| l.to[0] = 4), 7);
+    for (numbers, number) in [([1, 9_999], 0), ([9_999, 1], 0), ([0, 1], 16), ([1, 0], 16), ([1, 1], 16), ([1, 10_000], 16), ([65_535, 1], 16)] {
+        assert_eq!(with(&|l| l.loader = numbers.to_vec()), number, "{numbers:?}");
+        assert_eq!(with(&|l| (l.loader, l.to[0]) = (numbers.to_vec(), 4)), 7, "7 of the rules before 16");
+        assert_eq!(with(&|l| (l.loader, l.high[0]) = (numbers.to_vec(), 301)), if number == 0 { 8 } else { 16 }, "16 before 8");
+    }
+    // A number comes again on the last unit: 9 is asked before 16.
+    let many = |n: u16| {
+        let numbers: Vec<u16> = (1..n).chain([17]).collect();
+        let sheet = Sheet::new(3, &vec![(1, 3); n as usize], &[]).numbered(&numbers);
+        planning_refusal(&Lists::from(&sheet), &Lengths::exact(&sheet))
+    };
+    assert_eq!((many(300), many(301)), (16, 9));
     assert_eq!(with(&|l| l.high[0] = 301), 8);
     assert_eq!(with(&|l| l.low[0] = 301), 8);
     assert_eq!(planning_refusal(&lists, &Lengths { ring: 3, ..rooms }), 12);

@@ -68,23 +68,27 @@ fn notes() {
 fn forms_are_exact() {
     for line in [
         "", " ", "(sheet  4)", "(sheet 4 )", "(sheet 4) ", " (sheet 4)", "(sheet)", "(sheet )", "(sheet -4)", "(sheet +4)",
-        "(Sheet 4)", "(sheet 4", "sheet 4", "(unit (window 1))", "(unit (window 1 2)", "(unit (window 1 2)) ",
-        "(unit (window 1  2))", "(unit(window 1 2))", "(rule (slots 1 2)(count 1 1))", "(rule (slots 1 2) (count 1 1)",
-        "(rule (slots 1 2) (count 1))", "(rule (count 1 1) (slots 1 2))", "(unit (slots 1 2))", "(rule (window 1 2) (count 1 1))",
+        "(Sheet 4)", "(sheet 4", "sheet 4", "(unit 1 (window 1))", "(unit 1 (window 1 2)", "(unit 1 (window 1 2)) ",
+        "(unit 1 (window 1  2))", "(unit 1(window 1 2))", "(unit(window 1 2))", "(unit (window 1 2))", "(unit  (window 1 2))",
+        "(unit 1  (window 1 2))", "(unit  1 (window 1 2))", "(unit 1 2 (window 1 2))", "(unit -1 (window 1 2))", "(unit x (window 1 2))",
+        "(unit (loader 1) (window 1 2))", "(unit (window 1 2) 1)", "(unit 1)", "(rule (slots 1 2)(count 1 1))", "(rule (slots 1 2) (count 1 1)",
+        "(rule (slots 1 2) (count 1))", "(rule (count 1 1) (slots 1 2))", "(unit 1 (slots 1 2))", "(rule (window 1 2) (count 1 1))",
         "(answer none)", "()", "(",
     ] {
         assert_eq!(reply(&format!("(sheet 4)\n{line}\n")), (3, 2), "{line:?}");
     }
-    for line in ["(sheet 4)", "(unit (window 1 2))", "x", "(rule (slots 05 6) (count 0 1))"] {
+    for line in ["(sheet 4)", "(unit 1 (window 1 2))", "(unit 0017 (window 1 2))", "x", "(rule (slots 05 6) (count 0 1))"] {
         assert_eq!(reply(line), (3, 1), "{line:?} has no line feed");
     }
 }
 
 #[test]
 fn numbers() {
-    for n in ["05", "00", "10000", "000000", "99999999999999999999"] {
+    for n in ["05", "00", "0017", "10000", "000000", "99999999999999999999"] {
         assert_eq!(reply(&format!("(sheet {n})\n")), (4, 1));
-        assert_eq!(reply(&format!("(sheet 4)\n(unit (window 1 {n}))\n")), (4, 2));
+        assert_eq!(reply(&format!("(sheet 4)\n(unit {n} (window 1 2))\n")), (4, 2));
+        assert_eq!(reply(&format!("(unit {n} (window 1 2))\n")), (4, 1), "4 before 5");
+        assert_eq!(reply(&format!("(sheet 4)\n(unit 1 (window 1 {n}))\n")), (4, 2));
         assert_eq!(reply(&format!("(sheet 4)\n(rule (slots 1 1) (count {n} 1))\n")), (4, 2));
     }
     assert_eq!(reply("(sheet 0)\n"), (6, 1));
@@ -96,7 +100,8 @@ fn numbers() {
 fn the_sheet_form_is_first_and_only() {
     assert_eq!(reply(""), (5, 0));
     assert_eq!(reply("\n"), (3, 1));
-    assert_eq!(reply("(unit (window 9 1))\n(sheet 4)\n"), (5, 1), "before 7");
+    assert_eq!(reply("(unit 1 (window 9 1))\n(sheet 4)\n"), (5, 1), "before 7");
+    assert_eq!(reply("(unit 0 (window 1 1))\n(sheet 4)\n"), (5, 1), "before 16");
     assert_eq!(reply("(rule (slots 1 1) (count 1 0))\n"), (5, 1), "before 8");
     assert_eq!(reply("(sheet 4)\n(sheet 49)\n"), (5, 2), "before 6");
     assert_eq!(reply("(note)\n(note)\n"), (5, 0));
@@ -108,54 +113,79 @@ fn limits() {
     assert_eq!(reply("(sheet 49)\n"), (6, 1));
     for (window, number) in [("1 4", 0), ("4 4", 0), ("0 1", 7), ("4 3", 7), ("1 5", 7), ("5 5", 7)] {
         let line = if number == 0 { 0 } else { 2 };
-        assert_eq!(reply(&format!("(sheet 4)\n(unit (window {window}))\n")), (number, line), "{window}");
+        assert_eq!(reply(&format!("(sheet 4)\n(unit 1 (window {window}))\n")), (number, line), "{window}");
         assert_eq!(reply(&format!("(sheet 4)\n(rule (slots {window}) (count 0 1))\n")), (number, line), "{window}");
     }
     assert_eq!(reply("(sheet 4)\n(rule (slots 1 4) (count 300 300))\n"), (0, 0));
     assert_eq!(reply("(sheet 4)\n(rule (slots 1 4) (count 0 301))\n"), (8, 2));
     assert_eq!(reply("(sheet 4)\n(rule (slots 1 4) (count 2 1))\n"), (8, 2));
     assert_eq!(reply("(sheet 4)\n(rule (slots 4 1) (count 2 1))\n"), (7, 2), "7 before 8");
-    let units = |n: usize| "(unit (window 1 4))\n".repeat(n);
+    let units = |n: usize| (1..=n).map(|i| format!("(unit {i} (window 1 4))\n")).collect::<String>();
     let rules = |n: usize| "(rule (slots 1 4) (count 0 1))\n".repeat(n);
     assert_eq!(reply(&format!("(sheet 4)\n{}", units(300))), (0, 0));
     assert_eq!(reply(&format!("(sheet 4)\n{}", units(301))), (9, 302));
-    assert_eq!(reply(&format!("(sheet 4)\n{}(unit (window 4 3))\n", units(300))), (7, 302), "7 before 9");
+    assert_eq!(reply(&format!("(sheet 4)\n{}(unit 301 (window 4 3))\n", units(300))), (7, 302), "7 before 9");
+    for number in [0, 1, 17, 299] {
+        let again = |n| format!("(sheet 4)\n{}(unit {number} (window 1 4))\n", units(n));
+        assert_eq!(reply(&again(299)), (16, 301), "on the last of 300 units");
+        assert_eq!(reply(&again(300)), (16, 302), "16 before 9");
+    }
     assert_eq!(reply(&format!("(sheet 4)\n{}", rules(60))), (0, 0));
     assert_eq!(reply(&format!("(sheet 4)\n{}", rules(61))), (10, 62));
     assert_eq!(reply(&format!("(sheet 4)\n{}(rule (slots 1 4) (count 2 1))\n", rules(60))), (8, 62), "8 before 10");
 }
 
 #[test]
+fn loader_numbers() {
+    let two = |one: &str, other: &str| reply(&format!("(sheet 4)\n(unit {one} (window 1 4))\n(note)\n(unit {other} (window 1 2))\n"));
+    assert_eq!(two("1", "9999"), (0, 0));
+    assert_eq!(two("9999", "1"), (0, 0));
+    assert_eq!(two("12", "120"), (0, 0));
+    assert_eq!(two("0", "1"), (16, 2));
+    assert_eq!(two("1", "0"), (16, 4));
+    assert_eq!(two("0", "0"), (16, 2));
+    assert_eq!(two("4017", "4017"), (16, 4), "the line of the later unit");
+    assert_eq!(two("4017", "10000"), (4, 4), "4 before 16");
+    assert_eq!(two("17", "0017"), (4, 4), "4 before 16");
+    assert_eq!(reply("(sheet 4)\n(unit 0 (window 4 3))\n"), (7, 2), "7 before 16");
+    assert_eq!(reply("(sheet 4)\n(unit 5 (window 1 1))\n(unit 5 (window 1 5))\n"), (7, 3), "7 before 16");
+    assert_eq!(reply("(sheet 4)\n(unit 5 (window 1 1))\n(rule (slots 1 1) (count 0 5))\n(unit 5 (window 1 1))\n"), (16, 4));
+    let sheet = read(b"(sheet 4)\n(unit 4017 (window 1 4))\n(unit 12 (window 2 3))\n").unwrap();
+    assert_eq!(sheet, Sheet::new(4, &[(1, 4), (2, 3)], &[]).numbered(&[4_017, 12]));
+}
+
+#[test]
 fn lines_come_before_questions() {
     assert_eq!(reply("(sheet 49)\n\x01\n"), (6, 1));
-    assert_eq!(reply("(sheet 4)\n(unit (window 4 3))\nx"), (7, 2));
+    assert_eq!(reply("(sheet 4)\n(unit 1 (window 4 3))\nx"), (7, 2));
+    assert_eq!(reply("(sheet 4)\n(unit 0 (window 1 3))\nx"), (16, 2));
 }
 
 #[test]
 fn rooms_are_asked_last() {
     let text = Sheet::new(2, &[(1, 2)], &[(1, 1, 0, 1)]).text();
-    assert!(read_into(&text, [1, 1], [1, 1, 1, 1]).is_ok());
-    for short in 0..6 {
-        let mut l = [1; 6];
+    assert!(read_into(&text, [1, 1, 1], [1, 1, 1, 1]).is_ok());
+    for short in 0..7 {
+        let mut l = [1; 7];
         l[short] = 0;
-        let reply = read_into(&text, [l[0], l[1]], [l[2], l[3], l[4], l[5]]);
+        let reply = read_into(&text, [l[0], l[1], l[2]], [l[3], l[4], l[5], l[6]]);
         assert_eq!(reply, Err(Refusal { number: 12, line: 0 }));
     }
-    assert_eq!(read_into(b"x", [0, 0], [0; 4]), Err(Refusal { number: 3, line: 1 }));
+    assert_eq!(read_into(b"x", [0; 3], [0; 4]), Err(Refusal { number: 3, line: 1 }));
     assert_eq!(refusal_page(Refusal { number: 7, line: 3 }), b"(refused 7 (line 3))\n");
 }
 
 /// The generators reach a sheet and every refusal of reading.
 #[test]
 fn generators_reach_every_reply() {
-    let mut seen = [0usize; 13];
+    let mut seen = [0usize; 17];
     for i in 0..effort(20_000) {
         let mut r = Random::of_case(seed(21), i);
         let text = any_text(&mut r);
         seen[read(&text).map_or_else(|r| r.number, |_| 0)] += 1;
         assert!(read(&valid(&mut r)).is_ok(), "seed {} case {i}", seed(21));
     }
-    for number in [0, 2, 3, 4, 5, 6, 7, 8, 11] {
+    for number in [0, 2, 3, 4, 5, 6, 7, 8, 11, 16] {
         assert!(seen[number] > 20, "{number}: {seen:?}");
     }
 }

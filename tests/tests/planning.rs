@@ -2,7 +2,7 @@
 
 use model::calls::planning_fault;
 use model::questions::{planning_refusal, Lengths, Lists};
-use model::random::{any_sheet, largest_sheet, paper_sheet, sheet_up_to, small_sheet, Random};
+use model::random::{any_sheet, largest_sheet, loaders, paper_sheet, sheet_up_to, small_sheet, Random};
 use model::sheet::{Sheet, Solved, Unit};
 use model::tally::Tally;
 use model::{cases, computed, effort, enumerated, seed};
@@ -193,9 +193,7 @@ fn the_greatest_sums() {
             rules.push((from, to, 0, *r.pick(&[0, 1, 299, 300])));
         }
         // The order of rules is free, and some of the stretches may be left out.
-        for j in (1..rules.len()).rev() {
-            rules.swap(j, r.below(j + 1));
-        }
+        r.shuffle(&mut rules);
         rules.truncate(r.between(1, rules.len()));
         let sheet = Sheet::new(48, &windows, &rules);
         hold_sheet(&mut tally, &sheet, computed::solve(&sheet).as_ref());
@@ -220,8 +218,10 @@ fn narrowing_through_chains() {
         }
         for _ in 0..r.below(3) {
             let (first, last) = r.interval(span, span);
-            sheet.units.push(Unit { first, last });
+            sheet.units.push(Unit { loader: 0, first, last });
         }
+        let numbers = loaders(&mut r, sheet.units.len());
+        let sheet = sheet.numbered(&numbers);
         let solved = computed::solve(&sheet);
         hold(&mut tally, &Lists::from(&sheet), &roomy(&mut r, &sheet), solved.as_ref());
     }
@@ -231,6 +231,9 @@ fn narrowing_through_chains() {
 /// A fault of each kind, by the question that it fails.
 fn faults() -> Vec<(usize, fn(&mut Lists, &mut Lengths))> {
     vec![
+        (13, |l, _| l.loader.push(7)),
+        (13, |l, _| l.loader.truncate(1)),
+        (13, |l, _| l.loader.clear()),
         (13, |l, _| l.last.push(1)),
         (13, |l, _| l.first.push(1)),
         (13, |l, _| l.to.push(1)),
@@ -241,16 +244,8 @@ fn faults() -> Vec<(usize, fn(&mut Lists, &mut Lengths))> {
         (6, |l, _| l.span = 49),
         (6, |l, _| l.span = usize::MAX),
         (6, |l, _| l.span = 1 << 32),
-        (9, |l, _| {
-            l.first.resize(301, 1);
-            l.last.resize(301, 1)
-        }),
-        (10, |l, _| {
-            l.from.resize(61, 1);
-            l.to.resize(61, 1);
-            l.low.resize(61, 0);
-            l.high.resize(61, 1)
-        }),
+        (9, |l, _| l.add_units(301)),
+        (10, |l, _| l.add_rules(61)),
         (7, |l, _| l.first[0] = 0),
         (7, |l, _| l.first[1] = l.last[1] + 1),
         (7, |l, _| l.last[1] = 49),
@@ -258,6 +253,11 @@ fn faults() -> Vec<(usize, fn(&mut Lists, &mut Lengths))> {
         (7, |l, _| l.from[0] = 0),
         (7, |l, _| l.from[1] = l.to[1] + 1),
         (7, |l, _| l.to[1] = 50),
+        (16, |l, _| l.loader[0] = 0),
+        (16, |l, _| l.loader[1] = 0),
+        (16, |l, _| l.loader[0] = 10_000),
+        (16, |l, _| l.loader[1] = 65_535),
+        (16, |l, _| l.loader[1] = l.loader[0]),
         (8, |l, _| l.high[1] = 301),
         (8, |l, _| l.high[0] = 65_535),
         (8, |l, _| l.low[0] = l.high[0].saturating_add(1)),
@@ -276,13 +276,14 @@ fn faults() -> Vec<(usize, fn(&mut Lists, &mut Lengths))> {
 /// Every refusal alone, and in pairs the one that is asked first.
 #[test]
 fn refusals_alone_and_in_pairs() {
-    let order = [13, 6, 9, 10, 7, 8, 12];
+    let order = [13, 6, 9, 10, 7, 16, 8, 12];
     let rank = |q: usize| order.iter().position(|&o| o == q).unwrap();
     let sheet = Sheet::new(5, &[(1, 3), (2, 5)], &[(1, 2, 0, 2), (2, 4, 1, 2)]);
     let none = Sheet::new(5, &[(1, 3), (2, 5)], &[(1, 5, 0, 1), (2, 4, 1, 2)]);
     let all = faults();
     let mut tally = Tally::new("planning refusals alone and in pairs", 0);
     for sheet in [sheet, none] {
+        let sheet = sheet.numbered(&[4_017, 12]);
         let solved = enumerated::solve(&sheet);
         hold_sheet(&mut tally, &sheet, solved.as_ref());
         for (one, make_one) in &all {
@@ -308,6 +309,77 @@ fn refusals_alone_and_in_pairs() {
     tally.report();
 }
 
+/// Equal closing slots go by line, whatever the loader numbers are: here those of the later lines are smaller.
+#[test]
+fn ties_go_by_line() {
+    let mut tally = Tally::new("planning ties", 0);
+    for numbers in [[300, 200, 100], [9_999, 2, 1], [100, 200, 300], [2, 3, 1]] {
+        let sheet = Sheet::new(3, &[(1, 3), (1, 3), (1, 3)], &[(1, 1, 0, 1), (2, 2, 0, 1)]).numbered(&numbers);
+        let solved = enumerated::solve(&sheet).unwrap();
+        assert_eq!(solved.plan, [1, 2, 3]);
+        hold_sheet(&mut tally, &sheet, Some(&solved));
+    }
+    // 300 units with one window, no two of them in order of their numbers.
+    let falling: Vec<u16> = (9_700..=9_999).rev().collect();
+    let sheet = Sheet::new(48, &[(1, 48); 300], &[(1, 24, 0, 150)]).numbered(&falling);
+    hold_sheet(&mut tally, &sheet, computed::solve(&sheet).as_ref());
+    tally.report();
+}
+
+/// Loader numbers at their limits and equal ones, on any unit of few or many: 16 refuses them, but 9 comes first.
+#[test]
+fn loader_numbers_of_many_units() {
+    let mut tally = Tally::new("planning loader numbers of many units", seed(109));
+    for i in 0..effort(300) {
+        let mut r = Random::of_case(seed(109), i);
+        let n = *r.pick(&[2, 79, 128, 129, 299, 300, 301]);
+        let mut numbers = loaders(&mut r, n);
+        let at = if r.chance(50) { n - 1 } else { r.below(n) };
+        let other = (at + r.between(1, n - 1)) % n;
+        let (number, expected) = match i % 6 {
+            0 => (numbers[at], 0),
+            1 => (9_999, 0),
+            2 => (numbers[other], 16),
+            3 => (0, 16),
+            4 => (10_000, 16),
+            _ => (65_535, 16),
+        };
+        // The largest number may stand anywhere, but once.
+        match numbers.iter().position(|&k| k == number) {
+            Some(before) if expected == 0 => numbers.swap(before, at),
+            _ => numbers[at] = number,
+        }
+        let sheet = Sheet::new(1, &vec![(1, 1); n], &[]).numbered(&numbers);
+        let refusal = planning_refusal(&Lists::from(&sheet), &Lengths::exact(&sheet));
+        assert_eq!(refusal, if n <= 300 { expected } else { 9 }, "seed {} case {i}", seed(109));
+        hold_sheet(&mut tally, &sheet, if refusal == 0 { computed::solve(&sheet) } else { None }.as_ref());
+    }
+    tally.report();
+    for number in [9, 16] {
+        assert!(20 * tally.refused_by(number) > tally.all(), "{number} refuses too seldom");
+    }
+    assert!(10 * tally.count(PLAN) > tally.all());
+}
+
+/// Every pair of places that can have the same number: the shorter lists whole, the longest at every place of the second.
+#[test]
+fn a_number_comes_again_anywhere() {
+    let mut tally = Tally::new("planning a number that comes again anywhere", 0);
+    let numbers: Vec<u16> = (0..300).map(|i| i * 33 % 9_999 + 1).collect();
+    for n in [2, 3, 10, 40, 300] {
+        let earlier = |at: usize| if n < 300 { (0..at).collect::<Vec<_>>() } else { vec![0, at / 2, at - 1] };
+        for at in 1..n {
+            for before in earlier(at) {
+                let mut numbers = numbers[..n].to_vec();
+                numbers[at] = numbers[before];
+                hold_sheet(&mut tally, &Sheet::new(1, &vec![(1, 1); n], &[]).numbered(&numbers), None);
+            }
+        }
+    }
+    assert_eq!(tally.refused_by(16), tally.all());
+    tally.report();
+}
+
 /// Lists and rooms with faults at random, also in the middle and at the end of long lists.
 #[test]
 fn refusals_at_random() {
@@ -318,9 +390,9 @@ fn refusals_at_random() {
         let mut lists = Lists::from(&sheet);
         let mut rooms = roomy(&mut r, &sheet);
         for _ in 0..r.between(1, 2) {
-            let value = *r.pick(&[0, 1, 5, 6, 48, 49, 299, 300, 301, 302, 32_767, 32_768, 65_535]);
-            let Lists { span, first, last, from, to, low, high } = &mut lists;
-            match r.below(12) {
+            let value = *r.pick(&[0, 1, 5, 6, 48, 49, 299, 300, 301, 302, 9_999, 10_000, 32_767, 32_768, 65_535]);
+            let Lists { span, loader, first, last, from, to, low, high } = &mut lists;
+            match r.below(14) {
                 0 => *span = *r.pick(&[0, 1, 2, 47, 48, 49, 255, 256, 65_536, usize::MAX - 1]),
                 1 => rooms.table = r.below(rooms.table + 2),
                 2 => rooms.ring = r.below(rooms.ring + 2),
@@ -329,8 +401,8 @@ fn refusals_at_random() {
                     *[&mut rooms.plan, &mut rooms.earliest, &mut rooms.latest][room] = r.below(7);
                 }
                 4 => {
-                    let list = r.below(6);
-                    let list: &mut Vec<u16> = [first, last, from, to, low, high].into_iter().nth(list).unwrap();
+                    let list = r.below(7);
+                    let list: &mut Vec<u16> = [loader, first, last, from, to, low, high].into_iter().nth(list).unwrap();
                     if r.chance(50) {
                         list.pop();
                     } else {
@@ -339,16 +411,23 @@ fn refusals_at_random() {
                 }
                 5 => {
                     let length = *r.pick(&[299, 300, 301, 302, 400]);
-                    first.resize(length, 1);
-                    last.resize(length, 1);
-                    rooms.plan = rooms.plan.max(length);
+                    lists.add_units(length);
+                    for room in [&mut rooms.plan, &mut rooms.earliest, &mut rooms.latest] {
+                        *room = length.max(*room);
+                    }
                 }
                 6 => {
                     let length = *r.pick(&[59, 60, 61, 62, 100]);
-                    from.resize(length, 1);
-                    to.resize(length, 1);
-                    low.resize(length, 0);
-                    high.resize(length, 300);
+                    lists.add_rules(length);
+                }
+                12 if !loader.is_empty() => {
+                    let at = r.below(loader.len());
+                    loader[at] = value;
+                }
+                13 if !loader.is_empty() => {
+                    // A number comes again, often on the last unit.
+                    let at = if r.chance(50) { loader.len() - 1 } else { r.below(loader.len()) };
+                    loader[at] = *r.pick(loader);
                 }
                 k => {
                     let list = if k == 7 { r.below(2) } else { r.below(4) + 2 };
@@ -364,7 +443,7 @@ fn refusals_at_random() {
         hold(&mut tally, &lists, &rooms, solved.as_ref());
     }
     tally.report();
-    for number in [6, 7, 8, 9, 10, 12, 13] {
+    for number in [6, 7, 8, 9, 10, 12, 13, 16] {
         assert!(2_000 * tally.refused_by(number) > tally.all(), "{number} refuses too seldom");
     }
 }

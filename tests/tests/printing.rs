@@ -83,22 +83,32 @@ fn pages_that_do_not_hold_the_answer() {
 /// Printing asks what planning asks, and only then 15.
 #[test]
 fn refusals() {
-    let sheet = Sheet::new(5, &[(1, 3), (2, 5)], &[(1, 2, 0, 2), (2, 4, 1, 2)]);
-    let changes: [(usize, fn(&mut Lists, &mut Lengths)); 9] = [
+    let sheet = Sheet::new(5, &[(1, 3), (2, 5)], &[(1, 2, 0, 2), (2, 4, 1, 2)]).numbered(&[4_017, 12]);
+    let changes: [(usize, fn(&mut Lists, &mut Lengths)); 20] = [
         (13, |l, _| l.last.push(1)),
         (13, |l, _| l.low.push(1)),
+        (13, |l, _| l.loader.push(7)),
+        (13, |l, _| l.loader.truncate(1)),
         (6, |l, _| l.span = 49),
+        (9, |l, _| l.add_units(301)),
         (9, |l, _| {
-            l.first.resize(301, 1);
-            l.last.resize(301, 1)
+            l.add_units(301);
+            l.loader[300] = l.loader[0]
         }),
-        (10, |l, _| {
-            l.from.resize(61, 1);
-            l.to.resize(61, 1);
-            l.low.resize(61, 0);
-            l.high.resize(61, 1)
-        }),
+        (10, |l, _| l.add_rules(61)),
         (7, |l, _| l.to[0] = 6),
+        (7, |l, _| (l.to[0], l.loader[0]) = (6, 0)),
+        (16, |l, _| l.loader[0] = 0),
+        (16, |l, _| l.loader[1] = 10_000),
+        (16, |l, _| l.loader[1] = 65_535),
+        (16, |l, _| l.loader[1] = l.loader[0]),
+        (16, |l, rooms| {
+            l.add_units(300);
+            l.loader[299] = l.loader[0];
+            *rooms = Lengths { plan: 300, earliest: 300, latest: 300, ..*rooms }
+        }),
+        (16, |l, _| (l.loader[1], l.high[0]) = (0, 301)),
+        (16, |l, rooms| (l.loader[1], rooms.ring) = (4_017, 0)),
         (8, |l, _| l.high[0] = 301),
         (12, |_, rooms| rooms.ring -= 1),
         (12, |_, rooms| rooms.table -= 1),
@@ -112,6 +122,28 @@ fn refusals() {
             assert_eq!(refused_print_fault(&printed, number, &lengths, place), None);
         }
     }
+}
+
+/// Unit lines carry the loader numbers, in the order of the lines, and equal closing slots go by line: here the larger number first.
+#[test]
+fn loader_numbers() {
+    let sheet = Sheet::new(2, &[(1, 2), (1, 2), (1, 1)], &[(1, 1, 0, 2)]).numbered(&[9_999, 12, 4_017]);
+    let Printed { page, reply, .. } = print(&Lists::from(&sheet), &Lengths::exact(&sheet), 1_000, 0);
+    let expected = "(answer plan 3)
+(unit 9999 (slot 1) (between 1 2))
+(unit 12 (slot 2) (between 1 2))
+(unit 4017 (slot 1) (between 1 1))
+(slot 1 (count 2) (range 1 2))
+(slot 2 (count 1) (range 1 2))
+";
+    assert_eq!(String::from_utf8_lossy(&page[..reply.place]), expected);
+    // Numbers of one to four digits, and of each length on both sides of it.
+    let numbers = [1, 9, 10, 99, 100, 999, 1_000, 9_999];
+    let sheet = Sheet::new(1, &[(1, 1); 8], &[]).numbered(&numbers);
+    let Printed { page, reply, .. } = print(&Lists::from(&sheet), &Lengths::exact(&sheet), 1_000, 0);
+    let lines: String = numbers.iter().map(|k| format!("(unit {k} (slot 1) (between 1 1))\n")).collect();
+    let expected = format!("(answer plan 8)\n{lines}(slot 1 (count 8) (range 8 8))\n");
+    assert_eq!(String::from_utf8_lossy(&page[..reply.place]), expected);
 }
 
 /// Answers one after the other on one page.
@@ -131,13 +163,14 @@ fn a_running_place() {
     assert!(whole[place..].iter().all(|&b| b == 0));
 }
 
-/// The longest answer there is: every unit in slots of two digits, twenty slots with counts and leasts of two, slot 10 with a
-/// count of three, and as many greatests of three as there can be.
+/// The longest answer there is: every loader number of four digits, every unit in slots of two, twenty slots with counts and leasts of
+/// two, slot 10 with a count of three, and as many greatests of three as there can be.
 #[test]
 fn the_longest_page() {
     let rules: Vec<(u16, u16, u16, u16)> = (29..=48).map(|slot| (slot, slot, 10, 300)).collect();
-    let sheet = Sheet::new(48, &[(10, 48); 300], &rules);
-    let printed = print(&Lists::from(&sheet), &Lengths::exact(&sheet), 12_657, 0);
+    let numbers: Vec<u16> = (9_700..=9_999).rev().collect();
+    let sheet = Sheet::new(48, &[(10, 48); 300], &rules).numbered(&numbers);
+    let printed = print(&Lists::from(&sheet), &Lengths::exact(&sheet), 13_065, 0);
     assert_eq!(printed.reply, Printing { number: 0, line: 0, length: 0, place: printed.page.len() });
     assert!(printed.page.len() <= tugrokt::MAX_PAGE);
     assert_eq!(page::fault(&sheet, computed::solve(&sheet).as_ref(), &printed.page), None);

@@ -36,7 +36,8 @@ fn document_cases() {
 /// The sheets that docs/RULES.md, "Sheets to try", says are only run.
 #[test]
 fn cases_that_are_run() {
-    let units = |n: usize| format!("(sheet 4)\n{}", "(unit (window 1 4))\n".repeat(n));
+    // Loader numbers that fall, so that no line has its place for a number.
+    let units = |n: usize| format!("(sheet 4)\n{}", (1..=n).rev().map(|k| format!("(unit {k} (window 1 4))\n")).collect::<String>());
     let rules = |n: usize| format!("(sheet 4)\n{}", "(rule (slots 1 4) (count 0 1))\n".repeat(n));
     let note = |depth| format!("(sheet 1)\n{}\n", String::from_utf8(note_of_depth(depth)).unwrap());
     let long = |length: usize| format!("(sheet 1)\n(note {})\n", "x".repeat(length - 18));
@@ -47,7 +48,15 @@ fn cases_that_are_run() {
         ("(sheet 4)\n(rule (slots 1 4) (count 0 301))\n".into(), "(refused 8 (line 2))\n"),
         (note(17), "(refused 11 (line 2))\n"),
         (long(16_001), "(refused 1 (line 0))\n"),
-        ("(sheet 4)\n(unit (window 4 3))\n".into(), "(refused 7 (line 2))\n"),
+        ("(sheet 4)\n(unit 1 (window 4 3))\n".into(), "(refused 7 (line 2))\n"),
+        ("(sheet 4)\n(unit 0 (window 4 3))\n".into(), "(refused 7 (line 2))\n"),
+        ("(sheet 4)\n(unit 0 (window 1 4))\n".into(), "(refused 16 (line 2))\n"),
+        (format!("{}(note)\n(unit 299 (window 1 4))\n", units(299)), "(refused 16 (line 302))\n"),
+        (format!("{}(unit 300 (window 1 4))\n", units(300)), "(refused 16 (line 302))\n"),
+        (format!("{}(unit 1 (window 1 4))\n", units(300)), "(refused 16 (line 302))\n"),
+        ("(sheet 4)\n(unit 10000 (window 1 4))\n".into(), "(refused 4 (line 2))\n"),
+        ("(sheet 4)\n(unit 0017 (window 1 4))\n".into(), "(refused 4 (line 2))\n"),
+        ("(sheet 4)\n(unit (window 1 2))\n".into(), "(refused 3 (line 2))\n"),
         (String::new(), "(refused 5 (line 0))\n"),
         ("(rule (slots 05 6) (count 0 1))\n".into(), "(refused 4 (line 1))\n"),
     ];
@@ -57,6 +66,7 @@ fn cases_that_are_run() {
     let taken = [
         "(sheet 48)\n".to_string(),
         units(300),
+        "(sheet 4)\n(unit 9999 (window 1 4))\n(unit 1 (window 1 4))\n".into(),
         rules(60),
         "(sheet 4)\n(rule (slots 1 4) (count 0 300))\n".into(),
         note(16),
@@ -68,10 +78,23 @@ fn cases_that_are_run() {
     }
 }
 
+/// Unit lines carry the loader numbers, in the order of the lines, and equal closing slots go by line: here the larger number first.
+#[test]
+fn loader_numbers() {
+    let text = "(sheet 2)\n(unit 4017 (window 1 2))\n(unit 12 (window 1 2))\n(rule (slots 1 1) (count 0 1))\n";
+    let page = "(answer plan 2)
+(unit 4017 (slot 1) (between 1 2))
+(unit 12 (slot 2) (between 1 2))
+(slot 1 (count 1) (range 0 1))
+(slot 2 (count 1) (range 1 2))
+";
+    assert_eq!(written(text), page);
+}
+
 /// The texts that the check runs the program on are as long as docs/ARCHITECTURE.md says, and their pages are the model's.
 #[test]
 fn texts_of_the_check() {
-    for (name, length) in [("wave", 143), ("wave_longest", 16_000), ("wave_too_long", 16_001)] {
+    for (name, length) in [("wave", 147), ("wave_longest", 16_000), ("wave_too_long", 16_001)] {
         let file = |kind: &str| fs::read(format!("{}/crates/{name}/{kind}", env!("ROOT"))).unwrap();
         let text = file("stdin");
         assert_eq!(text.len(), length, "{name}");
@@ -156,4 +179,7 @@ fn damaged_texts() {
         hold(&mut tally, &any_text(&mut Random::of_case(seed(404), i)));
     }
     tally.report();
+    for number in [2, 3, 4, 5, 6, 7, 8, 11, 16] {
+        assert!(2_000 * tally.refused_by(number) > tally.all(), "{number} refuses too seldom");
+    }
 }

@@ -2,16 +2,17 @@
 
 use model::calls::reading_fault;
 use model::damage::{any_text, note_of_depth, valid};
-use model::random::{largest_sheet, Random};
+use model::random::{largest_sheet, loaders, Random};
 use model::reading::read_into;
+use model::sheet::Sheet;
 use model::tally::Tally;
 use model::{cases, effort, seed};
 
-const UNITS: [usize; 2] = [300; 2];
+const UNITS: [usize; 3] = [300; 3];
 const RULES: [usize; 4] = [60; 4];
 
 /// Reads, counts the case, and fails where anything differs from the model.
-fn hold(tally: &mut Tally, text: &[u8], units: [usize; 2], rules: [usize; 4]) {
+fn hold(tally: &mut Tally, text: &[u8], units: [usize; 3], rules: [usize; 4]) {
     let case = tally.all();
     tally.add(read_into(text, units, rules).map_or_else(|r| r.number, |_| 0), "read");
     if let Some(fault) = reading_fault(text, units, rules) {
@@ -23,7 +24,7 @@ fn hold(tally: &mut Tally, text: &[u8], units: [usize; 2], rules: [usize; 4]) {
 fn document_cases() {
     for case in cases::all() {
         let (n, k) = (case.sheet.units.len(), case.sheet.rules.len());
-        assert_eq!(reading_fault(&case.sheet.text(), [n; 2], [k; 4]), None, "{}", case.name);
+        assert_eq!(reading_fault(&case.sheet.text(), [n; 3], [k; 4]), None, "{}", case.name);
         assert_eq!(reading_fault(&case.sheet.text(), UNITS, RULES), None, "{}", case.name);
     }
 }
@@ -39,7 +40,7 @@ fn texts_at_random() {
         hold(&mut tally, &text, units, rules);
     }
     tally.report();
-    for number in [2, 3, 4, 5, 6, 7, 8, 11, 12] {
+    for number in [2, 3, 4, 5, 6, 7, 8, 11, 12, 16] {
         assert!(2_000 * tally.refused_by(number) > tally.all(), "{number} refuses too seldom");
     }
 }
@@ -47,7 +48,7 @@ fn texts_at_random() {
 /// Every byte in every place of a text that reads, and every byte dropped or doubled.
 #[test]
 fn every_single_byte() {
-    let text = b"(note a (b))\n(sheet 12)\n(unit (window 1 10))\n(rule (slots 3 12) (count 0 300))\n(note)\n";
+    let text = b"(note a (b))\n(sheet 12)\n(unit 97 (window 1 10))\n(unit 9 (window 2 2))\n(rule (slots 3 12) (count 0 300))\n(note)\n";
     let mut tally = Tally::new("reading every single byte", 0);
     hold(&mut tally, text, UNITS, RULES);
     for at in 0..text.len() {
@@ -69,7 +70,7 @@ fn every_single_byte() {
 
 /// A line for each question that it can fail, and lines that pass; with two faults in one line the question that comes first
 /// decides.
-const LINES: [&str; 30] = [
+const LINES: [&str; 37] = [
     "(sheet 4)",
     "(sheet 48)",
     "(sheet 49)",
@@ -78,13 +79,20 @@ const LINES: [&str; 30] = [
     "(sheet 00049)",
     "(sheet  4)",
     "(sheet )",
+    "(unit 7 (window 1 4))",
+    "(unit 9999 (window 2 3))",
+    "(unit 7 (window 4 3))",
+    "(unit 1 (window 0 3))",
+    "(unit 0 (window 1 5))",
+    "(unit 0 (window 1 4))",
+    "(unit 10000 (window 1 4))",
+    "(unit 0017 (window 1 5))",
+    "(unit 7 (window 01 5))",
+    "(unit 7 (window 1 4)) ",
+    "(unit 7 (window 1\t04))",
+    "(unit 7  (window 1 4))",
     "(unit (window 1 4))",
-    "(unit (window 4 3))",
-    "(unit (window 0 3))",
-    "(unit (window 1 5))",
-    "(unit (window 01 5))",
-    "(unit (window 1 4)) ",
-    "(unit (window 1\t04))",
+    "(unit (window 01 9))",
     "(rule (slots 1 4) (count 0 300))",
     "(rule (slots 2 1) (count 0 301))",
     "(rule (slots 1 4) (count 0 301))",
@@ -141,9 +149,14 @@ fn limits_of_the_text() {
     }
     for n in [299, 300, 301, 302] {
         for room in [0, 299, 300, 301, 1_000] {
-            fits(format!("(sheet 4)\n{}", "(unit (window 1 4))\n".repeat(n)), [room; 2], RULES);
-            fits(format!("(sheet 4)\n{}", "(unit (window 1 4))\n".repeat(n)), [room, 300], RULES);
-            fits(format!("(sheet 4)\n{}", "(unit (window 1 4))\n".repeat(n)), [300, room], RULES);
+            let numbers: Vec<u16> = (1..=n as u16).rev().collect();
+            let text = || String::from_utf8(Sheet::new(4, &vec![(1, 4); n], &[]).numbered(&numbers).text()).unwrap();
+            fits(text(), [room; 3], RULES);
+            for short in 0..3 {
+                let mut units = UNITS;
+                units[short] = room;
+                fits(text(), units, RULES);
+            }
         }
     }
     for k in [59, 60, 61] {
@@ -155,6 +168,66 @@ fn limits_of_the_text() {
             fits(format!("(sheet 4)\n{}", "(rule (slots 1 4) (count 0 1))\n".repeat(k)), UNITS, room);
         }
     }
+    tally.report();
+}
+
+/// Loader numbers at their limits and equal ones, on any line of few or many units, with notes between: 16 names that line, and comes
+/// before 9.
+#[test]
+fn loader_numbers_of_many_units() {
+    let mut tally = Tally::new("reading loader numbers of many units", seed(203));
+    for i in 0..effort(300) {
+        let mut r = Random::of_case(seed(203), i);
+        let n = *r.pick(&[2, 79, 128, 129, 299, 300, 301]);
+        let mut numbers: Vec<String> = loaders(&mut r, n).iter().map(u16::to_string).collect();
+        let at = if r.chance(50) { n - 1 } else { r.between(1, n - 1) };
+        let before = r.below(at);
+        let (number, expected) = match i % 6 {
+            0 | 1 => (numbers[at].clone(), 0),
+            2 => (numbers[before].clone(), 16),
+            3 => ("0".to_string(), 16),
+            4 => ("10000".to_string(), 4),
+            _ => ("0017".to_string(), 4),
+        };
+        numbers[at] = number;
+        let unit = |number: &String| format!("(unit {number} (window 1 4))\n");
+        let (front, back) = (numbers[..at].iter().map(unit).collect::<String>(), numbers[at..].iter().map(unit).collect::<String>());
+        let text = format!("(sheet 4)\n{front}(note)\n{back}");
+        let reply = read_into(text.as_bytes(), UNITS, RULES).map_or_else(|r| (r.number, r.line), |_| (0, 0));
+        let expected = match expected {
+            0 if n > 300 => (9, 303),
+            0 => (0, 0),
+            _ => (expected, at + 3),
+        };
+        assert_eq!(reply, expected, "seed {} case {i}", seed(203));
+        hold(&mut tally, text.as_bytes(), UNITS, RULES);
+    }
+    tally.report();
+    for number in [4, 9, 16] {
+        assert!(50 * tally.refused_by(number) > tally.all(), "{number} refuses too seldom");
+    }
+    assert!(10 * tally.count("read") > tally.all());
+}
+
+/// Every pair of lines that can have the same number: of few units all, of 300 each line with three earlier ones. The line named is the
+/// later one.
+#[test]
+fn a_number_comes_again_anywhere() {
+    let mut tally = Tally::new("reading a number that comes again anywhere", 0);
+    let numbers: Vec<u16> = (0..300).map(|i| i * 33 % 9_999 + 1).collect();
+    for n in [2, 3, 10, 40, 300] {
+        let earlier = |at: usize| if n < 300 { (0..at).collect::<Vec<_>>() } else { vec![0, at / 2, at - 1] };
+        for at in 1..n {
+            for before in earlier(at) {
+                let mut numbers = numbers[..n].to_vec();
+                numbers[at] = numbers[before];
+                let text = Sheet::new(1, &vec![(1, 1); n], &[]).numbered(&numbers).text();
+                assert_eq!(read_into(&text, UNITS, RULES).unwrap_err().line, at + 2);
+                hold(&mut tally, &text, UNITS, RULES);
+            }
+        }
+    }
+    assert_eq!(tally.refused_by(16), tally.all());
     tally.report();
 }
 

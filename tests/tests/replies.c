@@ -15,7 +15,7 @@
 struct block {
     uint8_t guard_before[64];
     uint8_t text[TUGROKT_MAX_BYTES + 1];
-    uint16_t first[TUGROKT_MAX_UNITS], last[TUGROKT_MAX_UNITS];
+    uint16_t loader[TUGROKT_MAX_UNITS], first[TUGROKT_MAX_UNITS], last[TUGROKT_MAX_UNITS];
     uint16_t from[TUGROKT_MAX_RULES], to[TUGROKT_MAX_RULES], low[TUGROKT_MAX_RULES], high[TUGROKT_MAX_RULES];
     int16_t table[TUGROKT_MAX_CELLS];
     uint16_t plan[TUGROKT_MAX_UNITS], earliest[TUGROKT_MAX_UNITS], latest[TUGROKT_MAX_UNITS];
@@ -59,25 +59,25 @@ int main(int argc, char **argv)
     text_length = fread(lent.text, 1, sizeof lent.text, stdin);
 
     before = lent;
-    read.reply = tugrokt_read(lent.text, text_length, lent.first, TUGROKT_MAX_UNITS, lent.last, TUGROKT_MAX_UNITS, lent.from,
-                              TUGROKT_MAX_RULES, lent.to, TUGROKT_MAX_RULES, lent.low, TUGROKT_MAX_RULES, lent.high,
-                              TUGROKT_MAX_RULES);
+    read.reply = tugrokt_read(lent.text, text_length, lent.loader, TUGROKT_MAX_UNITS, lent.first, TUGROKT_MAX_UNITS, lent.last,
+                              TUGROKT_MAX_UNITS, lent.from, TUGROKT_MAX_RULES, lent.to, TUGROKT_MAX_RULES, lent.low,
+                              TUGROKT_MAX_RULES, lent.high, TUGROKT_MAX_RULES);
     printf("reading %zu %zu %zu %zu %zu%s\n", read.reply.number, read.reply.line, read.reply.span, read.reply.units,
            read.reply.rules, left(read.reply.number));
 
     n = read.reply.units;
     r = read.reply.rules;
     before = lent;
-    planned.reply = tugrokt_plan(read.reply.span, lent.first, n, lent.last, n, lent.from, r, lent.to, r, lent.low, r, lent.high, r,
-                                 lent.table, TUGROKT_MAX_CELLS, lent.plan, units, lent.earliest, units, lent.latest, units,
-                                 lent.ring, TUGROKT_MAX_BOUNDARIES);
+    planned.reply = tugrokt_plan(read.reply.span, lent.loader, n, lent.first, n, lent.last, n, lent.from, r, lent.to, r, lent.low, r,
+                                 lent.high, r, lent.table, TUGROKT_MAX_CELLS, lent.plan, units, lent.earliest, units, lent.latest,
+                                 units, lent.ring, TUGROKT_MAX_BOUNDARIES);
     printf("planning %zu %zu %zu%s\n", planned.reply.number, planned.reply.line, planned.reply.length,
            left(planned.reply.number));
 
     before = lent;
-    printed.reply = tugrokt_print(read.reply.span, lent.first, n, lent.last, n, lent.from, r, lent.to, r, lent.low, r, lent.high,
-                                  r, lent.table, TUGROKT_MAX_CELLS, lent.plan, units, lent.earliest, units, lent.latest, units,
-                                  lent.ring, TUGROKT_MAX_BOUNDARIES, lent.page, page, place);
+    printed.reply = tugrokt_print(read.reply.span, lent.loader, n, lent.first, n, lent.last, n, lent.from, r, lent.to, r, lent.low, r,
+                                  lent.high, r, lent.table, TUGROKT_MAX_CELLS, lent.plan, units, lent.earliest, units,
+                                  lent.latest, units, lent.ring, TUGROKT_MAX_BOUNDARIES, lent.page, page, place);
     printf("printing %zu %zu %zu %zu%s\n", printed.reply.number, printed.reply.line, printed.reply.length, printed.reply.place,
            left(printed.reply.number));
 
