@@ -3,9 +3,9 @@
 use Prim.Native.Nat.{ℕ, _≤_, _<_, _*_}
 use mathlib.Core.Path.{_≡_, refl, sym, ap, ap₂, _∙_}
 use mathlib.Core.Bool.{Bool, true, false, _&&_, cond}
-use mathlib.Core.List.{List, [], _∷_, map}
+use mathlib.Core.List.{List, [], _∷_, map, map-map}
 use native.Mathlib.Omega.{arith}
-use lib.ListN.{length, getD}
+use lib.ListN.{length, getD, take, length-map}
 use lib.Seq.{length-sets}
 use lib.Dec.{leb}
 use borrow.Author.Tests.{le-leb, lt-leb, leb-true}
@@ -13,10 +13,12 @@ use Rattle.lists.specs.Lists.{onFront}
 use Rattle.questions.specs.Questions.{ask, Verdict, no, allYes, firstNo, andThen}
 use Rattle.questions.specs.FirstNoLaws.{firstNo-append}
 use Rattle.sheet.specs.Sizes.{maxUnits, maxRules, maxBytes}
+use Rattle.sheet.specs.Sheet.{Window, plain, loaders}
 use Rattle.sheet.specs.declared.Sheet.{Sheet}
 use Rattle.lists.specs.Members.{and-left, and-right}
 use Rattle.read_ask.specs.Reading.{sheetIn, ListRooms, listsFit, passQuestions, questions, Reply, refused, read, concluded, reading}
 use Rattle.read_ask.specs.Steps.{windowNumbers, ruleNumbers, unitStream, ruleStream, passReply, KeptNumbers}
+use Rattle.read_ask.specs.SpanLaws.{sets-front}
 use Rattle.read.specs.Rooms.{sizesOf, leaves, roomsAfter}
 use Rattle.read.specs.Spread.{strided, filled, Filling}
 use Rattle.read.proofs.SpreadLaws.{stream-column, rooms-same}
@@ -82,17 +84,22 @@ pub rooms-kept : (t : List ℕ) (m : ListRooms (List ℕ)) (q n : ℕ) → refus
 rooms-kept t m q n e = ap (λ (a : Reply). leaves a (sheetIn t) m) e
 
 -- rooms that question 12 finds long enough, and arrays that hold what was kept
-pub fills : (s : Sheet) (t units units′ rules rules′ : List ℕ) (sizes : ListRooms ℕ) → 2 * maxUnits ≤ length units → 4 * maxRules ≤ length rules
-    → KeptNumbers s t units units′ rules rules′ → listsFit (s .units) (s .rules) sizes ≡ true → Filling s (length units′) (length rules′) sizes
-fills s t units units′ rules rules′ sizes u r k f =
+pub fills : (s : Sheet) (t numbers numbers′ units units′ rules rules′ : List ℕ) (sizes : ListRooms ℕ) → maxUnits ≤ length numbers
+    → 2 * maxUnits ≤ length units → 4 * maxRules ≤ length rules → KeptNumbers s t numbers numbers′ units units′ rules rules′
+    → listsFit (s .units) (s .rules) sizes ≡ true → Filling s (length numbers′) (length units′) (length rules′) sizes
+fills s t numbers numbers′ units units′ rules rules′ sizes n u r k f =
+    let c = leb (s .units) (sizes .loader) in
     let a = leb (s .units) (sizes .first) && leb (s .units) (sizes .last) in
     let b = leb (s .rules) (sizes .from) && leb (s .rules) (sizes .to) in
-    let g = and-left a _ f in
-    let h = and-left b _ (and-right a _ f) in
-    let i = and-right b _ (and-right a _ f) in
+    let l = and-right c _ f in
+    let g = and-left a _ l in
+    let h = and-left b _ (and-right a _ l) in
+    let i = and-right b _ (and-right a _ l) in
     record {
+      in-numbers = omega (arith, k .few-units, ap length (k .in-numbers), length-sets numbers 0 (loaders (sheetIn t)));
       in-units = omega (arith, k .few-units, ap length (k .in-units), length-sets units 0 (unitStream (sheetIn t .units)));
       in-rules = omega (arith, k .few-rules, ap length (k .in-rules), length-sets rules 0 (ruleStream (sheetIn t .rules)));
+      in-loader = leb-true (s .units) (sizes .loader) (and-left c _ f);
       in-first = leb-true (s .units) (sizes .first) (and-left _ _ g);
       in-last = leb-true (s .units) (sizes .last) (and-right (leb (s .units) (sizes .first)) _ g);
       in-from = leb-true (s .rules) (sizes .from) (and-left _ _ h);
@@ -101,26 +108,38 @@ fills s t units units′ rules rules′ sizes u r k f =
       in-high = leb-true (s .rules) (sizes .high) (and-right (leb (s .rules) (sizes .low)) _ i);
     }
 
+-- a window's two ends
+abbrev ends : Window → List ℕ
+ends w = (w .first) ∷ (w .last) ∷ []
+
 -- what was filled in is what the sheet's lists are
-pub rooms-filled : (s : Sheet) (t units units′ rules rules′ : List ℕ) (m : ListRooms (List ℕ)) → 2 * maxUnits ≤ length units → 4 * maxRules ≤ length rules
+pub rooms-filled : (s : Sheet) (t numbers numbers′ units units′ rules rules′ : List ℕ) (m : ListRooms (List ℕ)) → maxUnits ≤ length numbers
+    → 2 * maxUnits ≤ length units → 4 * maxRules ≤ length rules
     → length t ≤ maxBytes → read (s .span) (s .units) (s .rules) ≡ passReply t → listsFit (s .units) (s .rules) (sizesOf m) ≡ true
-    → KeptNumbers s t units units′ rules rules′ → filled s units′ rules′ m ≡ roomsAfter t m
+    → KeptNumbers s t numbers numbers′ units units′ rules rules′ → filled s numbers′ units′ rules′ m ≡ roomsAfter t m
 unfolding unitStream ruleStream
-rooms-filled s t units units′ rules rules′ m u r h e f k =
-    rooms-same (unit-room 0 (omega arith) (m .first)) (unit-room 1 (omega arith) (m .last))
+rooms-filled s t numbers numbers′ units units′ rules rules′ m n u r h e f k =
+    rooms-same loader-room (unit-room 0 (omega arith) (m .first)) (unit-room 1 (omega arith) (m .last))
     (rule-room 0 (omega arith) (m .from)) (rule-room 1 (omega arith) (m .to)) (rule-room 2 (omega arith) (m .low)) (rule-room 3 (omega arith) (m .high))
     ∙ ap (λ (a : Reply). leaves a (sheetIn t) m) (answer-read t (sizesOf m) h (s .span) (s .units) (s .rules) e f)
   where
     g : PassYes t (sizesOf m) h (s .span) (s .units) (s .rules) e
     g = passed t (sizesOf m) h (s .span) (s .units) (s .rules) e
 
+    loader-room : onFront (take (s .units) numbers′) (m .loader) ≡ onFront (loaders (sheetIn t)) (m .loader)
+    loader-room =
+        ap (λ (xs : List ℕ). onFront xs (m .loader))
+        (ap (take (s .units)) (k .in-numbers)
+        ∙ sets-front numbers (loaders (sheetIn t)) (s .units) (length-map (sheetIn t .units) (λ u. u .loader) ∙ sym (g .units)) (omega (arith, k .few-units)))
+
     unit-room : (c : ℕ) → c < 2 → (room : List ℕ) → onFront (strided (s .units) 2 c units′) room
-        ≡ onFront (map (λ w. getD (windowNumbers w) c 0) (sheetIn t .units)) room
+        ≡ onFront (map (λ w. getD (ends w) c 0) (plain (sheetIn t) .units)) room
     unit-room c l room =
-        let ws = sheetIn t .units in
+        let us = sheetIn t .units in
         ap (λ (xs : List ℕ). onFront xs room)
         (ap₂ (λ (n : ℕ) (xs : List ℕ). strided n 2 c xs) (g .units) (k .in-units)
-        ∙ stream-column windowNumbers 2 c l (λ w. refl) units ws (omega (arith, k .few-units, g .units)))
+        ∙ stream-column windowNumbers 2 c l (λ w. refl) units us (omega (arith, k .few-units, g .units))
+        ∙ sym (map-map (λ w. getD (ends w) c 0) (λ u. u .window) us))
 
     rule-room : (c : ℕ) → c < 4 → (room : List ℕ) → onFront (strided (s .rules) 4 c rules′) room
         ≡ onFront (map (λ w. getD (ruleNumbers w) c 0) (sheetIn t .rules)) room

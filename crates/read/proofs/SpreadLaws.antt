@@ -66,8 +66,9 @@ module _ (source : List ℕ) (n k start : ℕ) (room₀ room : List ℕ) (from i
       sym (ap (λ (m : ℕ). sets room i (strided m k from source)) e) ∙ s .gives ∙ sets-eq (strided n k start source) room₀ 0 (omega arith)
       ∙ ap (λ (j : ℕ). strided n k start source ++ drop j room₀) z
 
-pub rooms-same : {a a′ b b′ c c′ d d′ e e′ f f′ : List ℕ} → a ≡ a′ → b ≡ b′ → c ≡ c′ → d ≡ d′ → e ≡ e′ → f ≡ f′ → rooms a b c d e f ≡ rooms a′ b′ c′ d′ e′ f′
-rooms-same p q r s t u = rw (p, q, r, s, t, u) refl
+pub rooms-same : {a a′ b b′ c c′ d d′ e e′ f f′ g g′ : List ℕ} → a ≡ a′ → b ≡ b′ → c ≡ c′ → d ≡ d′ → e ≡ e′ → f ≡ f′ → g ≡ g′
+    → rooms a b c d e f g ≡ rooms a′ b′ c′ d′ e′ f′ g′
+rooms-same p q r s t u v = rw (p, q, r, s, t, u, v) refl
 
 -- ---- streams
 

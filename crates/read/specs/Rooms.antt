@@ -3,17 +3,19 @@ use Prim.Native.Nat.{ℕ}
 use mathlib.Core.List.{List, map}
 use lib.ListN.{length}
 use Rattle.lists.specs.Lists.{onFront}
-use Rattle.sheet.specs.Sheet.{Sheet}
+use Rattle.sheet.specs.Sheet.{WrittenSheet, plain, loaders}
 use Rattle.read_ask.specs.Reading.{sheetIn, ListRooms, rooms, Reply, refused, read, reading}
 
 abbrev pub sizesOf : ListRooms (List ℕ) → ListRooms ℕ
-sizesOf m = rooms (length (m .first)) (length (m .last)) (length (m .from)) (length (m .to)) (length (m .low)) (length (m .high))
+sizesOf m =
+    rooms (length (m .loader)) (length (m .first)) (length (m .last)) (length (m .from)) (length (m .to)) (length (m .low)) (length (m .high))
 
 -- a refusal changes nothing
-abbrev pub leaves : Reply → Sheet → ListRooms (List ℕ) → ListRooms (List ℕ)
+abbrev pub leaves : Reply → WrittenSheet → ListRooms (List ℕ) → ListRooms (List ℕ)
 leaves (refused q n) s m = m
 leaves (read p u r) s m =
-    rooms (onFront (map (λ w. w .first) (s .units)) (m .first)) (onFront (map (λ w. w .last) (s .units)) (m .last))
+    rooms (onFront (loaders s) (m .loader))
+    (onFront (map (λ w. w .first) (plain s .units)) (m .first)) (onFront (map (λ w. w .last) (plain s .units)) (m .last))
     (onFront (map (λ w. w .from) (s .rules)) (m .from)) (onFront (map (λ w. w .to) (s .rules)) (m .to))
     (onFront (map (λ w. w .low) (s .rules)) (m .low)) (onFront (map (λ w. w .high) (s .rules)) (m .high))
 

@@ -11,7 +11,7 @@ use questions::Refusal;
 use read_ask::Reading;
 use sheet::Sheet;
 
-// Two numbers a unit and four a rule are kept on the way.
+// Beside its loader number, two numbers a unit and four a rule are kept on the way.
 const UNIT_NUMBERS: usize = 2 * Sheet::MAX_UNITS;
 
 const RULE_NUMBERS: usize = 4 * Sheet::MAX_RULES;
@@ -42,6 +42,7 @@ fn both_hold(n: usize, a: usize, b: usize) -> bool
 // Question 12.
 fn lists_fit(
     s: Sheet,
+    loader: usize,
     first: usize,
     last: usize,
     from: usize,
@@ -49,8 +50,11 @@ fn lists_fit(
     low: usize,
     high: usize,
 ) -> bool
-    ensures { λ r. ⌜ r ≡ listsFit (s .units) (s .rules) (rooms first last from to low high) ⌝ }
+    ensures { λ r. ⌜ r ≡ listsFit (s .units) (s .rules) (rooms loader first last from to low high) ⌝ }
 {
+    if loader < s.units {
+        return false;
+    }
     if !both_hold(s.units, first, last) {
         return false;
     }
@@ -60,11 +64,13 @@ fn lists_fit(
     both_hold(s.rules, low, high)
 }
 
-// The numbers of the two arrays into the rooms, which are long enough.
+// The numbers of the three arrays into the rooms, which are long enough.
 fn fill(
     s: Sheet,
+    numbers: &[u16],
     units: &[u16],
     rules: &[u16],
+    loader: &mut [u16],
     first: &mut [u16],
     last: &mut [u16],
     from: &mut [u16],
@@ -72,14 +78,18 @@ fn fill(
     low: &mut [u16],
     high: &mut [u16],
 )
-    requires { ⌜ Filling s (length (now units)) (length (now rules))
-        (rooms (length (now first)) (length (now last)) (length (now from)) (length (now to)) (length (now low)) (length (now high))) ⌝ }
-    ensures { λ _. ⌜ rooms (now (first .exit)) (now (last .exit)) (now (from .exit)) (now (to .exit)) (now (low .exit)) (now (high .exit))
-        ≡ filled s (now (units .entry)) (now (rules .entry))
-        (rooms (now (first .entry)) (now (last .entry)) (now (from .entry)) (now (to .entry)) (now (low .entry)) (now (high .entry))) ⌝ }
+    requires { ⌜ Filling s (length (now numbers)) (length (now units)) (length (now rules))
+        (rooms (length (now loader)) (length (now first)) (length (now last)) (length (now from)) (length (now to)) (length (now low))
+        (length (now high))) ⌝ }
+    ensures { λ _. ⌜ rooms (now (loader .exit)) (now (first .exit)) (now (last .exit)) (now (from .exit)) (now (to .exit)) (now (low .exit))
+        (now (high .exit))
+        ≡ filled s (now (numbers .entry)) (now (units .entry)) (now (rules .entry))
+        (rooms (now (loader .entry)) (now (first .entry)) (now (last .entry)) (now (from .entry)) (now (to .entry)) (now (low .entry))
+        (now (high .entry))) ⌝ }
 {
     let n = s.units;
     let r = s.rules;
+    lists::copy_list(&numbers[0..n], loader);
     spread(units, n, 2, 0, first);
     spread(units, n, 2, 1, last);
     spread(rules, r, 4, 0, from);
@@ -91,6 +101,7 @@ fn fill(
 // The open entry. A refusal leaves every room as it was; else the units and rules stand at the front of theirs.
 pub fn read(
     text: &[u8],
+    loader: &mut [u16],
     first: &mut [u16],
     last: &mut [u16],
     from: &mut [u16],
@@ -100,22 +111,27 @@ pub fn read(
 ) -> Reading
     ensures { λ r. ⌜ replyOf r
         ≡ reading (now (text .entry))
-        (sizesOf (rooms (now (first .entry)) (now (last .entry)) (now (from .entry)) (now (to .entry)) (now (low .entry)) (now (high .entry)))) ⌝ }
-    ensures { λ _. ⌜ rooms (now (first .exit)) (now (last .exit)) (now (from .exit)) (now (to .exit)) (now (low .exit)) (now (high .exit))
+        (sizesOf (rooms (now (loader .entry)) (now (first .entry)) (now (last .entry)) (now (from .entry)) (now (to .entry)) (now (low .entry))
+        (now (high .entry)))) ⌝ }
+    ensures { λ _. ⌜ rooms (now (loader .exit)) (now (first .exit)) (now (last .exit)) (now (from .exit)) (now (to .exit)) (now (low .exit))
+        (now (high .exit))
         ≡ roomsAfter (now (text .entry))
-        (rooms (now (first .entry)) (now (last .entry)) (now (from .entry)) (now (to .entry)) (now (low .entry)) (now (high .entry))) ⌝ }
+        (rooms (now (loader .entry)) (now (first .entry)) (now (last .entry)) (now (from .entry)) (now (to .entry)) (now (low .entry))
+        (now (high .entry))) ⌝ }
 {
     if Sheet::MAX_BYTES < text.len() {
         return Reading::Refused(Refusal { number: 1, line: 0 });
     }
+    let mut numbers = [0u16; Sheet::MAX_UNITS];
     let mut units = [0u16; UNIT_NUMBERS];
     let mut rules = [0u16; RULE_NUMBERS];
-    let asked = read_ask::ask_text(text, &mut units, &mut rules);
+    let asked = read_ask::ask_text(text, &mut numbers, &mut units, &mut rules);
     match asked {
         Reading::Refused(refusal) => Reading::Refused(refusal),
         Reading::Sheet(s) => {
             if !lists_fit(
                 s,
+                loader.len(),
                 first.len(),
                 last.len(),
                 from.len(),
@@ -128,7 +144,19 @@ pub fn read(
                     line: 0,
                 });
             }
-            fill(s, &units, &rules, first, last, from, to, low, high);
+            fill(
+                s,
+                &numbers,
+                &units,
+                &rules,
+                loader,
+                first,
+                last,
+                from,
+                to,
+                low,
+                high,
+            );
             Reading::Sheet(s)
         }
     }

@@ -9,7 +9,7 @@ use native.Mathlib.Omega.{arith}
 use native.Mathlib.Numerals.{add-one}
 use native.Mathlib.Nat.{zero-add, add-zero}
 use lib.ListN.{length, take, drop, set, length-append, length-map}
-use lib.Seq.{sets, length-sets, sets-eq, take-at}
+use lib.Seq.{sets, length-sets}
 use lib.Dec.{eqb, leb, ltb}
 use borrow.Author.Tests.{eq-eqb, ne-eqb, le-leb, leb-true, ltb-true}
 use Rattle.lists.specs.Lists.{every, joined}
@@ -31,7 +31,7 @@ use Rattle.read_ask.specs.Reading.{contents, isSheet, hasSheet, spanElse
 use Rattle.read_ask.specs.Reading.{inOrder, spanAllowed, inSpan, loaderFits, countFits, questionsOf, lineQuestions, passQuestions, refused, read}
 use Rattle.read_ask.specs.Reading.{concluded}
 use Rattle.read_ask.specs.Steps.{counted, stepOf, windowNumbers, ruleNumbers, unitStream, ruleStream, loaderPart, unitPart, rulePart, passReply}
-use Rattle.read_ask.specs.SpanLaws.{joined-append, stream-length, loadersIn-more, hasSheet-more, hasSheet-same, spanIn-same, spanIn-first}
+use Rattle.read_ask.specs.SpanLaws.{joined-append, stream-length, sets-front, loadersIn-more, hasSheet-more, hasSheet-same, spanIn-same, spanIn-first}
 use Rattle.read_ask.specs.declared.Step.{Step}
 use Rattle.read_ask.specs.declared.Step.the-variants.{No, On}
 
@@ -315,9 +315,9 @@ module _ (t : List ℕ) (at n : ℕ) (s : Sheet) (numbers₀ numbers units₀ un
   -- the numbers of the units so far are the loader numbers of the lines before
   numbers-are : maxUnits ≤ length numbers₀ → take (s .units) numbers ≡ loadersIn (i .before)
   numbers-are h =
-      let ks = loadersIn (i .before) in
-      let l : length ks ≡ s .units = length-map (unitsIn (i .before)) (λ u. u .loader) ∙ sym (i .counts .units) in
-      ap (take (s .units)) (i .in-numbers ∙ sets-eq ks numbers₀ 0 (omega (arith, i .counts .few-units))) ∙ take-at ks _ (s .units) l
+      ap (take (s .units)) (i .in-numbers)
+      ∙ sets-front numbers₀ (loadersIn (i .before)) (s .units) (length-map (unitsIn (i .before)) (λ u. u .loader) ∙ sym (i .counts .units))
+      (omega (arith, i .counts .few-units))
 
   module _ (room : maxUnits ≤ length numbers₀) (next : ℕ) (h : at < length t) (e : next ≡ lineEnd t at + 1) (line : Line)
       (k : line ≡ lineOf (firstLine (drop at t)) (hasFeed (drop at t))) where

@@ -1,12 +1,13 @@
--- One line more: what it makes of the span and adds to the units and rules; and the length of a stream of blocks.
+-- One line more: what it makes of the span and adds to the units and rules; and the length of a stream of blocks, and numbers at the front of an array.
 -- Key idea: each is an induction on the lines before. The first sheet form gives the span, and every other line leaves it.
-use Prim.Native.Nat.{ℕ, _*_}
+use Prim.Native.Nat.{ℕ, _*_, _≤_}
 use mathlib.Core.Path.{_≡_, refl, sym, ap, _∙_}
 use mathlib.Core.Bool.{Bool, false, _||_, or-false, or-assoc}
 use mathlib.Core.List.{List, [], _∷_, _++_, map, map-append, append-nil, append-assoc}
 use native.Mathlib.Omega.{arith}
 use native.Mathlib.Nat.{mul-zero, mul-suc}
-use lib.ListN.{length, length-append}
+use lib.ListN.{length, take, length-append}
+use lib.Seq.{sets, sets-eq, take-at}
 use Rattle.lists.specs.Lists.{joined}
 use Rattle.forms.specs.Form.{value}
 use Rattle.lists.specs.Members.{false-not-true}
@@ -23,6 +24,9 @@ pub stream-length : {A : Type 0} (block : A → List ℕ) (k : ℕ) → ((a : A)
 stream-length block k h [] = sym (mul-zero k)
 stream-length block k h (x ∷ xs) =
     omega (arith, length-append (block x) (joined (map block xs)), h x, stream-length block k h xs, mul-suc k (length xs))
+
+pub sets-front : (array xs : List ℕ) (n : ℕ) → length xs ≡ n → n ≤ length array → take n (sets array 0 xs) ≡ xs
+sets-front array xs n e h = ap (take n) (sets-eq xs array 0 (omega arith)) ∙ take-at xs _ n e
 
 module _ (xs : List Content) (x : Content) where
   pub units-more : unitsIn (xs ++ (x ∷ [])) ≡ unitsIn xs ++ unitOf x
