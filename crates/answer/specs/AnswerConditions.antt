@@ -37,7 +37,7 @@ bytes-short : (input bytes : List ℕ) → AnswerTo input bytes → length bytes
 unfolding planBytes ringBytes
 bytes-short input bytes = by-reading (verdict input) refl
   where
-    abbrev w : WrittenSheet
+    w : WrittenSheet
     w = sheetIn input
 
     by-pass : (p : Passed) → verdict input ≡ allYes → ByPass p (loaders w) (plain w) bytes → length bytes ≤ maxPage

@@ -75,6 +75,7 @@ module _ (ks : List ℕ) (s : Sheet) (D : Weights) (S : Solved s D) where
       (List·Memᴰ·cases-cons (subst (In (unit k t e f)) lines-are m))
 
   module _ (fit : T (loadersFit ks)) (long : length ks ≡ n) where
+    -- and of no other: no two units have the same loader number
     unit-of : (k t e f : ℕ) → In (unit k t e f) ls → UnitOf ks s (printedPlan s) k t e f
     unit-of k t e f m =
         let p = unit-place k t e f m in
@@ -91,18 +92,18 @@ module _ (ks : List ℕ) (s : Sheet) (D : Weights) (S : Solved s D) where
           last = cc;
         }
 
-  pub plan-page : T (loadersFit ks) → length ks ≡ n → PlanPage ks s (printedPlan s) ls
-  unfolding top
-  plan-page fit long = record {
-    lines = lines-are;
-    units = unit-of fit long;
-    legal = printed .legal;
-    seated = printed .order;
-    soonest = λ y l t h ht. omega (arith, greatestIn-bound s y l 1 t, printed .early t h ht);
-    ranges = λ t h ht k. let e : suc (t - 1) ≡ t = omega arith in
-        subst (λ f. ((y : List ℕ) × T (lawful s y) × (countIn f t y ≡ k)) ↔ ((leastIn s f t ≤ k) × (k ≤ greatestIn s f t))) e
-        (range s D S (t - 1) t (omega arith) ht k);
-  }
+    pub plan-page : PlanPage ks s (printedPlan s) ls
+    unfolding top
+    plan-page = record {
+      lines = lines-are;
+      units = unit-of;
+      legal = printed .legal;
+      seated = printed .order;
+      soonest = λ y l t h ht. omega (arith, greatestIn-bound s y l 1 t, printed .early t h ht);
+      ranges = λ t h ht k. let e : suc (t - 1) ≡ t = omega arith in
+          subst (λ f. ((y : List ℕ) × T (lawful s y) × (countIn f t y ≡ k)) ↔ ((leastIn s f t ≤ k) × (k ≤ greatestIn s f t))) e
+          (range s D S (t - 1) t (omega arith) ht k);
+    }
 
 pub none-page : (s : Sheet) (ring : List ℕ) → T (isRing s ring) → NonePage s ring (readLines (ringBytes s ring))
 unfolding ringBytes

@@ -1,10 +1,9 @@
 ghost use mathlib.Core.Path.{_≡_};
 ghost use mathlib.Core.List.{[], _++_};
 ghost use Prim.Native.Nat.{_+_, _*_, _≤_};
-ghost use lib.Dec.{leb};
+ghost use lib.Dec.{T, leb};
 ghost use lib.ListN.{length, drop};
 ghost use Rattle.network.specs.Table.{entry, cleared};
-ghost use lib.Dec.{T};
 ghost use Rattle.sheet.specs.Questions.{sheetOf, loadersFit};
 ghost use Rattle.sheet.specs.Lists.{listed, written, given};
 ghost use Rattle.plan_ask.specs.Questions.{lent, fitsRooms};

@@ -27,7 +27,7 @@ use Rattle.read_ask.specs.declared.Reading.the-variants as Reading
 abbrev pub counted : ℕ → ℕ → ℕ → Sheet
 counted p u r = record { span = p; units = u; rules = r }
 
--- questions 5 to 10 and 16, in their order, after units with these loader numbers
+-- questions 5 to 10 and 16, in their order, after units with these loader numbers, which only a unit line is asked about
 unfoldable pub stepOf : List ℕ → Sheet → Line → Step
 stepOf ks s (Line.Refused q) = No q
 stepOf ks s Line.Note = On s

@@ -14,7 +14,7 @@ use read_form::Number;
 use read_form::tables;
 use read_notes::End;
 
-// What one line says, or the question it fails.
+// What one line says, or the question it fails. A unit has its loader number and the first and last slot of its window.
 pub enum Line {
     Refused(usize),
     Note,

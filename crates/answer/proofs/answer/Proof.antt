@@ -22,13 +22,13 @@ sizes = refl
 
 -- from what reading answered back to the call, and to the start
 abbrev refused-call : tie.After-reading → tie.After-read
-refused-call c = c .before .before .before .before .before .before .before .before
+refused-call c = c .before .before .before .before .before .before .before .before .before
 
 abbrev sheet-call : tie.After-reading2 → tie.After-read
-sheet-call c = c .before .before .before .before .before .before .before .before
+sheet-call c = c .before .before .before .before .before .before .before .before .before
 
 abbrev input : tie.After-read → List ℕ
-input c = now (c .before .before .before .before .before .before .before .before .args .text)
+input c = now (c .before .before .before .before .before .before .before .before .before .args .text)
 
 refused-told : (c : tie.After-reading)
     → refused (c .reading .given .0 .0 .number) (c .reading .given .0 .0 .line) ≡ reading (input (refused-call c)) (sizesOf empty)
@@ -45,7 +45,7 @@ refuse-requires c κs =
 
 answer-sheet-requires : tie.Need-answer-sheet-requires
 answer-sheet-requires c κs =
-    let d = c .before .before .before .before .before .before .before .before in
+    let d = c .before .before .before .before .before .before .before .before .before in
     read-held (input (sheet-call d)) empty sizes _ (read-told d) _ (sheet-call d .read .ensures .1)
 
 returns : tie.Need-returns
@@ -55,10 +55,10 @@ returns c =
 
 returns-2 : tie.Need-returns-2
 returns-2 c =
-    let d = c .before .before .before .before .before .before .before .before .before in
+    let d = c .before .before .before .before .before .before .before .before .before .before in
     read-answered (input (sheet-call d)) empty sizes _ (read-told d) _ (sheet-call d .read .ensures .1) _ _ _ (c .answer-sheet .ensures)
 
 pub answer-spec : {M : Type 1} → statement M
-answer-spec = tie.close (tie.spec (λ c. search needs) (λ c. search needs) (λ c. search needs) (λ c. search needs) (λ c. search needs)
-    (λ c. search needs) (λ c κs. search needs) (λ c. search needs) refuse-requires (λ c. search needs) (λ c. search needs) (λ c. search needs)
+answer-spec = tie.close (tie.spec (λ c. search needs) (λ c. search needs) (λ c. search needs) (λ c. search needs) (λ c. search needs) (λ c. search needs)
+    (λ c. search needs) (λ c κs. search needs) (λ c. search needs) refuse-requires (λ c. search needs) (λ c. search needs) (λ c. search needs) (λ c. search needs)
     (λ c. search needs) (λ c. search needs) (λ c. search needs) (λ c. search needs) answer-sheet-requires returns returns-2)

@@ -24,7 +24,7 @@ abbrev start : tie.After-print-arg → tie.Start
 start c = c .before .before .before .before .before .before .before .before
 
 abbrev called : tie.After-print → tie.Start
-called c = start (c .before .before .before .before .before .before .before .before .before .before .before .before)
+called c = start (c .before .before .before .before .before .before .before .before .before .before .before .before .before)
 
 -- what the call of print comes to, by its reply
 module _ (c : tie.After-print) where
@@ -35,7 +35,7 @@ module _ (c : tie.After-print) where
   front = fronts (begun .args .s) (lists begun)
 
   abbrev left : List ℕ
-  left = c .print .last .1 .1 .1 .1 .1 .1 .1 .1 .1 .1 .1 .1 .0
+  left = c .print .last .1 .1 .1 .1 .1 .1 .1 .1 .1 .1 .1 .1 .1 .0
 
   abbrev said : says.Reply
   said = says.replyOf (c .print .result)
@@ -43,17 +43,17 @@ module _ (c : tie.After-print) where
   not-refused : (q n : ℕ) → said ≡ says.refused q n → ⊥
   not-refused =
       print-refused front (begun .pre .passes) (now (begun .args .page))
-      (omega (arith, c .before .print-arg7 .given .0 .1)) said _ left (c .print .ensures)
+      (omega (arith, c .before .print-arg8 .given .0 .1)) said _ left (c .print .ensures)
 
   plan-is : (next : ℕ) → said ≡ says.plan next → Answered (AnswerToSheet (front .loader) (givenBy front)) (now (begun .args .page)) left next
   plan-is =
       print-plan front (begun .pre .passes) (now (begun .args .page))
-      (omega (arith, c .before .print-arg7 .given .0 .1)) said _ left (c .print .ensures)
+      (omega (arith, c .before .print-arg8 .given .0 .1)) said _ left (c .print .ensures)
 
   none-is : (k next : ℕ) → said ≡ says.none k next → Answered (AnswerToSheet (front .loader) (givenBy front)) (now (begun .args .page)) left next
   none-is =
       print-none front (begun .pre .passes) (now (begun .args .page))
-      (omega (arith, c .before .print-arg7 .given .0 .1)) said _ left (c .print .ensures)
+      (omega (arith, c .before .print-arg8 .given .0 .1)) said _ left (c .print .ensures)
 
 slice-aggregate-print : tie.Need-slice-aggregate-print
 slice-aggregate-print c = sym (length-take-le _ _ (start c .pre .in-loader))

@@ -11,11 +11,8 @@ use Rattle.read.proofs.fill.Statement.{statement}
 use Rattle.read.proofs.fill.Tie as tie
 
 -- back from the last call, and from each call to the one before it
-abbrev start : tie.After-copy-list → tie.Start
-start c = c .before .before .before .before .before .before .before .before .before .before .before .before .before
-
-abbrev call-0 : tie.After-spread-arg → tie.After-copy-list
-call-0 c = c .before .before .before
+abbrev start : tie.After-spread-arg → tie.Start
+start c = c .before .before .before .before .before .before .before .before .before .before .before .before .before .before .before .before
 
 abbrev call-1 : tie.After-spread-arg2 → tie.After-spread-arg
 call-1 c = c .before .before .before .before
@@ -41,16 +38,16 @@ returns c =
     let s₂ = s₃ .before .before .before .before in
     let s₁ = s₂ .before .before .before .before in
     let s₀ = s₁ .before .before .before .before in
-    let a = start s₀ .args in
+    let a = start (s₁ .before) .args in
     let loaders = s₀ .copy-list .ensures ∙ ap (λ (k : ℕ). onFront (take k (a .numbers .now)) (a .loader .now)) (sub-zero (a .s .units)) in
     rooms-same loaders (s₁ .spread .ensures) (s₂ .spread2 .ensures) (s₃ .spread3 .ensures) (s₄ .spread4 .ensures) (s₅ .spread5 .ensures) (s₆ .spread6 .ensures)
 
 pub fill-spec : {M : Type 1} → statement M
 fill-spec = tie.close (tie.spec (λ c. search needs) (λ c. search needs) (λ c. search needs) (λ c κs. search needs)
-    (λ c κs. let p = start (call-0 c) .pre in (reaches _ 2 0 _ (omega (arith, p .in-units)), omega arith, p .in-first))
-    (λ c κs. let p = start (call-0 (call-1 c)) .pre in (reaches _ 2 1 _ (omega (arith, p .in-units)), omega arith, p .in-last))
-    (λ c κs. let p = start (call-0 (call-1 (call-2 c))) .pre in (reaches _ 4 0 _ (omega (arith, p .in-rules)), omega arith, p .in-from))
-    (λ c κs. let p = start (call-0 (call-1 (call-2 (call-3 c)))) .pre in (reaches _ 4 1 _ (omega (arith, p .in-rules)), omega arith, p .in-to))
-    (λ c κs. let p = start (call-0 (call-1 (call-2 (call-3 (call-4 c))))) .pre in (reaches _ 4 2 _ (omega (arith, p .in-rules)), omega arith, p .in-low))
-    (λ c κs. let p = start (call-0 (call-1 (call-2 (call-3 (call-4 (call-5 c)))))) .pre in (reaches _ 4 3 _ (omega (arith, p .in-rules)), omega arith, p .in-high))
+    (λ c κs. let p = start c .pre in (reaches _ 2 0 _ (omega (arith, p .in-units)), omega arith, p .in-first))
+    (λ c κs. let p = start (call-1 c) .pre in (reaches _ 2 1 _ (omega (arith, p .in-units)), omega arith, p .in-last))
+    (λ c κs. let p = start (call-1 (call-2 c)) .pre in (reaches _ 4 0 _ (omega (arith, p .in-rules)), omega arith, p .in-from))
+    (λ c κs. let p = start (call-1 (call-2 (call-3 c))) .pre in (reaches _ 4 1 _ (omega (arith, p .in-rules)), omega arith, p .in-to))
+    (λ c κs. let p = start (call-1 (call-2 (call-3 (call-4 c)))) .pre in (reaches _ 4 2 _ (omega (arith, p .in-rules)), omega arith, p .in-low))
+    (λ c κs. let p = start (call-1 (call-2 (call-3 (call-4 (call-5 c))))) .pre in (reaches _ 4 3 _ (omega (arith, p .in-rules)), omega arith, p .in-high))
     (λ c. search needs) (λ c. search needs) (λ c. search needs) (λ c. search needs) (λ c. search needs) (λ c. search needs) (λ c. search needs) returns)

@@ -51,7 +51,8 @@ kept c =
 
 fitting : (c : tie.Else2) → let a = start (told-short (fits-told c)) .args in
     let s = fits-told c .before .asked2 .given .0 .0 in
-    listsFit (s .units) (s .rules) (sizesOf (rooms (a .loader .now) (a .first .now) (a .last .now) (a .from .now) (a .to .now) (a .low .now) (a .high .now))) ≡ true
+    let m = rooms (a .loader .now) (a .first .now) (a .last .now) (a .from .now) (a .to .now) (a .low .now) (a .high .now) in
+    listsFit (s .units) (s .rules) (sizesOf m) ≡ true
 fitting c = sym (c .before .lists-fit .ensures) ∙ not-false _ (c .if2 .left)
 
 returns : tie.Need-returns

@@ -1,6 +1,6 @@
 -- What the line is decides which step is made; a line that adds no numbers leaves the arrays, and one that is no unit the chains.
 use Prim.Native.Nat.{_*_}
-use mathlib.Core.Path.{refl, sym, _∙_}
+use mathlib.Core.Path.{refl}
 use lib.ListN.{take}
 use Rattle.read_ask.specs.Steps.{stepOf}
 use Rattle.read_ask.proofs.StepLaws.{kept-none, line-stepped, sheet-stays, rule-stays}

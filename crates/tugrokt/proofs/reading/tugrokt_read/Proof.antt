@@ -7,9 +7,9 @@ use Rattle.tugrokt.proofs.reading.tugrokt_read.Tie as tie
 
 returns : tie.Need-returns
 returns c =
-    let called = c .before .before .before .before .before .before .before .before .before .before .before .before .before .read in
+    let called = c .before .before .before .before .before .before .before .before .before .before .before .before .before .before .before .read in
     (c .numbers-of .ensures ∙ ap readingOf (called .ensures .0), called .ensures .1)
 
 pub tugrokt-read-spec : {M : Type 1} → statement M
-tugrokt-read-spec = tie.close (tie.spec (λ c κs. search needs) (λ c κs. search needs) (λ c. search needs) (λ c. search needs) (λ c. search needs)
+tugrokt-read-spec = tie.close (tie.spec (λ c κs. search needs) (λ c κs. search needs) (λ c. search needs) (λ c. search needs) (λ c. search needs) (λ c. search needs)
     (λ c. search needs) (λ c. search needs) (λ c. search needs) returns)
