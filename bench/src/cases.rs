@@ -11,7 +11,7 @@ pub struct Case {
 }
 
 /// Sheets as in Chabert and Demassey, section 4, by their number of units, rules and slots; the largest sheets, loose, tight, and with no plan by
-/// one unit; the largest tight sheets again, with loader numbers that share four remainders; sheets whose narrowing has much to do; and the
+/// one unit; the largest tight sheets again, with loader numbers that share few remainders; sheets whose narrowing has much to do; and the
 /// smallest.
 pub const NAMES: [&str; 14] = [
     "paper-10", "paper-16", "paper-24", "paper-32", "largest-loose", "largest-tight", "largest-none", "loaders", "narrowing", "distinct",
@@ -32,7 +32,7 @@ pub fn make(name: &str) -> Case {
         "largest-loose" => largest(3),
         "largest-tight" => largest(0),
         "largest-none" => largest(0).into_iter().map(none_by_one).collect(),
-        "loaders" => largest(0).into_iter().map(|sheet| sheet.numbered(&of_four_remainders())).collect(),
+        "loaders" => largest(0).into_iter().map(|sheet| sheet.numbered(&of_few_remainders())).collect(),
         "narrowing" => vec![model::reading::read(NARROWING).expect("a sheet")],
         "distinct" => (0..5).map(distinct).collect(),
         "chain-2" => vec![chain(2)],
@@ -55,10 +55,10 @@ fn spread(i: usize) -> Vec<u16> {
     all
 }
 
-/// 300 loader numbers that share as few remainders by 128 as can be, in any order. The planner chains numbers by that remainder and
-/// compares each with those before it in its chain, so no other numbers cost it more: 79 have a remainder such as 1, 2 or 3.
-fn of_four_remainders() -> Vec<u16> {
-    let mut all: Vec<u16> = (1..=4).flat_map(|remainder| (remainder..=9_999).step_by(128)).take(300).collect();
+/// 300 loader numbers that share as few remainders by 256 as can be, in any order. The planner chains numbers by that remainder and
+/// compares each with those before it in its chain, so no other numbers cost it more: 40 have each remainder from 1 to 15.
+fn of_few_remainders() -> Vec<u16> {
+    let mut all: Vec<u16> = (1..=8).flat_map(|remainder| (remainder..=9_999).step_by(256)).take(300).collect();
     Random::new(5).shuffle(&mut all);
     all
 }

@@ -332,7 +332,7 @@ fn loader_numbers_of_many_units() {
     let mut tally = Tally::new("planning loader numbers of many units", seed(109));
     for i in 0..effort(300) {
         let mut r = Random::of_case(seed(109), i);
-        let n = *r.pick(&[2, 79, 128, 129, 299, 300, 301]);
+        let n = *r.pick(&[2, 40, 256, 257, 299, 300, 301]);
         let mut numbers = loaders(&mut r, n);
         let at = if r.chance(50) { n - 1 } else { r.below(n) };
         let other = (at + r.between(1, n - 1)) % n;

@@ -178,7 +178,7 @@ fn loader_numbers_of_many_units() {
     let mut tally = Tally::new("reading loader numbers of many units", seed(203));
     for i in 0..effort(300) {
         let mut r = Random::of_case(seed(203), i);
-        let n = *r.pick(&[2, 79, 128, 129, 299, 300, 301]);
+        let n = *r.pick(&[2, 40, 256, 257, 299, 300, 301]);
         let mut numbers: Vec<String> = loaders(&mut r, n).iter().map(u16::to_string).collect();
         let at = if r.chance(50) { n - 1 } else { r.between(1, n - 1) };
         let before = r.below(at);

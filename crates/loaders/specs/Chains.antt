@@ -7,7 +7,7 @@ use lib.ListN.{length, getD}
 
 -- how many there are
 abbrev pub chains : ℕ
-chains = 128
+chains = 256
 
 -- Of the first n numbers, those with the remainder b all stand before place p, and the one just before p, if there is one, has it.
 pub record From (ks : List ℕ) (n b p : ℕ) : Type 0 where

@@ -9,8 +9,8 @@ use sheet::Sheet;
 
 // Question 16. The numbers seen so far are chained by their remainder, so that a number is compared with those of its own chain alone.
 
-// How many chains there are: of 9,999 numbers no more than 79 share a remainder.
-pub const CHAINS: usize = 128;
+// How many chains there are: of 9,999 numbers no more than 40 share a remainder.
+pub const CHAINS: usize = 256;
 
 // Whether a number is among the first n of a list, by the chain that it belongs to.
 fn is_among(ks: &[u16], n: usize, heads: &[u16], nexts: &[u16], k: u16) -> bool
