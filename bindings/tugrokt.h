@@ -94,8 +94,8 @@ struct tugrokt_planning tugrokt_plan(
     uint16_t *ring, size_t ring_length);
 
 /*
- * Plans from lists and prints the answer on the page from the given place on, each unit with its loader number. The rooms are left as by tugrokt_plan, but
- * where the page does not hold the whole answer the call is refused by 15 and changes neither page nor rooms.
+ * Plans from lists and prints the answer on the page from the given place on, each unit with its loader number. The rooms are left
+ * as by tugrokt_plan, but where the page does not hold the whole answer the call is refused by 15 and changes neither page nor rooms.
  */
 struct tugrokt_printing tugrokt_print(
     size_t span, const uint16_t *loader, size_t loader_length,

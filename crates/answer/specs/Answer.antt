@@ -5,7 +5,7 @@ use mathlib.Core.List.{List}
 use Prim.Native.Nat.{ℕ}
 use lib.Dec.{T}
 use Rattle.network.specs.Table.{Passed, finished, stopped}
-use Rattle.sheet.specs.Sheet.{Sheet, WrittenSheet, plain, loaders, isRing}
+use Rattle.sheet.specs.Sheet.{Sheet, WrittenSheet, constraints, loaders, isRing}
 use Rattle.questions.specs.Questions.{Verdict, no, allYes, firstNo}
 use Rattle.read_ask.specs.Reading.{questions, roomsForAll, sheetIn}
 use Rattle.plan_solve.specs.Planning.{passed}
@@ -27,7 +27,7 @@ AnswerToSheet ks s bytes = ByPass (passed s) ks s bytes
 -- the answer by reading's first no, or to the sheet that was read
 abbrev pub ByReading : Verdict → WrittenSheet → List ℕ → Type 0
 ByReading (no number line) w bytes = bytes ≡ refusedLine number line
-ByReading allYes w bytes = AnswerToSheet (loaders w) (plain w) bytes
+ByReading allYes w bytes = AnswerToSheet (loaders w) (constraints w) bytes
 
 -- the answer to a text, with rooms for every sheet
 abbrev pub AnswerTo : List ℕ → List ℕ → Type 0

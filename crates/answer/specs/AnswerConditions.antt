@@ -4,18 +4,21 @@
 -- Key idea: reading's first no decides, or the pass over the sheet's limits does, and what the page then says is known line by line.
 use mathlib.Core.Path.{_≡_, refl, sym, ap, _∙_, subst}
 use mathlib.Core.Logic.{_↔_}
+use mathlib.Core.Bool.{true}
 use mathlib.Core.List.{List, [], _∷_}
 use Prim.Native.Nat.{ℕ, _≤_}
 use native.Mathlib.Omega.{arith}
 use lib.Dec.{T}
 use lib.ListN.{length, length-map}
 use Rattle.network.specs.Table.{Passed, finished, stopped, entry}
-use Rattle.sheet.specs.Sheet.{Sheet, WrittenSheet, plain, loaders, lawful, boundaries, printedPlan}
+use Rattle.sheet.specs.Sheet.{Sheet, WrittenSheet, constraints, loaders, lawful, boundaries, printedPlan}
 use Rattle.sheet.specs.QuestionLaws.{accepted-valid}
 use Rattle.read_ask.specs.Reading.{questions, roomsForAll, sheetIn}
 use Rattle.questions.specs.Questions.{Verdict, no, allYes, firstNo}
 use Rattle.read_ask.specs.AcceptedLaws.{reading-accepts, reading-loaders}
 use Rattle.read_ask.specs.RefusalLaws.{asksText, reading-refusals}
+use Rattle.plan_ask.specs.Questions.{refusalBy}
+use Rattle.plan_ask.specs.SolvableLaws.{yes-asked}
 use Rattle.plan_solve.specs.Planning.{passed}
 use Rattle.plan_solve.specs.PlanningLaws.{passed-solved}
 use Rattle.print_page.specs.Page.{maxPage}
@@ -26,11 +29,19 @@ use Rattle.print.specs.Printing.{planBytes, ringBytes}
 use Rattle.print.specs.Pages.{PlanPage, NonePage}
 use Rattle.print.specs.PagesLaws.{plan-page, none-page}
 use Rattle.answer.specs.Answer.{ByPass, ByReading, AnswerTo, Answered}
+use Rattle.answer.specs.FrontsLaws.{listsOf, passes-back}
 use Rattle.answer.specs.AnswerLaws.{refused-short, two-digits}
 
 -- the question that refuses a text, by number and line, or that every answer is yes
 abbrev pub verdict : List ℕ → Verdict
 verdict input = firstNo (questions input roomsForAll)
+
+-- What reading accepts, planning accepts: of the lists of a text that is not refused no question is answered no, 16 included, and rooms that are long enough
+-- are all that is left to ask.
+pub planning-accepts : (input : List ℕ) → verdict input ≡ allYes → refusalBy (listsOf (sheetIn input)) true ≡ allYes
+planning-accepts input e =
+    let w = sheetIn input in
+    yes-asked (listsOf w) true (passes-back w (reading-accepts input roomsForAll e) (reading-loaders input roomsForAll e)) tt
 
 -- ---- no answer is longer than the page that the program lends
 bytes-short : (input bytes : List ℕ) → AnswerTo input bytes → length bytes ≤ maxPage
@@ -40,16 +51,16 @@ bytes-short input bytes = by-reading (verdict input) refl
     w : WrittenSheet
     w = sheetIn input
 
-    by-pass : (p : Passed) → verdict input ≡ allYes → ByPass p (loaders w) (plain w) bytes → length bytes ≤ maxPage
+    by-pass : (p : Passed) → verdict input ≡ allYes → ByPass p (loaders w) (constraints w) bytes → length bytes ≤ maxPage
     by-pass (finished t) e a =
-        omega (arith, ap length a, plan-short (plain w) (reading-accepts input roomsForAll e) (loaders w) (reading-loaders input roomsForAll e))
-    by-pass stopped e a = omega (arith, ap length (a .2), none-short (plain w) (reading-accepts input roomsForAll e) (a .0) (a .1))
+        omega (arith, ap length a, plan-short (constraints w) (reading-accepts input roomsForAll e) (loaders w) (reading-loaders input roomsForAll e))
+    by-pass stopped e a = omega (arith, ap length (a .2), none-short (constraints w) (reading-accepts input roomsForAll e) (a .0) (a .1))
 
     by-reading : (v : Verdict) → verdict input ≡ v → ByReading v w bytes → length bytes ≤ maxPage
     by-reading (no n l) e a =
         let r = reading-refusals input n l e in
         omega (arith, ap length a, refused-short n l (two-digits n (r .number-known)) (r .line-known))
-    by-reading allYes e a = by-pass (passed (plain w)) e a
+    by-reading allYes e a = by-pass (passed (constraints w)) e a
 
 module _ (input page left : List ℕ) (next : ℕ) (call : Answered (AnswerTo input) page left next) (size : length page ≡ maxPage) where
   abbrev pub w : WrittenSheet
@@ -59,7 +70,7 @@ module _ (input page left : List ℕ) (next : ℕ) (call : Answered (AnswerTo in
   ks = loaders w
 
   abbrev pub s : Sheet
-  s = plain w
+  s = constraints w
 
   abbrev pub lines : List Said
   lines = answerOn left 0 next

@@ -14,7 +14,7 @@ use borrow.Author.Tests.{le-leb}
 use Rattle.lists.specs.Lists.{within}
 use Rattle.lists.specs.Members.{within-iff}
 use Rattle.network.specs.Table.{Passed, finished, stopped}
-use Rattle.sheet.specs.Sheet.{Sheet, plain, loaders, isRing}
+use Rattle.sheet.specs.Sheet.{Sheet, constraints, loaders, isRing}
 use Rattle.sheet.specs.declared.Sheet.{Sheet as Read}
 use Rattle.questions.specs.Questions.{Verdict, no, allYes, firstNo}
 use Rattle.sheet.specs.Sizes.{maxBytes}
@@ -25,7 +25,7 @@ use Rattle.read.specs.Rooms.{sizesOf, leaves, roomsAfter}
 use Rattle.sheet.specs.Lists.{WrittenLists, givenBy}
 use Rattle.plan_ask.specs.Questions.{Rooms as Lent, fitsRooms}
 use Rattle.plan_solve.specs.Planning.{passed, byPass, Settled}
-use Rattle.plan_ask.specs.SolvableLaws.{Listed}
+use Rattle.plan_ask.specs.Asking.{Listed}
 use Rattle.plan_solve.specs.ConclusionLaws.{concludes-solvable}
 use Rattle.plan_solve.specs.Reply as planning
 use Rattle.forms.specs.Words.{text}
@@ -82,10 +82,12 @@ module _ (l : WrittenLists) (y : Listed l) (page : List ℕ) (long : maxPage ≤
       subst (λ b. Asked b told bytes before planned page 0 reply after left) (le-leb (0 + length bytes) (length page) (omega arith)) o in
       (f .replied, f .shown)
 
-  ended : (p : Passed) (a : planning.Reply) (planned : Lent) → Settled (byPass p) s before a planned → Shown a ks s before planned page 0 reply after left → Ended p
+  ended : (p : Passed) (a : planning.Reply) (planned : Lent) → Settled (byPass p) s before a planned → Shown a ks s before planned page 0 reply after left
+      → Ended p
   unfolding planBytes ringBytes
   ended (finished t) a planned c o =
-      page-holds says.plan (planBytes ks s) planned (plan-short s (y .sheet) ks (y .loaders)) (subst (λ x. Shown x ks s before planned page 0 reply after left) (c .0) o)
+      page-holds says.plan (planBytes ks s) planned (plan-short s (y .sheet) ks (y .loaders))
+      (subst (λ x. Shown x ks s before planned page 0 reply after left) (c .0) o)
   ended stopped a planned c o =
       let ring = c .0 in
       let found : take (length ring) (planned .ring) ≡ ring =
@@ -98,7 +100,8 @@ module _ (l : WrittenLists) (y : Listed l) (page : List ℕ) (long : maxPage ≤
   ends : Ended (passed s)
   ends =
       ended (passed s) (call .answer) (call .planned)
-      (subst (λ v. Settled v s before (call .answer) (call .planned)) (concludes-solvable l (fitsRooms s before) y (own-fit s (y .sheet))) (call .call)) (call .shown)
+      (subst (λ v. Settled v s before (call .answer) (call .planned)) (concludes-solvable l (fitsRooms s before) y (own-fit s (y .sheet))) (call .call))
+      (call .shown)
 
   -- nothing refuses it,
   pub print-refused : (q n : ℕ) → reply ≡ says.refused q n → ⊥
@@ -185,11 +188,12 @@ module _ (input : List ℕ) (m : ListRooms (List ℕ)) (sizes : sizesOf m ≡ ro
         → Answered (AnswerTo input) page left next
     read-answered page left next a =
         let w = sheetIn input in
-        let sheet : givenBy (fronts t after) ≡ plain w = ap (λ r. givenBy (fronts t r)) left-is ∙ front-sheet w t span-same units-same rules-same m in
+        let sheet : givenBy (fronts t after) ≡ constraints w = ap (λ r. givenBy (fronts t r)) left-is ∙ front-sheet w t span-same units-same rules-same m in
         let numbers : fronts t after .loader ≡ loaders w =
         ap (λ r. fronts t r .loader) left-is ∙ front-loaders w t span-same units-same rules-same m in
-        let answer : AnswerToSheet (loaders w) (plain w) (a .bytes) =
-        subst (λ ks. AnswerToSheet ks (plain w) (a .bytes)) numbers (subst (λ s. AnswerToSheet (fronts t after .loader) s (a .bytes)) sheet (a .answers)) in
+        let answer : AnswerToSheet (loaders w) (constraints w) (a .bytes) =
+        subst (λ k. AnswerToSheet k (constraints w) (a .bytes)) numbers
+        (subst (λ q. AnswerToSheet (fronts t after .loader) q (a .bytes)) sheet (a .answers)) in
         record { bytes = a .bytes; answers = subst (λ v. ByReading v w (a .bytes)) (sym all-yes) answer; written = a .written }
 
 -- ---- the place just past an answer lies within the page

@@ -4,13 +4,13 @@ use mathlib.Core.List.{List}
 use lib.ListN.{length, take}
 use Rattle.sheet.specs.declared.Sheet.{Sheet}
 use Rattle.read_ask.specs.Reading.{ListRooms}
-use Rattle.sheet.specs.Lists.{WrittenLists, written}
-use Rattle.plan_ask.specs.SolvableLaws.{Listed}
+use Rattle.sheet.specs.Lists.{WrittenLists, writtenLists}
+use Rattle.plan_ask.specs.Asking.{Listed}
 
 -- of each list as many places as there are units or rules
 abbrev pub fronts : Sheet → ListRooms (List ℕ) → WrittenLists
 fronts s m =
-    written (s .span) (take (s .units) (m .loader)) (take (s .units) (m .first)) (take (s .units) (m .last))
+    writtenLists (s .span) (take (s .units) (m .loader)) (take (s .units) (m .first)) (take (s .units) (m .last))
     (take (s .rules) (m .from)) (take (s .rules) (m .to)) (take (s .rules) (m .low)) (take (s .rules) (m .high))
 
 -- the lists hold a sheet that planning accepts

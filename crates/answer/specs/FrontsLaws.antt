@@ -9,14 +9,14 @@ use lib.Dec.{T, eqb, eqb-refl}
 use lib.ListN.{length, take, drop, length-append, length-map}
 use lib.Seq.{take-at}
 use Rattle.lists.specs.Members.{both}
-use Rattle.sheet.specs.Sheet.{Window, Rule, WrittenSheet, plain, loaders}
+use Rattle.sheet.specs.Sheet.{Window, Rule, WrittenSheet, constraints, loaders}
 use Rattle.sheet.specs.Questions.{windowsOf, rulesOf, sheetOf, listsAgree, accepted, loadersFit}
 use Rattle.sheet.specs.declared.Sheet.{Sheet as Read}
 use Rattle.read_ask.specs.Reading.{ListRooms, read}
 use Rattle.lists.specs.Lists.{onFront}
 use Rattle.read.specs.Rooms.{leaves}
-use Rattle.sheet.specs.Lists.{WrittenLists, written, givenBy, agree}
-use Rattle.plan_ask.specs.SolvableLaws.{Listed}
+use Rattle.sheet.specs.Lists.{WrittenLists, writtenLists, givenBy, agree}
+use Rattle.plan_ask.specs.Asking.{Listed}
 use Rattle.answer.specs.Fronts.{fronts, Held}
 
 -- ---- a sheet in parallel lists is the sheet again
@@ -29,23 +29,24 @@ rules-back : (rs : List Rule) → rulesOf (map (λ r. r .from) rs) (map (λ r. r
 rules-back [] = refl
 rules-back (x ∷ xs) = ap (λ r. x ∷ r) (rules-back xs)
 
-abbrev listsOf : WrittenSheet → WrittenLists
+-- the lists of a sheet
+abbrev pub listsOf : WrittenSheet → WrittenLists
 listsOf w =
-    let s = plain w in
-    written (s .span) (loaders w) (map (λ v. v .first) (s .units)) (map (λ v. v .last) (s .units))
+    let s = constraints w in
+    writtenLists (s .span) (loaders w) (map (λ v. v .first) (s .units)) (map (λ v. v .last) (s .units))
     (map (λ r. r .from) (s .rules)) (map (λ r. r .to) (s .rules)) (map (λ r. r .low) (s .rules)) (map (λ r. r .high) (s .rules))
 
-given-back : (w : WrittenSheet) → givenBy (listsOf w) ≡ plain w
+given-back : (w : WrittenSheet) → givenBy (listsOf w) ≡ constraints w
 unfolding sheetOf
-given-back w = rw (windows-back (plain w .units), rules-back (w .rules)) refl
+given-back w = rw (windows-back (constraints w .units), rules-back (w .rules)) refl
 
 same-length : {A : Type 0} (xs : List A) (f g : A → ℕ) → T (eqb (length (map f xs)) (length (map g xs)))
 same-length xs f g = subst (λ k. T (eqb (length (map f xs)) k)) (length-map xs f ∙ sym (length-map xs g)) (eqb-refl (length (map f xs)))
 
-agree-back : (w : WrittenSheet) → T (agree (listsOf w .plain))
+agree-back : (w : WrittenSheet) → T (agree (listsOf w .constraints))
 unfolding listsAgree
 agree-back w =
-    let s = plain w in
+    let s = constraints w in
     let a = eqb (length (map (λ w. w .last) (s .units))) (length (map (λ w. w .first) (s .units))) in
     let b = eqb (length (map (λ r. r .to) (s .rules))) (length (map (λ r. r .from) (s .rules))) in
     let c = eqb (length (map (λ r. r .low) (s .rules))) (length (map (λ r. r .from) (s .rules))) in
@@ -54,10 +55,10 @@ agree-back w =
     (both b (c && d) (same-length (s .rules) (λ r. r .to) (λ r. r .from))
     (both c d (same-length (s .rules) (λ r. r .low) (λ r. r .from)) (same-length (s .rules) (λ r. r .high) (λ r. r .from))))
 
--- a sheet that reading accepts passes planning's questions
-passes-back : (w : WrittenSheet) → T (accepted (plain w)) → T (loadersFit (loaders w)) → Listed (listsOf w)
+-- of a sheet that is accepted and whose loader numbers are new they pass planning's questions
+pub passes-back : (w : WrittenSheet) → T (accepted (constraints w)) → T (loadersFit (loaders w)) → Listed (listsOf w)
 passes-back w ok fit = record {
-  as-many = length-map (w .units) (λ u. u .loader) ∙ sym (length-map (w .units) (λ u. u .window)) ∙ sym (length-map (plain w .units) (λ v. v .first));
+  as-many = length-map (w .units) (λ u. u .loader) ∙ sym (length-map (w .units) (λ u. u .window)) ∙ sym (length-map (constraints w .units) (λ v. v .first));
   lists = agree-back w;
   sheet = subst (λ s. T (accepted s)) (sym (given-back w)) ok;
   loaders = fit;
@@ -77,7 +78,7 @@ module _ (w : WrittenSheet) (t : Read) (span : t .span ≡ w .span) (units : t .
   left = leaves (read 0 0 0) w m
 
   -- as many windows as units
-  windows : t .units ≡ length (plain w .units)
+  windows : t .units ≡ length (constraints w .units)
   windows = units ∙ sym (length-map (w .units) (λ u. u .window))
 
   fronts-are : fronts t left ≡ listsOf w
@@ -85,19 +86,19 @@ module _ (w : WrittenSheet) (t : Read) (span : t .span ≡ w .span) (units : t .
       rw (
         span,
         front (λ u. u .loader) (w .units) (t .units) units (m .loader),
-        front (λ v. v .first) (plain w .units) (t .units) windows (m .first),
-        front (λ v. v .last) (plain w .units) (t .units) windows (m .last),
+        front (λ v. v .first) (constraints w .units) (t .units) windows (m .first),
+        front (λ v. v .last) (constraints w .units) (t .units) windows (m .last),
         front (λ r. r .from) (w .rules) (t .rules) rules (m .from),
         front (λ r. r .to) (w .rules) (t .rules) rules (m .to),
         front (λ r. r .low) (w .rules) (t .rules) rules (m .low),
         front (λ r. r .high) (w .rules) (t .rules) rules (m .high),
       ) refl
 
-  pub held : T (accepted (plain w)) → T (loadersFit (loaders w)) → Held t left
+  pub held : T (accepted (constraints w)) → T (loadersFit (loaders w)) → Held t left
   held ok fit = record {
     in-loader = front-fits (λ u. u .loader) (w .units) (t .units) units (m .loader);
-    in-first = front-fits (λ v. v .first) (plain w .units) (t .units) windows (m .first);
-    in-last = front-fits (λ v. v .last) (plain w .units) (t .units) windows (m .last);
+    in-first = front-fits (λ v. v .first) (constraints w .units) (t .units) windows (m .first);
+    in-last = front-fits (λ v. v .last) (constraints w .units) (t .units) windows (m .last);
     in-from = front-fits (λ r. r .from) (w .rules) (t .rules) rules (m .from);
     in-to = front-fits (λ r. r .to) (w .rules) (t .rules) rules (m .to);
     in-low = front-fits (λ r. r .low) (w .rules) (t .rules) rules (m .low);
@@ -108,5 +109,5 @@ module _ (w : WrittenSheet) (t : Read) (span : t .span ≡ w .span) (units : t .
   pub front-loaders : fronts t left .loader ≡ loaders w
   front-loaders = ap (λ l. l .loader) fronts-are
 
-  pub front-sheet : givenBy (fronts t left) ≡ plain w
+  pub front-sheet : givenBy (fronts t left) ≡ constraints w
   front-sheet = ap givenBy fronts-are ∙ given-back w

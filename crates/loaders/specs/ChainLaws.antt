@@ -90,7 +90,8 @@ module _ (ks heads nexts : List ℕ) (n : ℕ) (L : Linked ks n heads nexts) (ro
         | no ne ↦ subst (From ks (n + 1) c) (sym (getD-set-other heads b c (n + 1) 0 ne)) (let f = L .head c hc in record {
           most = omega (arith, f .most);
           own = f .own;
-          others = λ i l m r. ⊎-elim (λ (s : i ≡ n). ne (sym r ∙ ap (λ (x : ℕ). getD ks x 0 % chains) s)) (λ s. f .others i l s r) (eq-or-lt-of-le (omega arith));
+          others = λ i l m r.
+              ⊎-elim (λ (s : i ≡ n). ne (sym r ∙ ap (λ (x : ℕ). getD ks x 0 % chains) s)) (λ s. f .others i l s r) (eq-or-lt-of-le (omega arith));
         })
       ]
 
@@ -110,6 +111,8 @@ module _ (ks heads nexts : List ℕ) (n : ℕ) (L : Linked ks n heads nexts) (ro
 pub linked-none : (ks nexts : List ℕ) → Linked ks 0 (replicate chains 0) nexts
 linked-none ks nexts = record {
   wide = length-replicate {A = ℕ} chains 0;
-  head = λ b h. let z = getD-replicate {A = ℕ} chains b 0 0 h in record { most = omega arith; own = λ l. absurd (omega arith); others = λ i l m. absurd (omega arith) };
+  head = λ b h.
+      let z = getD-replicate {A = ℕ} chains b 0 0 h in
+      record { most = omega arith; own = λ l. absurd (omega arith); others = λ i l m. absurd (omega arith) };
   next = λ j h. absurd (omega arith);
 }

@@ -1,5 +1,5 @@
 ghost use mathlib.Core.Path.{_≡_};
-ghost use Rattle.sheet.specs.Lists.{written, givenBy};
+ghost use Rattle.sheet.specs.Lists.{writtenLists, givenBy};
 ghost use Rattle.plan_ask.specs.Questions.{lent};
 ghost use Rattle.plan_solve.specs.Planning.{conclusion, Settled};
 ghost use Rattle.plan_solve.specs.Reply.{replyOf, fitReply};
@@ -34,7 +34,7 @@ pub fn plan(
     ring: &mut [u16],
 ) -> Answer
     ensures { λ r.
-        let l = written span (now (loader .entry)) (now (first .entry)) (now (last .entry))
+        let l = writtenLists span (now (loader .entry)) (now (first .entry)) (now (last .entry))
         (now (from .entry)) (now (to .entry)) (now (low .entry)) (now (high .entry)) in
         let before = lent (now (table .entry)) (now (plan .entry)) (now (earliest .entry)) (now (latest .entry)) (now (ring .entry)) in
         ⌜ Settled (conclusion l before) (givenBy l) before (replyOf r)

@@ -76,13 +76,15 @@ module _ (t : ℕ → ℕ → Bool) where
 -- 13: the loader numbers are as many as the units, and the other lists agree
 module _ (l : WrittenLists) where
   abbrev as-many : Bool
-  as-many = eqb (length (l .loader)) (length (l .plain .first))
+  as-many = eqb (length (l .loader)) (length (l .constraints .first))
 
-  pub all-agree-read : T (allAgree l) → (length (l .loader) ≡ length (l .plain .first)) × T (agree (l .plain))
-  all-agree-read h = (eqb→eq (length (l .loader)) (length (l .plain .first)) (left as-many (agree (l .plain)) h), right as-many (agree (l .plain)) h)
+  pub all-agree-read : T (allAgree l) → (length (l .loader) ≡ length (l .constraints .first)) × T (agree (l .constraints))
+  all-agree-read h =
+      let others = agree (l .constraints) in
+      (eqb→eq (length (l .loader)) (length (l .constraints .first)) (left as-many others h), right as-many others h)
 
-  pub read-all-agree : length (l .loader) ≡ length (l .plain .first) → T (agree (l .plain)) → T (allAgree l)
-  read-all-agree e = both as-many (agree (l .plain)) (subst T (sym (eq-eqb (length (l .loader)) (length (l .plain .first)) e)) tt)
+  pub read-all-agree : length (l .loader) ≡ length (l .constraints .first) → T (agree (l .constraints)) → T (allAgree l)
+  read-all-agree e = both as-many (agree (l .constraints)) (subst T (sym (eq-eqb (length (l .loader)) (length (l .constraints .first)) e)) tt)
 
 module _ (l : Lists) where
   pub lists-read : T (agree l) → Agree (l .first) (l .last) (l .from) (l .to) (l .low) (l .high)

@@ -4,23 +4,15 @@ use mathlib.Core.Path.{_≡_}
 use mathlib.Core.Bool.{Bool, true, cond}
 use mathlib.Core.List.{List, [], _∷_, _++_}
 use lib.Dec.{T}
-use lib.ListN.{length}
 use Rattle.lists.specs.Members.{both, left, right, every-both}
 use Rattle.questions.specs.Questions.{Question, ask, Verdict, no, allYes, firstNo, andThen, AllYes}
 use Rattle.questions.specs.FirstNoLaws.{first-then, yes-every, every-yes, yes-front, yes-back, yes-at}
 use Rattle.sheet.specs.Sheet.{Sheet}
 use Rattle.sheet.specs.Questions.{loadersFit, slotQuestions, countQuestions, accepted}
-use Rattle.sheet.specs.Lists.{WrittenLists, givenBy, agree, allAgree}
+use Rattle.sheet.specs.Lists.{WrittenLists, givenBy, allAgree}
 use Rattle.plan_ask.specs.Questions.{listQuestions, questions, refusalBy}
-use Rattle.plan_ask.specs.Asking.{Solvable}
+use Rattle.plan_ask.specs.Asking.{Listed, Solvable}
 use Rattle.plan_ask.specs.AskingLaws.{all-agree-read, read-all-agree}
-
--- what the lists of a call that passed its questions are
-pub record Listed (l : WrittenLists) : Type 0 where
-  pub as-many : length (l .loader) ≡ length (l .plain .first)
-  pub lists : T (agree (l .plain))
-  pub sheet : T (accepted (givenBy l))
-  pub loaders : T (loadersFit (l .loader))
 
 module _ (l : WrittenLists) where
   abbrev s : Sheet
@@ -64,7 +56,7 @@ module _ (l : WrittenLists) where
     unfolding refusalBy
     asked-lists e = lists-yes (every-yes (listQuestions l) (yes-front (listQuestions l) last (yes-every (questions l rooms) e)))
 
-    pub asked-yes : refusalBy l rooms ≡ allYes → Solvable (l .plain) rooms
+    pub asked-yes : refusalBy l rooms ≡ allYes → Solvable (l .constraints) rooms
     unfolding refusalBy
     asked-yes e =
         let y = asked-lists e in

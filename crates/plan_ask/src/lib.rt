@@ -3,7 +3,7 @@ ghost use Prim.Native.Nat.{_≤_};
 ghost use lib.ListN.{length};
 ghost use Rattle.questions.specs.Questions.{firstNo, verdictOf};
 ghost use Rattle.network.specs.Table.{maxBoundaries};
-ghost use Rattle.sheet.specs.Lists.{written, givenBy, allAgree};
+ghost use Rattle.sheet.specs.Lists.{writtenLists, givenBy, allAgree};
 ghost use Rattle.plan_ask.specs.Questions.{lent, listQuestions, refusalBy};
 ghost use Rattle.plan_ask.specs.Asking.{lengthsOf, allRising, lengthsFit, fitLengths};
 use questions::Checked;
@@ -47,7 +47,7 @@ fn lists_agree(
     low: &[u16],
     high: &[u16],
 ) -> bool
-    ensures { λ r. ⌜ r ≡ allAgree (written 0 (now (loader .entry)) (now (first .entry)) (now (last .entry))
+    ensures { λ r. ⌜ r ≡ allAgree (writtenLists 0 (now (loader .entry)) (now (first .entry)) (now (last .entry))
         (now (from .entry)) (now (to .entry)) (now (low .entry)) (now (high .entry))) ⌝ }
 {
     if loader.len() != first.len() {
@@ -118,7 +118,7 @@ pub fn ask_lists(
     high: &[u16],
 ) -> Checked
     ensures { λ r.
-        ⌜ verdictOf r ≡ firstNo (listQuestions (written span (now (loader .entry)) (now (first .entry)) (now (last .entry))
+        ⌜ verdictOf r ≡ firstNo (listQuestions (writtenLists span (now (loader .entry)) (now (first .entry)) (now (last .entry))
         (now (from .entry)) (now (to .entry)) (now (low .entry)) (now (high .entry)))) ⌝ }
 {
     if lists_agree(loader, first, last, from, to, low, high) {} else {
@@ -171,7 +171,7 @@ pub fn ask(
     rooms: Lengths,
 ) -> Checked
     ensures { λ r.
-        let l = written span (now (loader .entry)) (now (first .entry)) (now (last .entry))
+        let l = writtenLists span (now (loader .entry)) (now (first .entry)) (now (last .entry))
         (now (from .entry)) (now (to .entry)) (now (low .entry)) (now (high .entry)) in
         ⌜ verdictOf r ≡ refusalBy l (fitLengths (givenBy l) rooms) ⌝ }
 {

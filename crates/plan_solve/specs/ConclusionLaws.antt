@@ -7,7 +7,8 @@ use lib.Dec.{T}
 use Rattle.questions.specs.Questions.{Verdict, no, allYes}
 use Rattle.sheet.specs.Lists.{WrittenLists, givenBy}
 use Rattle.plan_ask.specs.Questions.{Rooms, fitsRooms, refusalBy, refusal}
-use Rattle.plan_ask.specs.SolvableLaws.{Listed, yes-asked}
+use Rattle.plan_ask.specs.Asking.{Listed}
+use Rattle.plan_ask.specs.SolvableLaws.{yes-asked}
 use Rattle.plan_solve.specs.Planning.{Conclusion, passed, byPass, concluding, conclusionBy, conclusion, Settled}
 use Rattle.plan_solve.specs.Reply as says
 
@@ -28,7 +29,8 @@ module _ (l : WrittenLists) (before : Rooms) where
 
   pub refused-settled : (q n : ℕ) → refusal l before ≡ no q n → Settled (conclusion l before) (givenBy l) before (says.refused q n) before
   refused-settled q n e =
-      subst (λ (c : Conclusion). Settled c (givenBy l) before (says.refused q n) before) (sym (concludes l (fitsRooms (givenBy l) before) (no q n) e)) (refl, refl)
+      subst (λ (c : Conclusion). Settled c (givenBy l) before (says.refused q n) before)
+      (sym (concludes l (fitsRooms (givenBy l) before) (no q n) e)) (refl, refl)
 
   pub solved-settled : refusal l before ≡ allYes → (reply : says.Reply) (after : Rooms) → Settled (byPass (passed (givenBy l))) (givenBy l) before reply after
       → Settled (conclusion l before) (givenBy l) before reply after

@@ -19,7 +19,8 @@ use Rattle.sheet.specs.Sheet.{Sheet, top, boundaries, lawful, countIn, printedP
 use Rattle.sheet.specs.Lists.{WrittenLists, givenBy}
 use Rattle.plan_ask.specs.Questions.{Rooms, fitsRooms, refusal}
 use Rattle.plan_ask.specs.AskingLaws.{lists-read, units-length}
-use Rattle.plan_ask.specs.SolvableLaws.{Listed, asked-lists}
+use Rattle.plan_ask.specs.Asking.{Listed}
+use Rattle.plan_ask.specs.SolvableLaws.{asked-lists}
 use Rattle.plan_solve.specs.Planning.{conclusion, Settled}
 use Rattle.plan_solve.specs.Reply as planning
 use Rattle.plan.specs.ConditionLaws.{call-planned}
@@ -71,7 +72,7 @@ module _ (l : WrittenLists) (before : Rooms) (page : List ℕ) (at : ℕ) (reply
   listed = asked-lists l (fitsRooms s before)
 
   as-many : refusal l before ≡ allYes → length ks ≡ n
-  as-many y = listed y .as-many ∙ sym (units-length (l .plain) (lists-read (l .plain) (listed y .lists)))
+  as-many y = listed y .as-many ∙ sym (units-length (l .constraints) (lists-read (l .constraints) (listed y .lists)))
 
   way : Way
   unfolding planBytes ringBytes

@@ -5,7 +5,7 @@ ghost use lib.Dec.{T, leb};
 ghost use lib.ListN.{length, drop};
 ghost use Rattle.network.specs.Table.{entry, cleared};
 ghost use Rattle.sheet.specs.Questions.{sheetOf, loadersFit};
-ghost use Rattle.sheet.specs.Lists.{listed, written, given};
+ghost use Rattle.sheet.specs.Lists.{listed, writtenLists, given};
 ghost use Rattle.plan_ask.specs.Questions.{lent, fitsRooms};
 ghost use Rattle.plan_ask.specs.Asking.{Solvable};
 ghost use Rattle.plan_solve.specs.Planning.{passed, byPass};
@@ -231,7 +231,7 @@ pub fn print(
     at: usize,
 ) -> Printed
     ensures { λ r.
-        ⌜ Printing (written span (now (loader .entry)) (now (first .entry)) (now (last .entry)) (now (from .entry)) (now (to .entry)) (now (low .entry))
+        ⌜ Printing (writtenLists span (now (loader .entry)) (now (first .entry)) (now (last .entry)) (now (from .entry)) (now (to .entry)) (now (low .entry))
         (now (high .entry)))
         (lent (now (table .entry)) (now (plan .entry)) (now (earliest .entry)) (now (latest .entry)) (now (ring .entry)))
         (now (page .entry)) at (says.replyOf r)

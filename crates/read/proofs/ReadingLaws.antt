@@ -13,7 +13,7 @@ use Rattle.lists.specs.Lists.{onFront}
 use Rattle.questions.specs.Questions.{ask, Verdict, no, allYes, firstNo, andThen}
 use Rattle.questions.specs.FirstNoLaws.{firstNo-append}
 use Rattle.sheet.specs.Sizes.{maxUnits, maxRules, maxBytes}
-use Rattle.sheet.specs.Sheet.{Window, plain, loaders}
+use Rattle.sheet.specs.Sheet.{Window, constraints, loaders}
 use Rattle.sheet.specs.declared.Sheet.{Sheet}
 use Rattle.lists.specs.Members.{and-left, and-right}
 use Rattle.read_ask.specs.Reading.{sheetIn, ListRooms, listsFit, passQuestions, questions, Reply, refused, read, concluded, reading}
@@ -133,7 +133,7 @@ rooms-filled s t numbers numbers′ units units′ rules rules′ m n u r h e f 
         ∙ sets-front numbers (loaders (sheetIn t)) (s .units) (length-map (sheetIn t .units) (λ u. u .loader) ∙ sym (g .units)) (omega (arith, k .few-units)))
 
     unit-room : (c : ℕ) → c < 2 → (room : List ℕ) → onFront (strided (s .units) 2 c units′) room
-        ≡ onFront (map (λ w. getD (ends w) c 0) (plain (sheetIn t) .units)) room
+        ≡ onFront (map (λ w. getD (ends w) c 0) (constraints (sheetIn t) .units)) room
     unit-room c l room =
         let us = sheetIn t .units in
         ap (λ (xs : List ℕ). onFront xs room)

@@ -3,7 +3,7 @@ use Prim.Native.Nat.{ℕ}
 use mathlib.Core.List.{List, map}
 use lib.ListN.{length}
 use Rattle.lists.specs.Lists.{onFront}
-use Rattle.sheet.specs.Sheet.{WrittenSheet, plain, loaders}
+use Rattle.sheet.specs.Sheet.{WrittenSheet, constraints, loaders}
 use Rattle.read_ask.specs.Reading.{sheetIn, ListRooms, rooms, Reply, refused, read, reading}
 
 abbrev pub sizesOf : ListRooms (List ℕ) → ListRooms ℕ
@@ -15,7 +15,7 @@ abbrev pub leaves : Reply → WrittenSheet → ListRooms (List ℕ) → ListRoom
 leaves (refused q n) s m = m
 leaves (read p u r) s m =
     rooms (onFront (loaders s) (m .loader))
-    (onFront (map (λ w. w .first) (plain s .units)) (m .first)) (onFront (map (λ w. w .last) (plain s .units)) (m .last))
+    (onFront (map (λ w. w .first) (constraints s .units)) (m .first)) (onFront (map (λ w. w .last) (constraints s .units)) (m .last))
     (onFront (map (λ w. w .from) (s .rules)) (m .from)) (onFront (map (λ w. w .to) (s .rules)) (m .to))
     (onFront (map (λ w. w .low) (s .rules)) (m .low)) (onFront (map (λ w. w .high) (s .rules)) (m .high))
 

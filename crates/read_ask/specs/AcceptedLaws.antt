@@ -12,7 +12,7 @@ use Rattle.lists.specs.Members.{both, right, every-both, false-not-true}
 use Rattle.questions.specs.Questions.{ask, allYes, firstNo, AllYes}
 use Rattle.questions.specs.FirstNoLaws.{yes-every, yes-front, yes-back, yes-at}
 use Rattle.sheet.specs.Sizes.{maxUnits, maxRules, maxBytes}
-use Rattle.sheet.specs.Sheet.{Window, Sheet, plain, loaders, top}
+use Rattle.sheet.specs.Sheet.{Window, Sheet, constraints, loaders, top}
 use Rattle.sheet.specs.Questions.{isSpan, isStretch, isCount, spanFits, unitsFit, rulesFit, windowsFit, stretchesFit, countsFit, accepted}
 use Rattle.sheet.specs.Questions.{allNew, loadersFit}
 use Rattle.sheet.specs.LoaderLaws.{loaders-more}
@@ -26,7 +26,7 @@ use Rattle.read_ask.specs.SpanLaws.{units-more, loadersIn-more, rules-mo
 -- ---- what holds of the lines so far
 
 abbrev soFar : List Content → Sheet
-soFar xs = plain (record { span = spanIn xs; units = unitsIn xs; rules = rulesIn xs })
+soFar xs = constraints (record { span = spanIn xs; units = unitsIn xs; rules = rulesIn xs })
 
 record Good (xs : List Content) : Type 0 where
   span : T (hasSheet xs) → T (spanFits (soFar xs))
@@ -163,7 +163,7 @@ module _ (text : List ℕ) (sizes : ListRooms ℕ) (e : firstNo (questions text 
       )
 
   -- what reading accepts is accepted by planning
-  pub reading-accepts : T (accepted (plain (sheetIn text)))
+  pub reading-accepts : T (accepted (constraints (sheetIn text)))
   unfolding sheetIn accepted unitsFit
   reading-accepts =
       let s = soFar (contents (lines text)) in

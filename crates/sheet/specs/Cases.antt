@@ -8,7 +8,7 @@ use lib.IntN.{pos}
 use Rattle.lists.specs.Lists.{fromTo}
 use Rattle.network.specs.Network.{isNegativeCycle}
 use Rattle.slots.specs.Slots.{Slot, Boundary}
-use Rattle.sheet.specs.Sheet.{Window, Rule, Sheet, SheetUnit, WrittenSheet, plain, loaders, top, atMost, atLeast, limit, isRing, ringSum, shortfall}
+use Rattle.sheet.specs.Sheet.{Window, Rule, Sheet, SheetUnit, WrittenSheet, constraints, loaders, top, atMost, atLeast, limit, isRing, ringSum, shortfall}
 use Rattle.sheet.specs.Sheet.{lawful, lawfulPlans, leastIn, greatestIn, earliest, latest, earliestSlots, latestSlots, soonest, fair, printedPlans}
 use Rattle.sheet.specs.Questions.{isNew, allNew, loadersFit}
 
@@ -36,25 +36,25 @@ pub data Case : Type 0 where
   -- it has no lawful plan; a ring and its shortfall
   none : WrittenSheet → List Boundary → ℕ → Case
 
-abbrev written : Case → WrittenSheet
-written (plan v seats first last low high) = v
-written (none v ring short) = v
+abbrev caseSheet : Case → WrittenSheet
+caseSheet (plan v seats first last low high) = v
+caseSheet (none v ring short) = v
 
 abbrev slots : Sheet → List Slot
 slots s = fromTo 1 (s .span)
 
 abbrev pub Holds : Case → Type 0
 Holds (plan v seats first last low high) =
-    let s = plain v in
+    let s = constraints v in
     (printedPlans s ≡ seats ∷ [])
     × (earliestSlots s ≡ first) × (latestSlots s ≡ last)
     × (map (λ t. leastIn s t t) (slots s) ≡ low) × (map (λ t. greatestIn s t t) (slots s) ≡ high)
-Holds (none v ring short) = let s = plain v in (lawfulPlans s ≡ []) × T (isRing s ring) × (shortfall s ring ≡ pos short)
+Holds (none v ring short) = let s = constraints v in (lawfulPlans s ≡ []) × T (isRing s ring) × (shortfall s ring ≡ pos short)
 
 -- of each case, and its loader numbers pass question 16
 abbrev pub All : List Case → Type 0
 All [] = Unit {0}
-All (c ∷ cs) = (Holds c × T (loadersFit (loaders (written c)))) × All cs
+All (c ∷ cs) = (Holds c × T (loadersFit (loaders (caseSheet c)))) × All cs
 
 abbrev pub cases : List Case
 cases =

@@ -30,15 +30,15 @@ agree l = listsAgree (l .first) (l .last) (l .from) (l .to) (l .low) (l .high)
 -- the whole sheet, as it is written: its loader numbers too
 pub record WrittenLists : Type 0 where
   pub loader : List ℕ
-  pub plain : Lists
+  pub constraints : Lists
 
-abbrev pub written : ℕ → List ℕ → List Slot → List Slot → List Slot → List Slot → List ℕ → List ℕ → WrittenLists
-written p ks fs ls rs ts lo hi = record { loader = ks; plain = listed p fs ls rs ts lo hi }
+abbrev pub writtenLists : ℕ → List ℕ → List Slot → List Slot → List Slot → List Slot → List ℕ → List ℕ → WrittenLists
+writtenLists p ks fs ls rs ts lo hi = record { loader = ks; constraints = listed p fs ls rs ts lo hi }
 
 -- the sheet that its plans must keep to
 abbrev pub givenBy : WrittenLists → Sheet
-givenBy l = given (l .plain)
+givenBy l = given (l .constraints)
 
 -- 13 of all lists
 abbrev pub allAgree : WrittenLists → Bool
-allAgree l = eqb (length (l .loader)) (length (l .plain .first)) && agree (l .plain)
+allAgree l = eqb (length (l .loader)) (length (l .constraints .first)) && agree (l .constraints)

@@ -44,8 +44,8 @@ pub record WrittenSheet : Type 0 where
   pub rules : List Rule
 
 -- what its plans must keep to; no plan looks at a loader number
-abbrev pub plain : WrittenSheet → Sheet
-plain w = record { span = w .span; units = map (λ u. u .window) (w .units); rules = w .rules }
+abbrev pub constraints : WrittenSheet → Sheet
+constraints w = record { span = w .span; units = map (λ u. u .window) (w .units); rules = w .rules }
 
 -- the loader numbers, in order of lines
 abbrev pub loaders : WrittenSheet → List ℕ

@@ -1,5 +1,5 @@
 ghost use mathlib.Core.Path.{_≡_};
-ghost use Rattle.sheet.specs.Lists.{written, givenBy};
+ghost use Rattle.sheet.specs.Lists.{writtenLists, givenBy};
 ghost use Rattle.plan_ask.specs.Questions.{lent};
 ghost use Rattle.plan_solve.specs.Planning.{conclusion};
 ghost use Rattle.plan_solve.specs.Reply.{replyOf};
@@ -55,7 +55,7 @@ pub extern "C" fn tugrokt_plan(
     ring: &mut [u16],
 ) -> Planning
     ensures { λ r.
-        let l = written span (now (loader .entry)) (now (first .entry)) (now (last .entry))
+        let l = writtenLists span (now (loader .entry)) (now (first .entry)) (now (last .entry))
         (now (from .entry)) (now (to .entry)) (now (low .entry)) (now (high .entry)) in
         let before = lent (now (table .entry)) (now (plan .entry)) (now (earliest .entry)) (now (latest .entry)) (now (ring .entry)) in
         ⌜ PlanTold (conclusion l before) (givenBy l) before r

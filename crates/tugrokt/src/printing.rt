@@ -1,5 +1,5 @@
 ghost use mathlib.Core.Path.{_≡_};
-ghost use Rattle.sheet.specs.Lists.{written};
+ghost use Rattle.sheet.specs.Lists.{writtenLists};
 ghost use Rattle.plan_ask.specs.Questions.{lent};
 ghost use Rattle.print.specs.Reply.{replyOf};
 ghost use Rattle.tugrokt.specs.Numbers.{printingOf, PrintTold};
@@ -60,7 +60,7 @@ pub extern "C" fn tugrokt_print(
     place: usize,
 ) -> Printing
     ensures { λ r.
-        ⌜ PrintTold (written span (now (loader .entry)) (now (first .entry)) (now (last .entry))
+        ⌜ PrintTold (writtenLists span (now (loader .entry)) (now (first .entry)) (now (last .entry))
         (now (from .entry)) (now (to .entry)) (now (low .entry)) (now (high .entry)))
         (lent (now (table .entry)) (now (plan .entry)) (now (earliest .entry)) (now (latest .entry)) (now (ring .entry))) (now (page .entry)) place r
         (lent (now (table .exit)) (now (plan .exit)) (now (earliest .exit)) (now (latest .exit)) (now (ring .exit))) (now (page .exit)) ⌝ }

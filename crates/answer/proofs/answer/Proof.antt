@@ -15,7 +15,10 @@ use Rattle.answer.proofs.answer.Tie as tie
 
 -- the lists as the call makes them
 abbrev empty : ListRooms (List ℕ)
-empty = rooms (replicate maxUnits 0) (replicate maxUnits 0) (replicate maxUnits 0) (replicate maxRules 0) (replicate maxRules 0) (replicate maxRules 0) (replicate maxRules 0)
+empty =
+    let units = replicate maxUnits 0 in
+    let rules = replicate maxRules 0 in
+    rooms units units units rules rules rules rules
 
 sizes : sizesOf empty ≡ roomsForAll
 sizes = refl
@@ -60,5 +63,5 @@ returns-2 c =
 
 pub answer-spec : {M : Type 1} → statement M
 answer-spec = tie.close (tie.spec (λ c. search needs) (λ c. search needs) (λ c. search needs) (λ c. search needs) (λ c. search needs) (λ c. search needs)
-    (λ c. search needs) (λ c κs. search needs) (λ c. search needs) refuse-requires (λ c. search needs) (λ c. search needs) (λ c. search needs) (λ c. search needs)
-    (λ c. search needs) (λ c. search needs) (λ c. search needs) (λ c. search needs) answer-sheet-requires returns returns-2)
+    (λ c. search needs) (λ c κs. search needs) (λ c. search needs) refuse-requires (λ c. search needs) (λ c. search needs) (λ c. search needs)
+    (λ c. search needs) (λ c. search needs) (λ c. search needs) (λ c. search needs) (λ c. search needs) answer-sheet-requires returns returns-2)

@@ -2,7 +2,7 @@
 use borrow.Author.Needs.{needs}
 use mathlib.Core.Path.{_≡_, sym, ap, _∙_, subst}
 use Rattle.questions.specs.Questions.{Verdict, allYes, verdictOf}
-use Rattle.sheet.specs.Lists.{WrittenLists, written, givenBy}
+use Rattle.sheet.specs.Lists.{WrittenLists, writtenLists, givenBy}
 use Rattle.plan_ask.specs.Questions.{Rooms, lent, fitsRooms, refusalBy, refusal}
 use Rattle.plan_ask.specs.Asking.{fitLengths}
 use Rattle.plan_ask.specs.SolvableLaws.{asked-yes}
@@ -16,7 +16,7 @@ use Rattle.plan.proofs.plan.Tie as tie
 abbrev lists : tie.Start → WrittenLists
 lists c =
     let a = c .args in
-    written (a .span) (a .loader .now) (a .first .now) (a .last .now) (a .from .now) (a .to .now) (a .low .now) (a .high .now)
+    writtenLists (a .span) (a .loader .now) (a .first .now) (a .last .now) (a .from .now) (a .to .now) (a .low .now) (a .high .now)
 
 abbrev before : tie.Start → Rooms
 before c =

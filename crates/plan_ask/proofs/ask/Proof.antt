@@ -6,11 +6,11 @@ use Prim.Native.Nat.{ℕ}
 use native.Mathlib.Omega.{arith}
 use lib.ListN.{length}
 use Rattle.questions.specs.Questions.{Verdict, no, allYes, andThen, verdictOf}
-use Rattle.sheet.specs.Lists.{WrittenLists, written, givenBy}
+use Rattle.sheet.specs.Lists.{WrittenLists, writtenLists, givenBy}
 use Rattle.plan_ask.specs.Questions.{refusalBy}
-use Rattle.plan_ask.specs.Asking.{lengthsFit, fitLengths}
+use Rattle.plan_ask.specs.Asking.{lengthsFit, fitLengths, Listed}
 use Rattle.plan_ask.specs.AskingLaws.{lists-read, span-bound, asks-rooms}
-use Rattle.plan_ask.specs.SolvableLaws.{Listed, lists-yes, refusal-then}
+use Rattle.plan_ask.specs.SolvableLaws.{lists-yes, refusal-then}
 use Rattle.plan_ask.proofs.ask.Statement.{statement}
 use Rattle.plan_ask.proofs.ask.Tie as tie
 
@@ -21,7 +21,7 @@ start c = c .before .before .before .before .before .before .before .before
 abbrev lists : tie.After-ask-lists → WrittenLists
 lists c =
     let a = start c .args in
-    written (a .span) (a .loader .now) (a .first .now) (a .last .now) (a .from .now) (a .to .now) (a .low .now) (a .high .now)
+    writtenLists (a .span) (a .loader .now) (a .first .now) (a .last .now) (a .from .now) (a .to .now) (a .low .now) (a .high .now)
 
 abbrev rooms : tie.After-ask-lists → Bool
 rooms c = fitLengths (givenBy (lists c)) (start c .args .rooms)
@@ -43,7 +43,7 @@ rooms-decide : (c : tie.After-rooms-fit) (b : Bool) → c .rooms-fit .result ≡
     → let a = asked (c .before .before) in refusalBy (lists a) (rooms a) ≡ cond b allYes (no 12 0)
 rooms-decide c b e =
     let told : tie.After-enum-told = c .before .before in
-    let l = lists (asked told) .plain in
+    let l = lists (asked told) .constraints in
     let r = start (asked told) .args .rooms in
     verdict-then (asked told) allYes (ap verdictOf (told .enum-told .given .1))
     ∙ ap (λ (fit : Bool). cond fit allYes (no 12 0)) (asks-rooms l (lists-read l (given-lists told .lists)) r
@@ -51,7 +51,7 @@ rooms-decide c b e =
 
 pub ask-spec : {M : Type 1} → statement M
 ask-spec = tie.close (tie.spec (λ c κs. search needs) (λ c. search needs) (λ c. search needs)
-    (λ c κs. span-bound (lists (asked c) .plain) (given-lists c .sheet))
-    (λ c κs. omega (arith, c .boundaries .ensures, span-bound (lists (asked (c .before)) .plain) (given-lists (c .before) .sheet)))
+    (λ c κs. span-bound (lists (asked c) .constraints) (given-lists c .sheet))
+    (λ c κs. omega (arith, c .boundaries .ensures, span-bound (lists (asked (c .before)) .constraints) (given-lists (c .before) .sheet)))
     (λ c. sym (verdict-then (c .before .before .before) _ (ap verdictOf (c .before .asked .given .1))))
     (λ c. sym (rooms-decide (c .before) _ (c .if1 .taken))) (λ c. sym (rooms-decide (c .before) _ (c .if1 .left))))

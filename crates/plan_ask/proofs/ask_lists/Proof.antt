@@ -14,7 +14,7 @@ use Rattle.questions.specs.FirstNoLaws.{no-here, yes-here, every-yes}
 use Rattle.sheet.specs.Sizes.{maxUnits}
 use Rattle.sheet.specs.Questions.{countsFit}
 use Rattle.sheet.specs.QuestionLaws.{Agree}
-use Rattle.sheet.specs.Lists.{Lists, WrittenLists, written, givenBy, agree, allAgree}
+use Rattle.sheet.specs.Lists.{Lists, WrittenLists, writtenLists, givenBy, agree, allAgree}
 use Rattle.plan_ask.specs.Questions.{listQuestions}
 use Rattle.plan_ask.specs.AskingLaws.{all-agree-read, lists-read, asks-span, asks-units, asks-rules, asks-windows, asks-stretches, asks-counts}
 use Rattle.plan_ask.proofs.ask_lists.Statement.{statement}
@@ -23,10 +23,10 @@ use Rattle.plan_ask.proofs.ask_lists.Tie as tie
 abbrev lists : tie.Start → WrittenLists
 lists c =
     let a = c .args in
-    written (a .span) (a .loader .now) (a .first .now) (a .last .now) (a .from .now) (a .to .now) (a .low .now) (a .high .now)
+    writtenLists (a .span) (a .loader .now) (a .first .now) (a .last .now) (a .from .now) (a .to .now) (a .low .now) (a .high .now)
 
-abbrev plain : tie.Start → Lists
-plain c = lists c .plain
+abbrev constraints : tie.Start → Lists
+constraints c = lists c .constraints
 
 -- the first no of the questions past the first k
 abbrev left : ℕ → tie.Start → Verdict
@@ -56,36 +56,36 @@ t₁ c = c .before .before .before .before .before .before .before .before
 lists-agree : (c : tie.Then1) → allAgree (lists (s₁ c)) ≡ true
 lists-agree c = sym (c .before .lists-agree .ensures) ∙ c .if1 .taken
 
-all-agreed : (c : tie.Then1) → let l = lists (s₁ c) in (length (l .loader) ≡ length (l .plain .first)) × T (agree (l .plain))
+all-agreed : (c : tie.Then1) → let l = lists (s₁ c) in (length (l .loader) ≡ length (l .constraints .first)) × T (agree (l .constraints))
 all-agreed c = all-agree-read (lists (s₁ c)) (subst T (sym (lists-agree c)) tt)
 
-agreed : (c : tie.Then1) → let l = plain (s₁ c) in Agree (l .first) (l .last) (l .from) (l .to) (l .low) (l .high)
-agreed c = lists-read (plain (s₁ c)) (all-agreed c .1)
+agreed : (c : tie.Then1) → let l = constraints (s₁ c) in Agree (l .first) (l .last) (l .from) (l .to) (l .low) (l .high)
+agreed c = lists-read (constraints (s₁ c)) (all-agreed c .1)
 
 past-lists : (c : tie.Then1) → left 0 (s₁ c) ≡ left 1 (s₁ c)
 past-lists c = yes-here _ 13 0 _ (lists-agree c)
 
 past-span : (c : tie.Then2) → left 0 (s₂ c) ≡ left 2 (s₂ c)
-past-span c = past-lists (c .before .before) ∙ yes-here _ 6 0 _ (asks-span (plain (s₂ c)) ∙ sym (c .before .is-span .ensures) ∙ c .if2 .taken)
+past-span c = past-lists (c .before .before) ∙ yes-here _ 6 0 _ (asks-span (constraints (s₂ c)) ∙ sym (c .before .is-span .ensures) ∙ c .if2 .taken)
 
 past-units : (c : tie.Else3) → left 0 (s₂ (c .before)) ≡ left 3 (s₂ (c .before))
 past-units c =
     let p = c .before in
-    let few = le-leb (length (plain (s₂ p) .first)) maxUnits (omega (arith, c .if3 .left)) in
-    past-span p ∙ yes-here _ 9 0 _ (asks-units (plain (s₂ p)) (agreed (p .before .before)) ∙ few)
+    let few = le-leb (length (constraints (s₂ p) .first)) maxUnits (omega (arith, c .if3 .left)) in
+    past-span p ∙ yes-here _ 9 0 _ (asks-units (constraints (s₂ p)) (agreed (p .before .before)) ∙ few)
 
 past-rules : (c : tie.Else4) → left 0 (s₄ c) ≡ left 4 (s₄ c)
 past-rules c =
-    past-units (c .before) ∙ yes-here _ 10 0 _ (asks-rules (plain (s₄ c)) (agreed (c .before .before .before .before)) ∙ le-leb _ _ (c .if4 .left))
+    past-units (c .before) ∙ yes-here _ 10 0 _ (asks-rules (constraints (s₄ c)) (agreed (c .before .before .before .before)) ∙ le-leb _ _ (c .if4 .left))
 
 past-windows : (c : tie.Then5) → left 0 (s₄ (c .before .before)) ≡ left 5 (s₄ (c .before .before))
 past-windows c =
     let p = c .before .before in
-    past-rules p ∙ yes-here _ 7 0 _ (asks-windows (plain (s₄ p)) ∙ sym (c .before .all-rise .ensures) ∙ c .if5 .taken)
+    past-rules p ∙ yes-here _ 7 0 _ (asks-windows (constraints (s₄ p)) ∙ sym (c .before .all-rise .ensures) ∙ c .if5 .taken)
 
 past-stretches : (c : tie.Then6) → left 0 (s₆ c) ≡ left 6 (s₆ c)
 past-stretches c =
-    let e = asks-stretches (plain (s₆ c)) (agreed (t₁ c)) in
+    let e = asks-stretches (constraints (s₆ c)) (agreed (t₁ c)) in
     past-windows (c .before .before) ∙ yes-here _ 7 0 _ (e ∙ sym (c .before .all-rise2 .ensures) ∙ c .if6 .taken)
 
 past-loaders : (c : tie.Then7) → left 0 (s₇ c) ≡ left 7 (s₇ c)
@@ -95,28 +95,28 @@ past-loaders c = past-stretches (c .before .before) ∙ yes-here _ 16 0 _ (sym (
 returns-2 : tie.Need-returns-2
 returns-2 c =
     let p : tie.Then1 = c .before .before in
-    sym (past-lists p ∙ no-here _ 6 0 _ (asks-span (plain (s₁ p)) ∙ sym (c .before .is-span .ensures) ∙ c .if2 .left))
+    sym (past-lists p ∙ no-here _ 6 0 _ (asks-span (constraints (s₁ p)) ∙ sym (c .before .is-span .ensures) ∙ c .if2 .left))
 
 returns-3 : tie.Need-returns-3
 returns-3 c =
     let p : tie.Then2 = c .before in
-    sym (past-span p ∙ no-here _ 9 0 _ (asks-units (plain (s₂ p)) (agreed (p .before .before)) ∙ lt-leb _ _ (c .if3 .taken)))
+    sym (past-span p ∙ no-here _ 9 0 _ (asks-units (constraints (s₂ p)) (agreed (p .before .before)) ∙ lt-leb _ _ (c .if3 .taken)))
 
 returns-4 : tie.Need-returns-4
 returns-4 c =
     let p : tie.Else3 = c .before in
-    sym (past-units p ∙ no-here _ 10 0 _ (asks-rules (plain (s₂ (p .before))) (agreed (p .before .before .before)) ∙ lt-leb _ _ (c .if4 .taken)))
+    sym (past-units p ∙ no-here _ 10 0 _ (asks-rules (constraints (s₂ (p .before))) (agreed (p .before .before .before)) ∙ lt-leb _ _ (c .if4 .taken)))
 
 returns-5 : tie.Need-returns-5
 returns-5 c =
     let p : tie.Else4 = c .before .before in
-    sym (past-rules p ∙ no-here _ 7 0 _ (asks-windows (plain (s₄ p)) ∙ sym (c .before .all-rise .ensures) ∙ c .if5 .left))
+    sym (past-rules p ∙ no-here _ 7 0 _ (asks-windows (constraints (s₄ p)) ∙ sym (c .before .all-rise .ensures) ∙ c .if5 .left))
 
 returns-6 : tie.Need-returns-6
 returns-6 c =
     let p : tie.Then5 = c .before .before in
     let q : tie.Else4 = p .before .before in
-    let e = asks-stretches (plain (s₄ q)) (agreed (q .before .before .before .before)) in
+    let e = asks-stretches (constraints (s₄ q)) (agreed (q .before .before .before .before)) in
     sym (past-windows p ∙ no-here _ 7 0 _ (e ∙ sym (c .before .all-rise2 .ensures) ∙ c .if6 .left))
 
 all-new-requires : tie.Need-all-new-requires
@@ -124,7 +124,7 @@ all-new-requires c κs = omega (arith, all-agreed (t₁ c) .0, c .before .before
 
 -- the last question, as it is asked
 counts-asked : (c : tie.After-all-rise3) → countsFit (givenBy (lists (s₇ (c .before)))) ≡ c .all-rise3 .result
-counts-asked c = asks-counts (plain (s₇ (c .before))) (agreed (t₁ (c .before .before .before))) ∙ sym (c .all-rise3 .ensures)
+counts-asked c = asks-counts (constraints (s₇ (c .before))) (agreed (t₁ (c .before .before .before))) ∙ sym (c .all-rise3 .ensures)
 
 pub ask-lists-spec : {M : Type 1} → statement M
 ask-lists-spec = tie.close (tie.spec (λ c κs. search needs) (λ c. sym (no-here _ 13 0 _ (sym (c .before .lists-agree .ensures) ∙ c .if1 .left)))

@@ -3,7 +3,7 @@ use borrow.Author.Needs.{needs}
 use mathlib.Core.Path.{_≡_, sym, ap, _∙_, subst}
 use denote.Ref.{now}
 use Rattle.questions.specs.Questions.{Verdict, allYes, verdictOf}
-use Rattle.sheet.specs.Lists.{WrittenLists, written, givenBy}
+use Rattle.sheet.specs.Lists.{WrittenLists, writtenLists, givenBy}
 use Rattle.plan_ask.specs.Questions.{Rooms, lent, fitsRooms, refusalBy, refusal}
 use Rattle.plan_ask.specs.Asking.{fitLengths}
 use Rattle.plan_ask.specs.SolvableLaws.{asked-yes, asked-lists}
@@ -15,7 +15,7 @@ use Rattle.print.proofs.print.Tie as tie
 abbrev lists : tie.Start → WrittenLists
 lists c =
     let a = c .args in
-    written (a .span) (now (a .loader)) (now (a .first)) (now (a .last)) (now (a .from)) (now (a .to)) (now (a .low)) (now (a .high))
+    writtenLists (a .span) (now (a .loader)) (now (a .first)) (now (a .last)) (now (a .from)) (now (a .to)) (now (a .low)) (now (a .high))
 
 abbrev before : tie.Start → Rooms
 before c =

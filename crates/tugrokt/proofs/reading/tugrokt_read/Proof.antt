@@ -11,5 +11,5 @@ returns c =
     (c .numbers-of .ensures ∙ ap readingOf (called .ensures .0), called .ensures .1)
 
 pub tugrokt-read-spec : {M : Type 1} → statement M
-tugrokt-read-spec = tie.close (tie.spec (λ c κs. search needs) (λ c κs. search needs) (λ c. search needs) (λ c. search needs) (λ c. search needs) (λ c. search needs)
-    (λ c. search needs) (λ c. search needs) (λ c. search needs) returns)
+tugrokt-read-spec = tie.close (tie.spec (λ c κs. search needs) (λ c κs. search needs) (λ c. search needs) (λ c. search needs) (λ c. search needs)
+    (λ c. search needs) (λ c. search needs) (λ c. search needs) (λ c. search needs) returns)
