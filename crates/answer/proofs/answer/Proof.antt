@@ -16,8 +16,8 @@ use Rattle.answer.proofs.answer.Tie as tie
 -- the lists as the call makes them
 abbrev empty : ListRooms (List ℕ)
 empty =
-    let units = replicate maxUnits 0 in
-    let rules = replicate maxRules 0 in
+    let units : List ℕ = replicate maxUnits 0 in
+    let rules : List ℕ = replicate maxRules 0 in
     rooms units units units rules rules rules rules
 
 sizes : sizesOf empty ≡ roomsForAll
