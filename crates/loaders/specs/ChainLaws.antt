@@ -107,6 +107,32 @@ module _ (ks heads nexts : List ℕ) (n : ℕ) (L : Linked ks n heads nexts) (ro
   pub linked-more : Linked ks (n + 1) heads′ nexts′
   linked-more = record { wide = length-set heads b (n + 1) ∙ L .wide; head = head-more; next = next-more }
 
+-- ---- the chains look at the first n numbers alone, so one more may be written behind them before it is put in front of its chain
+module _ (ks heads nexts : List ℕ) (n k : ℕ) (L : Linked ks n heads nexts) where
+  same-before : (i : ℕ) → i < n → getD (set ks n k) i 0 % chains ≡ getD ks i 0 % chains
+  same-before i h = ap (λ (x : ℕ). x % chains) (getD-set-other ks n i k 0 (omega arith))
+
+  from-same : (m b p : ℕ) → m ≤ n → From ks m b p → From (set ks n k) m b p
+  from-same m b p h f = record {
+    most = f .most;
+    own = λ l. same-before (p - 1) (omega (arith, f .most)) ∙ f .own l;
+    others = λ i l g e. f .others i l g (sym (same-before i (omega arith)) ∙ e);
+  }
+
+  linked-same : Linked (set ks n k) n heads nexts
+  linked-same = record {
+    wide = L .wide;
+    head = λ b h. from-same n b (getD heads b 0) (omega arith) (L .head b h);
+    next = λ j h. subst (λ (b : ℕ). From (set ks n k) j b (getD nexts j 0)) (sym (same-before j h))
+        (from-same j (getD ks j 0 % chains) (getD nexts j 0) (omega arith) (L .next j h));
+  }
+
+  pub linked-written : n < length ks → n < length nexts
+      → Linked (set ks n k) (n + 1) (set heads (k % chains) (n + 1)) (set nexts n (getD heads (k % chains) 0))
+  linked-written a b =
+      subst (λ (x : ℕ). Linked (set ks n k) (n + 1) (set heads (x % chains) (n + 1)) (set nexts n (getD heads (x % chains) 0)))
+      (getD-set-same ks n k 0 a) (linked-more (set ks n k) heads nexts n linked-same b)
+
 -- ---- no number yet: the arrays are as they were made
 pub linked-none : (ks nexts : List ℕ) → Linked ks 0 (replicate chains 0) nexts
 linked-none ks nexts = record {

@@ -3,6 +3,7 @@ ghost use Prim.Native.Nat.{_≤_};
 ghost use lib.ListN.{length};
 ghost use Rattle.questions.specs.Questions.{firstNo, verdictOf};
 ghost use Rattle.network.specs.Table.{maxBoundaries};
+ghost use Rattle.sheet.specs.Questions.{listsAgree};
 ghost use Rattle.sheet.specs.Lists.{writtenLists, givenBy, allAgree};
 ghost use Rattle.plan_ask.specs.Questions.{lent, listQuestions, refusalBy};
 ghost use Rattle.plan_ask.specs.Asking.{lengthsOf, allRising, lengthsFit, fitLengths};
@@ -37,8 +38,31 @@ pub fn lengths_of(
     }
 }
 
-// Question 13; the span is no list.
+// Question 13, of the windows and the rules.
 fn lists_agree(
+    first: &[u16],
+    last: &[u16],
+    from: &[u16],
+    to: &[u16],
+    low: &[u16],
+    high: &[u16],
+) -> bool
+    ensures { λ r. ⌜ r ≡ listsAgree (now (first .entry)) (now (last .entry)) (now (from .entry)) (now (to .entry)) (now (low .entry)) (now (high .entry)) ⌝ }
+{
+    if last.len() != first.len() {
+        return false;
+    }
+    if to.len() != from.len() {
+        return false;
+    }
+    if low.len() != from.len() {
+        return false;
+    }
+    high.len() == from.len()
+}
+
+// Question 13, of all lists; the span is none.
+fn all_agree(
     loader: &[u16],
     first: &[u16],
     last: &[u16],
@@ -53,16 +77,7 @@ fn lists_agree(
     if loader.len() != first.len() {
         return false;
     }
-    if last.len() != first.len() {
-        return false;
-    }
-    if to.len() != from.len() {
-        return false;
-    }
-    if low.len() != from.len() {
-        return false;
-    }
-    high.len() == from.len()
+    lists_agree(first, last, from, to, low, high)
 }
 
 // Questions 7 and 8 are one: least ≤ first ≤ last ≤ most, at each place of two lists.
@@ -121,7 +136,7 @@ pub fn ask_lists(
         ⌜ verdictOf r ≡ firstNo (listQuestions (writtenLists span (now (loader .entry)) (now (first .entry)) (now (last .entry))
         (now (from .entry)) (now (to .entry)) (now (low .entry)) (now (high .entry)))) ⌝ }
 {
-    if lists_agree(loader, first, last, from, to, low, high) {} else {
+    if all_agree(loader, first, last, from, to, low, high) {} else {
         return Checked::No(Refusal {
             number: 13,
             line: 0,

@@ -1,20 +1,20 @@
 -- The laws that the steps of one line rest on.
--- Key idea: numbers written one after the other are a list set from a place on; and no number written changes nothing. The chains look at the numbers of
--- the units so far alone, so that one more may be written before it is put in front of its chain.
-use Prim.Native.Nat.{ℕ, suc, _+_, _-_, _*_, _%_, _≤_, _<_}
+-- Key idea: numbers written one after the other are a list set from a place on; and no number written changes nothing. A line that is no unit leaves the
+-- chains of loader numbers, and a unit puts its number in front of one.
+use Prim.Native.Nat.{ℕ, suc, _+_, _*_, _%_, _<_}
 use mathlib.Core.Path.{_≡_, refl, sym, ap, subst, _∙_}
 use mathlib.Core.Bool.{Bool, true, false, not, cond}
 use mathlib.Core.List.{List, [], _∷_}
 use native.Mathlib.Numerals.{add-one}
 use native.Mathlib.Omega.{arith}
 use lib.ListN.{length, getD, set, length-set}
-use lib.Seq.{sets, getD-set-same, getD-set-other}
+use lib.Seq.{sets}
 use lib.Dec.{eqb, ltb}
 use Rattle.sheet.specs.Sizes.{maxUnits, maxRules}
 use Rattle.sheet.specs.Questions.{isSpan, isStretch, isCount}
 use Rattle.sheet.specs.declared.Sheet.{Sheet}
-use Rattle.loaders.specs.Chains.{chains, From, Linked}
-use Rattle.loaders.specs.ChainLaws.{linked-more}
+use Rattle.loaders.specs.Chains.{chains}
+use Rattle.loaders.specs.ChainLaws.{linked-written}
 use Rattle.read_line.specs.declared.Line.{Line}
 use Rattle.read_line.specs.declared.Line.the-variants as Line
 use Rattle.read_ask.specs.Steps.{stepOf, loaderPart, unitPart, rulePart, keptBy, counted, Chained, ChainedBy}
@@ -73,32 +73,6 @@ module _ (s : Sheet) (numbers heads nexts : List ℕ) (c : Chained s numbers hea
       go true true false t₁₀ = tt
       go true false t₈ t₁₀ = tt
       go false t₇ t₈ t₁₀ = tt
-
--- a number written past those in the chains, and then put in front of its own
-module _ (ks heads nexts : List ℕ) (n k : ℕ) (L : Linked ks n heads nexts) where
-  same-before : (i : ℕ) → i < n → getD (set ks n k) i 0 % chains ≡ getD ks i 0 % chains
-  same-before i h = ap (λ (x : ℕ). x % chains) (getD-set-other ks n i k 0 (omega arith))
-
-  from-same : (m b p : ℕ) → m ≤ n → From ks m b p → From (set ks n k) m b p
-  from-same m b p h f = record {
-    most = f .most;
-    own = λ l. same-before (p - 1) (omega (arith, f .most)) ∙ f .own l;
-    others = λ i l g e. f .others i l g (sym (same-before i (omega arith)) ∙ e);
-  }
-
-  linked-same : Linked (set ks n k) n heads nexts
-  linked-same = record {
-    wide = L .wide;
-    head = λ b h. from-same n b (getD heads b 0) (omega arith) (L .head b h);
-    next = λ j h. subst (λ (b : ℕ). From (set ks n k) j b (getD nexts j 0)) (sym (same-before j h))
-        (from-same j (getD ks j 0 % chains) (getD nexts j 0) (omega arith) (L .next j h));
-  }
-
-  linked-written : n < length ks → n < length nexts
-      → Linked (set ks n k) (n + 1) (set heads (k % chains) (n + 1)) (set nexts n (getD heads (k % chains) 0))
-  linked-written a b =
-      subst (λ (x : ℕ). Linked (set ks n k) (n + 1) (set heads (x % chains) (n + 1)) (set nexts n (getD heads (x % chains) 0)))
-      (getD-set-same ks n k 0 a) (linked-more (set ks n k) heads nexts n linked-same b)
 
 -- a unit more
 pub unit-chained : (s : Sheet) (numbers heads nexts heads′ nexts′ : List ℕ) (k : ℕ) → Chained s numbers heads nexts → s .units < maxUnits

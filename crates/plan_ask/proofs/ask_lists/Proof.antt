@@ -53,17 +53,17 @@ abbrev t₁ : tie.Then6 → tie.Then1
 t₁ c = c .before .before .before .before .before .before .before .before
 
 -- ---- the questions that are left there
-lists-agree : (c : tie.Then1) → allAgree (lists (s₁ c)) ≡ true
-lists-agree c = sym (c .before .lists-agree .ensures) ∙ c .if1 .taken
+agree-all : (c : tie.Then1) → allAgree (lists (s₁ c)) ≡ true
+agree-all c = sym (c .before .all-agree .ensures) ∙ c .if1 .taken
 
 all-agreed : (c : tie.Then1) → let l = lists (s₁ c) in (length (l .loader) ≡ length (l .constraints .first)) × T (agree (l .constraints))
-all-agreed c = all-agree-read (lists (s₁ c)) (subst T (sym (lists-agree c)) tt)
+all-agreed c = all-agree-read (lists (s₁ c)) (subst T (sym (agree-all c)) tt)
 
 agreed : (c : tie.Then1) → let l = constraints (s₁ c) in Agree (l .first) (l .last) (l .from) (l .to) (l .low) (l .high)
 agreed c = lists-read (constraints (s₁ c)) (all-agreed c .1)
 
 past-lists : (c : tie.Then1) → left 0 (s₁ c) ≡ left 1 (s₁ c)
-past-lists c = yes-here _ 13 0 _ (lists-agree c)
+past-lists c = yes-here _ 13 0 _ (agree-all c)
 
 past-span : (c : tie.Then2) → left 0 (s₂ c) ≡ left 2 (s₂ c)
 past-span c = past-lists (c .before .before) ∙ yes-here _ 6 0 _ (asks-span (constraints (s₂ c)) ∙ sym (c .before .is-span .ensures) ∙ c .if2 .taken)
@@ -127,7 +127,7 @@ counts-asked : (c : tie.After-all-rise3) → countsFit (givenBy (lists (s₇ (c 
 counts-asked c = asks-counts (constraints (s₇ (c .before))) (agreed (t₁ (c .before .before .before))) ∙ sym (c .all-rise3 .ensures)
 
 pub ask-lists-spec : {M : Type 1} → statement M
-ask-lists-spec = tie.close (tie.spec (λ c κs. search needs) (λ c. sym (no-here _ 13 0 _ (sym (c .before .lists-agree .ensures) ∙ c .if1 .left)))
+ask-lists-spec = tie.close (tie.spec (λ c κs. search needs) (λ c. sym (no-here _ 13 0 _ (sym (c .before .all-agree .ensures) ∙ c .if1 .left)))
     (λ c κs. search needs) returns-2 returns-3 returns-4 (λ c κs. agreed (c .before .before .before .before) .windows) returns-5
     (λ c κs. agreed (c .before .before .before .before .before .before) .stretches) returns-6 all-new-requires
     (λ c. sym (past-stretches (c .before .before) ∙ no-here _ 16 0 _ (sym (c .before .all-new .ensures) ∙ c .if7 .left)))

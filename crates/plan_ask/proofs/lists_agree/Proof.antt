@@ -15,18 +15,10 @@ returns-3 c =
 returns-4 : tie.Need-returns-4
 unfolding listsAgree
 returns-4 c =
-    holds-here _ _ _ (eq-eqb _ _ (c .before .before .before .if1 .left))
-    (holds-here _ _ _ (eq-eqb _ _ (c .before .before .if2 .left))
-    (holds-here _ _ _ (eq-eqb _ _ (c .before .if3 .left)) (fails-here _ _ (ne-eqb _ _ (c .if4 .taken)))))
-
-returns-5 : tie.Need-returns-5
-unfolding listsAgree
-returns-5 c =
-    holds-here _ _ _ (eq-eqb _ _ (c .before .before .before .if1 .left))
-    (holds-here _ _ _ (eq-eqb _ _ (c .before .before .if2 .left))
-    (holds-here _ _ _ (eq-eqb _ _ (c .before .if3 .left)) (holds-here _ _ _ (eq-eqb _ _ (c .if4 .left)) refl)))
+    holds-here _ _ _ (eq-eqb _ _ (c .before .before .if1 .left))
+    (holds-here _ _ _ (eq-eqb _ _ (c .before .if2 .left)) (holds-here _ _ _ (eq-eqb _ _ (c .if3 .left)) refl))
 
 pub lists-agree-spec : {M : Type 1} → statement M
 unfolding listsAgree
 lists-agree-spec = tie.close (tie.spec (λ c. fails-here _ _ (ne-eqb _ _ (c .if1 .taken)))
-    (λ c. holds-here _ _ _ (eq-eqb _ _ (c .before .if1 .left)) (fails-here _ _ (ne-eqb _ _ (c .if2 .taken)))) returns-3 returns-4 returns-5)
+    (λ c. holds-here _ _ _ (eq-eqb _ _ (c .before .if1 .left)) (fails-here _ _ (ne-eqb _ _ (c .if2 .taken)))) returns-3 returns-4)
