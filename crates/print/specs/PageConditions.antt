@@ -68,11 +68,11 @@ module _ (l : WrittenLists) (before : Rooms) (page : List ℕ) (at : ℕ) (reply
   first-no = plans.number-is-first-no l before (call .answer) (call .planned) (call .call)
 
   -- what the lists of a call that planning's questions do not refuse are; they have a unit for each loader number
-  listed : refusal l before ≡ allYes → Listed l
-  listed = asked-lists l (fitsRooms s before)
+  passes : refusal l before ≡ allYes → Listed l
+  passes = asked-lists l (fitsRooms s before)
 
   as-many : refusal l before ≡ allYes → length ks ≡ n
-  as-many y = listed y .as-many ∙ sym (units-length (l .constraints) (lists-read (l .constraints) (listed y .lists)))
+  as-many y = passes y .as-many ∙ sym (units-length (l .constraints) (lists-read (l .constraints) (passes y .lists)))
 
   way : Way
   unfolding planBytes ringBytes
@@ -94,12 +94,12 @@ module _ (l : WrittenLists) (before : Rooms) (page : List ℕ) (at : ℕ) (reply
       go (planning.refused q n) e o = refused q n e (o .replied) (o .lent) (o .shown)
       go planning.plan e o =
           let y = sym first-no ∙ ap planning.refusalOf e in
-          asked says.plan (planBytes ks s) y (plan-short s (listed y .sheet) ks (listed y .loaders)) (plan e) (holds page at (planBytes ks s)) refl o
+          asked says.plan (planBytes ks s) y (plan-short s (passes y .sheet) ks (passes y .loaders)) (plan e) (holds page at (planBytes ks s)) refl o
       go (planning.none k) e o =
           let y = sym first-no ∙ ap planning.refusalOf e in
           let ring = take k (call .planned .ring) in
           let closed = plans.ring-at l before (call .answer) (call .planned) (call .call) k e in
-          asked (says.none k) (ringBytes s ring) y (none-short s (listed y .sheet) ring closed) (none k e) (holds page at (ringBytes s ring)) refl o
+          asked (says.none k) (ringBytes s ring) y (none-short s (passes y .sheet) ring closed) (none k e) (holds page at (ringBytes s ring)) refl o
 
   -- ---- 1. Ground. (That a call ends and does nothing undefined is what the checker asks of every function; `print` has no `requires`.)
 
@@ -171,7 +171,7 @@ module _ (l : WrittenLists) (before : Rooms) (page : List ℕ) (at : ℕ) (reply
           let lines : readLines (planBytes ks s) ≡ answerOn left at next = sym (ap (answerOn left at) (sym place) ∙ answer-read (h .room) (h .written)) in
           subst (λ x. PlanPage ks s x (answerOn left at next)) slots
           (subst (PlanPage ks s (printedPlan s)) lines (plan-page ks s (entry (boundaries s) (P .table)) (P .solved)
-          (listed y .loaders) (as-many y)))
+          (passes y .loaders) (as-many y)))
       go (none k a h) = let r = h .replied in let z : _≡_ {A = ℕ} 0 1 = cc in absurd (omega arith)
       go (full y short r e p) = let z : _≡_ {A = ℕ} 0 1 = cc in absurd (omega arith)
 
