@@ -1,7 +1,7 @@
 -- The laws of question 16: numbers that pass it are loader numbers, and no two of them are the same.
 -- Key idea: each number is new after those before it, so at each place of a list what is left to ask gives the whole answer.
 use mathlib.Core.Path.{_≡_, sym, ap, subst, _∙_}
-use mathlib.Core.Bool.{Bool, true, false, _&&_, not, and-assoc}
+use mathlib.Core.Bool.{true, false, _&&_, not, and-assoc}
 use mathlib.Core.List.{List, [], _∷_, _++_, append-nil, append-assoc}
 use Prim.Native.Nat.{ℕ, suc, _+_, _≤_, _<_}
 use native.Mathlib.Omega.{arith}

@@ -1,9 +1,7 @@
 -- The numbers before place j are in their chains, so the first that is not new decides.
-use Prim.Native.Nat.{_+_, _-_, _≤_, _<_}
-use mathlib.Core.Path.{_≡_, refl, sym, _∙_, subst}
-use mathlib.Core.List.{List}
+use Prim.Native.Nat.{_-_, _≤_, _<_}
+use mathlib.Core.Path.{_≡_, refl, sym, _∙_}
 use native.Mathlib.Omega.{arith}
-use borrow.Author.Needs.{needs}
 use lib.ListN.{length, take, drop}
 use Rattle.sheet.specs.Sizes.{maxUnits}
 use Rattle.sheet.specs.Questions.{loadersFit, allNew}
