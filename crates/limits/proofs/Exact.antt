@@ -19,7 +19,7 @@ use Rattle.sheet.specs.Sheet.{Window}
 use Rattle.sheet.specs.Questions.{windowsOf}
 use Rattle.sheet.specs.QuestionLaws.{windowsOf-length}
 use Rattle.limits.specs.LimitTable.{WindowsFit, exactly, exactWeights}
-use Rattle.limits.specs.InsideLaws.{howMany-most}
+use Rattle.lists.specs.Counts.{howMany-most}
 use Rattle.limits.specs.LentTableLaws.{TableFilled, filled-set, filled-same, place-inside}
 
 exact-here : (x : Window) (ws : List Window) (a b : ℕ) → x .last ≡ a → x .first ≡ suc b

@@ -14,7 +14,8 @@ use Rattle.lists.specs.Lists.{howMany}
 use Rattle.sheet.specs.Sizes.{maxUnits}
 use Rattle.sheet.specs.Sheet.{Window, insideOf}
 use Rattle.limits.specs.LimitTable.{exactly, exactWeights, insideWeights}
-use Rattle.limits.specs.InsideLaws.{WindowsOrdered, endsIn, row-step, column-step, inside-none, exact-none, howMany-most}
+use Rattle.lists.specs.Counts.{howMany-most}
+use Rattle.limits.specs.InsideLaws.{WindowsOrdered, endsIn, row-step, column-step, inside-none, exact-none}
 use Rattle.limits.specs.LentTableLaws.{TableFilled, place-inside, rows-apart}
 use Rattle.limits.proofs.Sweep.{Swept, swept-first, swept-row, swept-set}
 

@@ -11,7 +11,7 @@ use lib.Dec.{T, leb, eqb, leb→le, eqb→eq}
 use lib.ListN.{length, getD}
 use borrow.Author.Tests.{le-leb, lt-leb, eq-eqb, ne-eqb}
 use Rattle.lists.specs.Lists.{oneIf, howMany}
-use Rattle.lists.specs.Counts.{howMany-count, count-empty, count-most}
+use Rattle.lists.specs.Counts.{howMany-count, count-empty}
 use Rattle.lists.specs.Members.{left, right}
 use Rattle.sheet.specs.Sheet.{Window, insideOf, noWindow}
 use Rattle.limits.specs.LimitTable.{WindowsFit, exactly}
@@ -21,10 +21,6 @@ use Rattle.sheet.specs.QuestionLaws.{windowsOf-length, windowsOf-at}
 -- the window starts after boundary b and ends in slot a
 abbrev pub endsIn : ℕ → ℕ → Window → Bool
 endsIn b a w = leb (suc b) (w .first) && eqb (w .last) a
-
--- no more are counted than there are
-pub howMany-most : (t : Window → Bool) (ws : List Window) → howMany t ws ≤ length ws
-howMany-most t ws = omega (arith, howMany-count t noWindow ws, count-most (length ws) (λ j. t (getD ws j noWindow)))
 
 -- ---- one step of each sum
 starts-split : (b f : ℕ) (e : Bool) → oneIf (leb (suc b) f && e) ≡ oneIf (leb (suc (suc b)) f && e) + oneIf (eqb f (suc b) && e)

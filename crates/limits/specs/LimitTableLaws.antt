@@ -19,7 +19,7 @@ use Rattle.sheet.specs.Questions.{windowsOf, rulesOf, sheetOf, listsAgree, acce
 use Rattle.sheet.specs.QuestionLaws.{Agree, listsAgree-read, windowsOf-length, windowsOf-at, rulesOf-length, rulesOf-at}
 use Rattle.sheet.specs.QuestionLaws.{accepted-sized, accepted-valid}
 use Rattle.limits.specs.LimitTable.{WindowsFit, Fillable, limitTable}
-use Rattle.limits.specs.InsideLaws.{howMany-most}
+use Rattle.lists.specs.Counts.{howMany-most}
 
 in-at : (d : Rule) (rs : List Rule) (k : ℕ) → k < length rs → In (getD rs k d) rs
 in-at d [] k h = absurd (omega arith)

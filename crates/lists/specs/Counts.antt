@@ -115,6 +115,11 @@ unfolding count
 howMany-count t d [] = refl
 howMany-count t d (x ∷ xs) = omega (arith, howMany-count t d xs, count-front (length xs) (λ j. t (getD (x ∷ xs) j d)))
 
+-- no more are counted than there are
+pub howMany-most : {A : Type 0} (t : A → Bool) (xs : List A) → howMany t xs ≤ length xs
+howMany-most t [] = omega arith
+howMany-most t (x ∷ xs) = omega (arith, oneIf-most (t x), howMany-most t xs)
+
 pub oneIf-split : (p q r : Bool) → (T p → T q ⊎ T r) → (T q → T p) → (T r → T p) → (T q → T r → ⊥) → oneIf p ≡ oneIf q + oneIf r
 oneIf-split true true true f g h k = absurd (k tt tt)
 oneIf-split true true false f g h k = refl

@@ -15,7 +15,7 @@ use Rattle.network.specs.declared.Outcome.the-variants.{Finished, Stoppe
 
 -- the largest number of boundaries
 abbrev pub maxBoundaries : ℕ
-maxBoundaries = 49
+maxBoundaries = 50
 
 -- the table of w boundaries whose entry (a, b) is f a b
 abbrev pub tableOf : ℕ → Weights → List ℤ

@@ -7,7 +7,7 @@ ghost use Rattle.network.specs.RowStep.{stretch, relaxed, fallsIn, SumsF
 ghost use Rattle.network.specs.Bounds.{Small, Limited, StaysSmall};
 
 // The largest number of boundaries, as sheets have them (sheet/specs/Sizes.antt ties the two).
-pub const MAX_BOUNDARIES: usize = 49;
+pub const MAX_BOUNDARIES: usize = 50;
 
 // The row step takes this many columns at a time, whole vectors of the machine; the last stretch of a row is shorter.
 const STRETCH: usize = 32;

@@ -22,8 +22,8 @@ lengthsOf r = record {
   ring = length (r .ring);
 }
 
-unfoldable pub allRising : ℕ → ℕ → List ℕ → List ℕ → Bool
-allRising least most fs ls = every (λ w. rising least most (w .first) (w .last)) (windowsOf fs ls)
+unfoldable pub allRising : ℕ → ℕ → ℕ → List ℕ → List ℕ → Bool
+allRising least start most fs ls = every (λ w. rising least start most (w .first) (w .last)) (windowsOf fs ls)
 
 unfoldable pub lengthsFit : ℕ → ℕ → Lengths → Bool
 lengthsFit w n r = leb (w * w) (r .table) && (leb n (r .plan) && (leb n (r .earliest) && (leb n (r .latest) && leb w (r .ring))))

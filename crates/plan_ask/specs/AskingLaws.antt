@@ -12,7 +12,7 @@ use lib.Seq.{drop-cons}
 use borrow.Author.Tests.{eq-eqb}
 use Rattle.lists.specs.Lists.{every}
 use Rattle.lists.specs.Members.{both, left, right}
-use Rattle.sheet.specs.Sizes.{maxSlots, maxUnits, maxRules, maxCount, boundariesOf}
+use Rattle.sheet.specs.Sizes.{maxSlots, maxUnits, maxRules, maxCount, carriedPlace, boundariesOf}
 use Rattle.sheet.specs.Sheet.{Window, top, noWindow}
 use Rattle.sheet.specs.Questions.{windowsOf, rulesOf, sheetOf, isSpan, rising, spanFits, unitsFit, rulesFit, windowsFit, stretchesFit, countsFit, accepted}
 use Rattle.sheet.specs.Lists.{Lists, given, agree, WrittenLists, allAgree}
@@ -23,28 +23,28 @@ use Rattle.plan_ask.specs.declared.Lengths.{Lengths}
 
 -- ---- the loop over two lists: what is left to ask gives the whole answer
 
-unfoldable pub risingFrom : ℕ → ℕ → List ℕ → List ℕ → ℕ → Bool
-risingFrom least most fs ls j = every (λ w. rising least most (w .first) (w .last)) (drop j (windowsOf fs ls))
+unfoldable pub risingFrom : ℕ → ℕ → ℕ → List ℕ → List ℕ → ℕ → Bool
+risingFrom least start most fs ls j = every (λ w. rising least start most (w .first) (w .last)) (drop j (windowsOf fs ls))
 
-module _ (least most : ℕ) (fs ls : List ℕ) (e : length ls ≡ length fs) where
+module _ (least start most : ℕ) (fs ls : List ℕ) (e : length ls ≡ length fs) where
   rising-here : (j : ℕ) → j < length fs
-      → risingFrom least most fs ls j ≡ (rising least most (getD fs j 0) (getD ls j 0) && risingFrom least most fs ls (suc j))
+      → risingFrom least start most fs ls j ≡ (rising least start most (getD fs j 0) (getD ls j 0) && risingFrom least start most fs ls (suc j))
   unfolding risingFrom
   rising-here j h =
-      ap (every (λ w. rising least most (w .first) (w .last))) (drop-cons (windowsOf fs ls) j noWindow (omega (arith, windowsOf-length fs ls e)))
-      ∙ ap (λ (w : Window). rising least most (w .first) (w .last) && risingFrom least most fs ls (suc j)) (windowsOf-at fs ls e j h)
+      ap (every (λ w. rising least start most (w .first) (w .last))) (drop-cons (windowsOf fs ls) j noWindow (omega (arith, windowsOf-length fs ls e)))
+      ∙ ap (λ (w : Window). rising least start most (w .first) (w .last) && risingFrom least start most fs ls (suc j)) (windowsOf-at fs ls e j h)
 
-  pub rising-next : (j : ℕ) → j < length fs → rising least most (getD fs j 0) (getD ls j 0) ≡ true
-      → risingFrom least most fs ls j ≡ risingFrom least most fs ls (j + 1)
-  rising-next j h t = rising-here j h ∙ ap₂ (λ b k. b && risingFrom least most fs ls k) t (omega arith)
+  pub rising-next : (j : ℕ) → j < length fs → rising least start most (getD fs j 0) (getD ls j 0) ≡ true
+      → risingFrom least start most fs ls j ≡ risingFrom least start most fs ls (j + 1)
+  rising-next j h t = rising-here j h ∙ ap₂ (λ b k. b && risingFrom least start most fs ls k) t (omega arith)
 
-  pub rising-stop : (j : ℕ) → j < length fs → rising least most (getD fs j 0) (getD ls j 0) ≡ false → risingFrom least most fs ls j ≡ false
-  rising-stop j h t = rising-here j h ∙ ap (λ b. b && risingFrom least most fs ls (suc j)) t
+  pub rising-stop : (j : ℕ) → j < length fs → rising least start most (getD fs j 0) (getD ls j 0) ≡ false → risingFrom least start most fs ls j ≡ false
+  rising-stop j h t = rising-here j h ∙ ap (λ b. b && risingFrom least start most fs ls (suc j)) t
 
-  pub rising-end : (j : ℕ) → length fs ≤ j → risingFrom least most fs ls j ≡ true
+  pub rising-end : (j : ℕ) → length fs ≤ j → risingFrom least start most fs ls j ≡ true
   unfolding risingFrom
   rising-end j h =
-      ap (every (λ w. rising least most (w .first) (w .last)))
+      ap (every (λ w. rising least start most (w .first) (w .last)))
       (drop-of-length-le (windowsOf fs ls) {i = j} (omega (arith, windowsOf-length fs ls e)))
 
 -- ---- each question, as the code asks it
@@ -98,8 +98,8 @@ module _ (l : Lists) where
   unfolding spanFits sheetOf
   asks-span = refl
 
-  pub asks-windows : windowsFit (given l) ≡ allRising 1 (l .span) (l .first) (l .last)
-  unfolding windowsFit sheetOf top allRising
+  pub asks-windows : windowsFit (given l) ≡ allRising 1 (l .span) (carriedPlace (l .span)) (l .first) (l .last)
+  unfolding windowsFit sheetOf allRising
   asks-windows = refl
 
   module _ (a : Agree (l .first) (l .last) (l .from) (l .to) (l .low) (l .high)) where
@@ -119,13 +119,13 @@ module _ (l : Lists) where
     unfolding rulesFit
     asks-rules = ap (λ n. leb n maxRules) rules-length
 
-    pub asks-stretches : stretchesFit (given l) ≡ allRising 1 (l .span) (l .from) (l .to)
+    pub asks-stretches : stretchesFit (given l) ≡ allRising 1 (l .span) (l .span) (l .from) (l .to)
     unfolding stretchesFit sheetOf allRising
-    asks-stretches = stretches-as-windows (rising 1 (l .span)) (l .from) (l .to) (l .low) (l .high) (a .stretches) (a .lows) (a .highs)
+    asks-stretches = stretches-as-windows (rising 1 (l .span) (l .span)) (l .from) (l .to) (l .low) (l .high) (a .stretches) (a .lows) (a .highs)
 
-    pub asks-counts : countsFit (given l) ≡ allRising 0 maxCount (l .low) (l .high)
+    pub asks-counts : countsFit (given l) ≡ allRising 0 maxCount maxCount (l .low) (l .high)
     unfolding countsFit sheetOf allRising
-    asks-counts = counts-as-windows (rising 0 maxCount) (l .from) (l .to) (l .low) (l .high) (a .stretches) (a .lows) (a .highs)
+    asks-counts = counts-as-windows (rising 0 maxCount maxCount) (l .from) (l .to) (l .low) (l .high) (a .stretches) (a .lows) (a .highs)
 
     pub asks-rooms : (r : Lengths)
         → fitLengths (given l) r ≡ lengthsFit (boundariesOf (l .span)) (length (l .first)) r

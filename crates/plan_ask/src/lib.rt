@@ -80,14 +80,14 @@ fn all_agree(
     lists_agree(first, last, from, to, low, high)
 }
 
-// Questions 7 and 8 are one: least ≤ first ≤ last ≤ most, at each place of two lists.
-fn all_rise(least: usize, most: usize, first: &[u16], last: &[u16]) -> bool
+// Questions 7 and 8 are one, asked at each place of two lists: is the first from least to start, and the last from the first to most?
+fn all_rise(least: usize, start: usize, most: usize, first: &[u16], last: &[u16]) -> bool
     requires { ⌜ length (now last) ≡ length (now first) ⌝ }
-    ensures { λ r. ⌜ r ≡ allRising least most (now (first .entry)) (now (last .entry)) ⌝ }
+    ensures { λ r. ⌜ r ≡ allRising least start most (now (first .entry)) (now (last .entry)) ⌝ }
 {
     let mut j: usize = 0;
     while j < first.len() {
-        if sheet::rises(least, most, first[j] as usize, last[j] as usize) {
+        if sheet::rises(least, start, most, first[j] as usize, last[j] as usize) {
             j += 1;
         } else {
             return false;
@@ -154,10 +154,10 @@ pub fn ask_lists(
             line: 0,
         });
     }
-    if all_rise(1, span, first, last) {} else {
+    if all_rise(1, span, sheet::carried_place(span), first, last) {} else {
         return Checked::No(Refusal { number: 7, line: 0 });
     }
-    if all_rise(1, span, from, to) {} else {
+    if all_rise(1, span, span, from, to) {} else {
         return Checked::No(Refusal { number: 7, line: 0 });
     }
     if loaders::all_new(loader) {} else {
@@ -166,7 +166,7 @@ pub fn ask_lists(
             line: 0,
         });
     }
-    if all_rise(0, sheet::Sheet::MAX_COUNT, low, high) {
+    if all_rise(0, sheet::Sheet::MAX_COUNT, sheet::Sheet::MAX_COUNT, low, high) {
         Checked::Yes
     } else {
         Checked::No(Refusal { number: 8, line: 0 })

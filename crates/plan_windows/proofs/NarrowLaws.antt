@@ -23,7 +23,7 @@ use Rattle.sheet.specs.Sizes.{maxUnits}
 use Rattle.sheet.specs.Sheet.{Window, Sheet, noWindow, top, insideOf, limit, atLeast, earliest, latest, earliestSlots, latestSlots}
 use Rattle.sheet.specs.PlanLaws.{lawful-iff}
 use Rattle.sheet.specs.LimitLaws.{limit-fwd, limit-back, limit-same, atMost-n}
-use Rattle.limits.specs.InsideLaws.{howMany-most}
+use Rattle.lists.specs.Counts.{howMany-most}
 use Rattle.limits.specs.LimitTable.{WindowsFit, insideWeights}
 use Rattle.sheet.specs.Questions.{windowsOf}
 use Rattle.sheet.specs.QuestionLaws.{windowsOf-length, windowsOf-at}

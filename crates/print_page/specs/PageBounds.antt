@@ -12,10 +12,10 @@ use lib.Dec.{T, eqb}
 use lib.ListN.{length, getD, length-append, List·getD-eq-default}
 use lib.IntN.{ℤ, _+ℤ_}
 use Rattle.integers.specs.Parts.{up, dn, sum, neg, apart}
-use Rattle.lists.specs.Lists.{run, joined, least, greatest}
+use Rattle.lists.specs.Lists.{run, within, joined, least, greatest}
 use Rattle.lists.specs.Members.{In, in-keep, in-map}
 use Rattle.lists.specs.Extremes.{least-in, greatest-in}
-use Rattle.lists.specs.Counts.{howMany-count, count-most}
+use Rattle.lists.specs.Counts.{howMany-most}
 use Rattle.network.specs.Network.{Weights, via}
 use Rattle.network.specs.NetworkLaws.{Upto, distinct-length, cycle-read}
 use Rattle.network.specs.Table.{maxBoundaries}
@@ -23,7 +23,6 @@ use Rattle.sheet.specs.Sizes.{maxSlots, maxUnits, maxCount, maxLoader}
 use Rattle.sheet.specs.Sheet.{Sheet, top, limit, isRing, countIn, lawfulPlans, leastIn, greatestIn, earliest, latest}
 use Rattle.sheet.specs.Sheet.{earliestSlots, latestSlots, soonest, fair, printedPlans, printedPlan, headOr}
 use Rattle.sheet.specs.PlanLaws.{in-lawfulPlans-iff}
-use Rattle.sheet.specs.LimitLaws.{countIn-length}
 use Rattle.limits.specs.LimitTableLaws.{limit-small}
 use Rattle.sheet.specs.Questions.{accepted, loadersFit}
 use Rattle.sheet.specs.LoaderLaws.{loader-size}
@@ -103,9 +102,8 @@ module _ {span : ℕ} {loader slots first last : List ℕ} {low high : ℕ → �
         lines-short (slotLineAt (unitsAt slots) low high) maxSlotLine 1 (suc span - 1)
             (λ t p q.
             let b = s .ranges t in
-            let c = howMany-count (eqb t) 0 slots in
             slotLine-short t (unitsAt slots t) (low t) (high t) (omega (arith, s .spans))
-            (omega (arith, c, count-most (length slots) (λ i. eqb t (getD slots i 0)), s .units)) (omega arith) (omega arith)),
+            (omega (arith, howMany-most (eqb t) slots, s .units)) (omega arith) (omega arith)),
       )
 
   pub planPage-short : length (planPage span loader slots first last low high) ≤ maxPage
@@ -159,7 +157,7 @@ module _ (s : Sheet) (ok : T (accepted s)) where
       ]
 
   count-small : (f t : ℕ) (x : List ℕ) → In x (lawfulPlans s) → countIn f t x ≤ maxUnits
-  count-small f t x m = omega (arith, countIn-length f t x, in-lawfulPlans-iff s x .0 m .seated .size, accepted-sized s ok .units)
+  count-small f t x m = omega (arith, howMany-most (within f t) x, in-lawfulPlans-iff s x .0 m .seated .size, accepted-sized s ok .units)
 
   -- the printed plan is lawful, or there is none
   printed : (printedPlan s ≡ []) ⊎ In (printedPlan s) (lawfulPlans s)

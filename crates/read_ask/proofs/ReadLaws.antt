@@ -17,7 +17,7 @@ use Rattle.questions.specs.Questions.{Question, ask, Verdict, no, allYes, first
 use Rattle.questions.specs.FirstNoLaws.{first-then}
 use Rattle.sheet.specs.Sizes.{maxSlots, maxUnits, maxRules}
 use Rattle.sheet.specs.Sheet.{loaders}
-use Rattle.sheet.specs.Questions.{isSpan, isStretch, isCount, isNew}
+use Rattle.sheet.specs.Questions.{isSpan, isStretch, isWindow, isCount, isNew}
 use Rattle.sheet.specs.declared.Sheet.{Sheet}
 use Rattle.forms.specs.Form.{printable, plain, value}
 use Rattle.lists.specs.Members.{and-left}
@@ -149,8 +149,9 @@ module _ (s : Sheet) (before : List Content) (c : Matches s before) (n : ℕ) (w
   abbrev stepped : Line → Step
   stepped line = stepOf (loadersIn before) s line
 
-  stretch-same : (f l : ℕ) → isStretch (spanIn before) f l ≡ isStretch (s .span) f l
-  stretch-same f l = ap (λ (p : ℕ). isStretch p f l) (sym (c .span))
+  -- a test of the span of the lines before is one of the sheet so far
+  span-same : (test : ℕ → Bool) → test (spanIn before) ≡ test (s .span)
+  span-same test = ap test (sym (c .span))
 
   note-later : Verdicts (stepped Line.Note) Line.Note before note n (later note) w
   unfolding stepOf unitsIn rulesIn unitStream ruleStream
@@ -177,9 +178,9 @@ module _ (s : Sheet) (before : List Content) (c : Matches s before) (n : ℕ) (w
   unfolding stepOf unitsIn rulesIn unitStream ruleStream
   unit-later k f l =
       same-verdict before n w (counted (s .span) (s .units + 1) (s .rules)) (unit k f l) (valuesOf (unit k f l))
-      (not (eqb (s .span) 0)) true (isStretch (s .span) (value f) (value l)) (isNew (loadersIn before) (value k)) true (ltb (s .units) maxUnits) true
+      (not (eqb (s .span) 0)) true (isWindow (s .span) (value f) (value l)) (isNew (loadersIn before) (value k)) true (ltb (s .units) maxUnits) true
       _ _ _ _
-      (c .sheeted) (stretch-same (value f) (value l)) (nine-more s before c (unit k f l) refl) (ten s before c (unit k f l) refl)
+      (c .sheeted) (span-same (λ p. isWindow p (value f) (value l))) (nine-more s before c (unit k f l) refl) (ten s before c (unit k f l) refl)
       (λ a b t e. record {
         counts =
             matches-more s before c (unit k f l) (s .units + 1) (s .rules) refl (λ p. refl) refl (sym (add-zero (s .rules)))
@@ -195,7 +196,7 @@ module _ (s : Sheet) (before : List Content) (c : Matches s before) (n : ℕ) (w
   rule-later a b lo hi =
       same-verdict before n w (counted (s .span) (s .units) (s .rules + 1)) (rule a b lo hi) (valuesOf (rule a b lo hi))
       (not (eqb (s .span) 0)) true (isStretch (s .span) (value a) (value b)) true (isCount (value lo) (value hi)) true (ltb (s .rules) maxRules) _ _ _ _
-      (c .sheeted) (stretch-same (value a) (value b)) (nine s before c (rule a b lo hi) refl) (ten-more s before c (rule a b lo hi) refl)
+      (c .sheeted) (span-same (λ p. isStretch p (value a) (value b))) (nine s before c (rule a b lo hi) refl) (ten-more s before c (rule a b lo hi) refl)
       (λ y z d t. record {
         counts =
             matches-more s before c (rule a b lo hi) (s .units) (s .rules + 1) refl (λ p. refl) (sym (add-zero (s .units))) refl

@@ -1,7 +1,7 @@
 -- The laws that the steps of one line rest on.
 -- Key idea: numbers written one after the other are a list set from a place on; and no number written changes nothing. A line that is no unit leaves the
 -- chains of loader numbers, and a unit puts its number in front of one.
-use Prim.Native.Nat.{ℕ, suc, _+_, _*_, _%_, _<_}
+use Prim.Native.Nat.{ℕ, suc, _+_, _*_, _%_, _≤_, _<_}
 use mathlib.Core.Path.{_≡_, refl, sym, ap, subst, _∙_}
 use mathlib.Core.Bool.{Bool, true, false, not, cond}
 use mathlib.Core.List.{List, [], _∷_}
@@ -9,8 +9,9 @@ use native.Mathlib.Numerals.{add-one}
 use native.Mathlib.Omega.{arith}
 use lib.ListN.{getD, set, length-set}
 use lib.Seq.{sets}
-use lib.Dec.{eqb, ltb}
-use Rattle.sheet.specs.Sizes.{maxUnits, maxRules}
+use lib.Dec.{T, eqb, ltb}
+use Rattle.lists.specs.Members.{within-iff}
+use Rattle.sheet.specs.Sizes.{maxSlots, maxUnits, maxRules}
 use Rattle.sheet.specs.Questions.{isSpan, isStretch, isCount}
 use Rattle.sheet.specs.declared.Sheet.{Sheet}
 use Rattle.loaders.specs.Chains.{chains}
@@ -49,17 +50,17 @@ module _ (s : Sheet) (numbers heads nexts : List ℕ) (c : Chained s numbers hea
   abbrev Stay : Step → Type 0
   Stay r = ChainedBy r numbers heads nexts
 
-  stay-on : (p r : ℕ) → Stay (On (counted p (s .units) r))
-  stay-on p r = record { few-units = c .few-units; in-numbers = c .in-numbers; in-nexts = c .in-nexts; linked = c .linked }
+  stay-on : (p r : ℕ) → p ≤ maxSlots → Stay (On (counted p (s .units) r))
+  stay-on p r h = record { few-slots = h; few-units = c .few-units; in-numbers = c .in-numbers; in-nexts = c .in-nexts; linked = c .linked }
 
   pub sheet-stays : (p : ℕ) (r : Step) → r ≡ stepOf [] s (Line.Sheet p) → (ks : List ℕ) → (r ≡ stepOf ks s (Line.Sheet p)) × Stay r
   unfolding stepOf
-  sheet-stays p r e ks = (e, subst Stay (sym e) (go (eqb (s .span) 0) (isSpan p)))
+  sheet-stays p r e ks = (e, subst Stay (sym e) (go (eqb (s .span) 0) (isSpan p) (λ t. within-iff 1 maxSlots p .0 t .1)))
     where
-      go : (t₅ t₆ : Bool) → Stay (cond t₅ (cond t₆ (On (counted p (s .units) (s .rules))) (No 6)) (No 5))
-      go true true = stay-on p (s .rules)
-      go true false = tt
-      go false t₆ = tt
+      go : (t₅ t₆ : Bool) → (T t₆ → p ≤ maxSlots) → Stay (cond t₅ (cond t₆ (On (counted p (s .units) (s .rules))) (No 6)) (No 5))
+      go true true h = stay-on p (s .rules) (h tt)
+      go true false h = tt
+      go false t₆ h = tt
 
   pub rule-stays : (a b lo hi : ℕ) (r : Step) → r ≡ stepOf [] s (Line.Rule a b lo hi) → (ks : List ℕ) → (r ≡ stepOf ks s (Line.Rule a b lo hi)) × Stay r
   unfolding stepOf
@@ -68,7 +69,7 @@ module _ (s : Sheet) (numbers heads nexts : List ℕ) (c : Chained s numbers hea
     where
       go : (t₅ t₇ t₈ t₁₀ : Bool)
           → Stay (cond t₅ (cond t₇ (cond t₈ (cond t₁₀ (On (counted (s .span) (s .units) (s .rules + 1))) (No 10)) (No 8)) (No 7)) (No 5))
-      go true true true true = stay-on (s .span) (s .rules + 1)
+      go true true true true = stay-on (s .span) (s .rules + 1) (c .few-slots)
       go true true true false = tt
       go true true false t₁₀ = tt
       go true false t₈ t₁₀ = tt
@@ -81,6 +82,7 @@ pub unit-chained : (s : Sheet) (numbers heads nexts heads′ nexts′ : List ℕ
 unit-chained s numbers heads nexts heads′ nexts′ k c h e f =
     let n = s .units in
     rw (e, f) (record {
+      few-slots = c .few-slots;
       few-units = omega arith;
       in-numbers = omega (arith, length-set numbers n k, c .in-numbers);
       in-nexts = length-set nexts n (getD heads (k % chains) 0) ∙ c .in-nexts;

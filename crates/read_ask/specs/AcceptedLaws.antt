@@ -13,7 +13,7 @@ use Rattle.questions.specs.Questions.{ask, allYes, firstNo, AllYes}
 use Rattle.questions.specs.FirstNoLaws.{yes-every, yes-front, yes-back, yes-at}
 use Rattle.sheet.specs.Sizes.{maxUnits, maxRules, maxBytes}
 use Rattle.sheet.specs.Sheet.{Window, Sheet, constraints, loaders, top}
-use Rattle.sheet.specs.Questions.{isSpan, isStretch, isCount, spanFits, unitsFit, rulesFit, windowsFit, stretchesFit, countsFit, accepted}
+use Rattle.sheet.specs.Questions.{isSpan, isStretch, isWindow, isCount, spanFits, unitsFit, rulesFit, windowsFit, stretchesFit, countsFit, accepted}
 use Rattle.sheet.specs.Questions.{allNew, loadersFit}
 use Rattle.sheet.specs.LoaderLaws.{loaders-more}
 use Rattle.forms.specs.Form.{value}
@@ -44,7 +44,7 @@ record Good (xs : List Content) : Type 0 where
 module _ (xs : List Content) (x : Content) (g : Good xs) (nu : T (leb (length (unitsIn (xs ++ (x ∷ [])))) maxUnits))
     (nr : T (rulesFit (soFar (xs ++ (x ∷ []))))) (nl : T (loadersFit (loadersIn (xs ++ (x ∷ [])))))
     (no-sheet : isSheet x ≡ false) (leaves : (p : ℕ) → spanElse x p ≡ p)
-    (w : T (every (λ v. isStretch (spanIn xs) (v .first) (v .last)) (map (λ u. u .window) (unitOf x))))
+    (w : T (every (λ v. isWindow (spanIn xs) (v .first) (v .last)) (map (λ u. u .window) (unitOf x))))
     (s : T (every (λ r. isStretch (spanIn xs) (r .from) (r .to)) (ruleOf x)))
     (c : T (every (λ r. isCount (r .low) (r .high)) (ruleOf x)))
     (order : hasSheet xs ≡ false → (unitOf x ≡ []) × (ruleOf x ≡ [])) where
@@ -62,7 +62,7 @@ module _ (xs : List Content) (x : Content) (g : Good xs) (nu : T (leb (length (u
         rules = nr;
         loaders = nl;
         windows =
-            rw (span, us, ws) (every-both (λ (v : Window). isStretch (spanIn xs) (v .first) (v .last)) (map (λ u. u .window) (unitsIn xs))
+            rw (span, us, ws) (every-both (λ (v : Window). isWindow (spanIn xs) (v .first) (v .last)) (map (λ u. u .window) (unitsIn xs))
             (map (λ u. u .window) (unitOf x)) (g .windows) w);
         stretches = rw (span, rs) (every-both (λ r. isStretch (spanIn xs) (r .from) (r .to)) (rulesIn xs) (ruleOf x) (g .stretches) s);
         counts = rw rs (every-both (λ r. isCount (r .low) (r .high)) (rulesIn xs) (ruleOf x) (g .counts) c);
@@ -117,7 +117,7 @@ module _ (n : ℕ) (before : List Content) (l : TextLine) (g : Good before) wher
       let new = loaders-more (loadersIn before) (value k) (g .loaders) (yes 7 tt) in
       good-more before (unit k f e) g (yes 9 tt) (yes 10 tt)
       (subst (λ ks. T (loadersFit ks)) (sym (loadersIn-more before (unit k f e))) new) refl (λ p. refl)
-      (both (isStretch (spanIn before) (value f) (value e)) true (yes 6 tt) tt) tt tt (λ k. absurd (subst T k (yes 4 tt)))
+      (both (isWindow (spanIn before) (value f) (value e)) true (yes 6 tt) tt) tt tt (λ k. absurd (subst T k (yes 4 tt)))
   good-line (rule a b lo hi) h =
       let yes = yes-at (questionsOf n before l (rule a b lo hi)) h in
       good-more before (rule a b lo hi) g (yes 9 tt) (yes 10 tt) (same-loaders before (rule a b lo hi) refl g) refl (λ p. refl) tt

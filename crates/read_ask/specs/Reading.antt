@@ -9,7 +9,7 @@ use Rattle.lists.specs.Lists.{every, joined}
 use Rattle.questions.specs.Questions.{Question, ask, Verdict, no, allYes, firstNo}
 use Rattle.sheet.specs.Sizes.{maxUnits, maxRules, maxBytes}
 use Rattle.sheet.specs.Sheet.{Rule, SheetUnit, WrittenSheet}
-use Rattle.sheet.specs.Questions.{isSpan, isStretch, isCount, isNew}
+use Rattle.sheet.specs.Questions.{isSpan, isStretch, isWindow, isCount, isNew}
 use Rattle.forms.specs.Form.{printable, plain, value}
 use Rattle.forms.specs.Lines.{TextLine, lines}
 use Rattle.read_line.specs.Content.{Content, note, sheet, unit, rule, other, contentOf, bracketsMatch, numbersIn}
@@ -104,7 +104,7 @@ spanAllowed other = true
 abbrev pub inSpan : ℕ → Content → Bool
 inSpan span note = true
 inSpan span (sheet p) = true
-inSpan span (unit k f l) = isStretch span (value f) (value l)
+inSpan span (unit k f l) = isWindow span (value f) (value l)
 inSpan span (rule a b lo hi) = isStretch span (value a) (value b)
 inSpan span other = true
 

@@ -84,6 +84,11 @@ samples =
     -- 6, 7, 8
     sample (sheetLine (digit 4 ++ digit 9) ∷ []) (refused 6 1) ∷
     sample (sheetLine (digit 4) ∷ unitLine (digit 1) (digit 4) (digit 3) ∷ []) (refused 7 2) ∷
+    -- a window may end in the carried place; it may not begin there, nor end past it, and a rule may not end there
+    sample (sheetLine (digit 4) ∷ unitLine (digit 1) (digit 4) (digit 5) ∷ []) (read 4 1 0) ∷
+    sample (sheetLine (digit 4) ∷ unitLine (digit 1) (digit 5) (digit 5) ∷ []) (refused 7 2) ∷
+    sample (sheetLine (digit 4) ∷ unitLine (digit 1) (digit 4) (digit 6) ∷ []) (refused 7 2) ∷
+    sample (sheetLine (digit 4) ∷ ruleLine (digit 1) (digit 5) (digit 0) (digit 1) ∷ []) (refused 7 2) ∷
     sample (sheetLine (digit 3) ∷ ruleLine (digit 1) (digit 2) (digit 0) (digit 3 ++ (digit 0 ++ digit 1)) ∷ []) (refused 8 2) ∷
     -- 16: no loader number, and one that is on the line before; 7 before it
     sample (sheetLine (digit 4) ∷ unitLine (digit 0) (digit 1) (digit 2) ∷ []) (refused 16 2) ∷

@@ -8,9 +8,9 @@ use lib.Seq.{sets}
 use lib.Dec.{eqb, ltb}
 use Rattle.lists.specs.Lists.{joined}
 use Rattle.questions.specs.Questions.{firstNo}
-use Rattle.sheet.specs.Sizes.{maxUnits, maxRules}
+use Rattle.sheet.specs.Sizes.{maxSlots, maxUnits, maxRules}
 use Rattle.sheet.specs.Sheet.{SheetUnit, Rule, loaders}
-use Rattle.sheet.specs.Questions.{isSpan, isStretch, isCount, isNew}
+use Rattle.sheet.specs.Questions.{isSpan, isStretch, isWindow, isCount, isNew}
 use Rattle.sheet.specs.declared.Sheet.{Sheet}
 use Rattle.loaders.specs.Chains.{Linked}
 use Rattle.read_line.specs.declared.Line.{Line}
@@ -34,7 +34,7 @@ stepOf ks s Line.Note = On s
 stepOf ks s (Line.Sheet p) =
     cond (eqb (s .span) 0) (cond (isSpan p) (On (counted p (s .units) (s .rules))) (No 6)) (No 5)
 stepOf ks s (Line.Unit k f l) =
-    cond (not (eqb (s .span) 0)) (cond (isStretch (s .span) f l) (cond (isNew ks k)
+    cond (not (eqb (s .span) 0)) (cond (isWindow (s .span) f l) (cond (isNew ks k)
     (cond (ltb (s .units) maxUnits) (On (counted (s .span) (s .units + 1) (s .rules))) (No 9)) (No 16)) (No 7)) (No 5)
 stepOf ks s (Line.Rule a b lo hi) =
     cond (not (eqb (s .span) 0)) (cond (isStretch (s .span) a b) (cond (isCount lo hi)
@@ -83,8 +83,9 @@ keptBy (On s) array at xs = sets array at xs
 
 -- ---- the chains by which a loader number is searched
 
--- The loader numbers so far are in their chains, and there is room for those of every unit that a sheet may have.
+-- The sheet so far is within its sizes, its loader numbers are in their chains, and there is room for those of every unit that a sheet may have.
 pub record Chained (s : Sheet) (numbers heads nexts : List ℕ) : Type 0 where
+  pub few-slots : s .span ≤ maxSlots
   pub few-units : s .units ≤ maxUnits
   pub in-numbers : maxUnits ≤ length numbers
   pub in-nexts : length nexts ≡ maxUnits

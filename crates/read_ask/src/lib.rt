@@ -2,8 +2,8 @@ ghost use mathlib.Core.Path.{_≡_};
 ghost use mathlib.Core.List.{[], _∷_};
 ghost use Prim.Native.Nat.{_*_, _≤_};
 ghost use lib.ListN.{length, take};
-ghost use Rattle.sheet.specs.Sizes.{maxUnits, maxRules};
-ghost use Rattle.sheet.specs.Questions.{isStretch, isCount};
+ghost use Rattle.sheet.specs.Sizes.{maxSlots, maxUnits, maxRules};
+ghost use Rattle.sheet.specs.Questions.{isStretch, isWindow, isCount};
 ghost use Rattle.read_ask.specs.Reading.{replyOf};
 ghost use Rattle.read_ask.specs.Steps.{stepOf, loaderPart, unitPart, rulePart, keptBy, Chained, ChainedBy, passReply, Kept};
 use questions::Refusal;
@@ -21,18 +21,26 @@ pub enum Step {
     On(Sheet),
 }
 
-// Question 7.
-fn is_stretch(span: usize, first: u16, last: u16) -> bool
-    ensures { λ r. ⌜ r ≡ isStretch span first last ⌝ }
+// Question 7 of a window, which may end in the carried place.
+fn is_window(span: usize, first: u16, last: u16) -> bool
+    requires { ⌜ span ≤ maxSlots ⌝ }
+    ensures { λ r. ⌜ r ≡ isWindow span first last ⌝ }
 {
-    sheet::rises(1, span, first as usize, last as usize)
+    sheet::rises(1, span, sheet::carried_place(span), first as usize, last as usize)
+}
+
+// Question 7 of a rule's stretch.
+fn is_stretch(span: usize, from: u16, to: u16) -> bool
+    ensures { λ r. ⌜ r ≡ isStretch span from to ⌝ }
+{
+    sheet::rises(1, span, span, from as usize, to as usize)
 }
 
 // Question 8.
 fn is_count(low: u16, high: u16) -> bool
     ensures { λ r. ⌜ r ≡ isCount low high ⌝ }
 {
-    sheet::rises(0, Sheet::MAX_COUNT, low as usize, high as usize)
+    sheet::rises(0, Sheet::MAX_COUNT, Sheet::MAX_COUNT, low as usize, high as usize)
 }
 
 // Questions 5 and 6.
@@ -74,7 +82,7 @@ fn unit_step(
     if s.span == 0 {
         return Step::No(5);
     }
-    if !is_stretch(s.span, first, last) {
+    if !is_window(s.span, first, last) {
         return Step::No(7);
     }
     if !loaders::is_new(numbers, n, heads, nexts, loader) {

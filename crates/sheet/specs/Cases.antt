@@ -1,4 +1,4 @@
--- P1 to P10 (docs/RULES.md, "Sheets to try"): one list of cases and one claim about the definitions, which the checker computes from the enumeration alone.
+-- P1 to P12 (docs/RULES.md, "Sheets to try"): one list of cases and one claim about the definitions, which the checker computes from the enumeration alone.
 use mathlib.Core.Path.{_≡_, refl}
 use mathlib.Core.Bool.{true}
 use mathlib.Core.List.{List, [], _∷_, map}
@@ -90,6 +90,14 @@ cases =
     ∷ plan (sheet 3 (w 1 3 ∷ w 1 3 ∷ []) (r 2 2 1 1 ∷ r 3 3 1 1 ∷ []))
     (2 ∷ 3 ∷ []) (2 ∷ 2 ∷ []) (3 ∷ 3 ∷ [])
     (0 ∷ 1 ∷ 1 ∷ []) (0 ∷ 1 ∷ 1 ∷ [])
+    -- P11: unit 2 must be carried
+    ∷ plan (sheet 2 (w 1 2 ∷ w 1 3 ∷ []) (r 1 2 0 1 ∷ []))
+    (1 ∷ 3 ∷ []) (1 ∷ 3 ∷ []) (2 ∷ 3 ∷ [])
+    (0 ∷ 0 ∷ []) (1 ∷ 1 ∷ [])
+    -- P12: P4, which has no plan, with windows that reach into the next wave
+    ∷ plan (sheet 3 (w 1 4 ∷ w 1 4 ∷ []) (r 1 3 1 1 ∷ []))
+    (1 ∷ 4 ∷ []) (1 ∷ 1 ∷ []) (4 ∷ 4 ∷ [])
+    (0 ∷ 0 ∷ 0 ∷ []) (1 ∷ 1 ∷ 1 ∷ [])
     ∷ []
 
 -- the first case, whose numbers are new, and the others
@@ -102,4 +110,5 @@ unfolding top lawful lawfulPlans leastIn greatestIn earliest latest earliestSlot
 all-cases-hold =
     also (refl, refl, refl, refl, refl) (also (refl, refl, refl, refl, refl) (also (refl, refl, refl, refl, refl) (also (refl, tt, refl)
     (also (refl, tt, refl) (also (refl, refl, refl, refl, refl) (also (refl, refl, refl, refl, refl) (also (refl, tt, refl)
-    (also (refl, refl, refl, refl, refl) (also (refl, refl, refl, refl, refl) tt)))))))))
+    (also (refl, refl, refl, refl, refl) (also (refl, refl, refl, refl, refl) (also (refl, refl, refl, refl, refl) (also (refl, refl, refl, refl, refl)
+    tt)))))))))))

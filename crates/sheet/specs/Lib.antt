@@ -6,6 +6,7 @@ pub mod LimitLaws
 pub mod PotentialLaws
 pub mod Questions
 pub mod QuestionLaws
+pub mod CarriedLaws
 pub mod LoaderLaws
 pub mod Lists
 pub mod Solved

@@ -12,7 +12,7 @@ use lib.IntN.{ℤ, pos, negℤ}
 use Rattle.lists.specs.Lists.{within, keep, howMany, smallest, largest}
 use Rattle.sheet.specs.Sheet.{Window, Rule, Sheet, countIn, inWindows, insideOf, onStretch, atMost, atLeast, limit}
 use Rattle.lists.specs.Members.{In, both, left, right, within-iff, in-keep, keep-in, in-map, map-in}
-use Rattle.lists.specs.Counts.{oneIf-le, oneIf-most, oneIf-split}
+use Rattle.lists.specs.Counts.{oneIf-le, oneIf-split}
 use Rattle.lists.specs.Extremes.{largest-base, largest-ge, largest-in, smallest-base, smallest-le, smallest-in}
 
 -- a stretch in two parts
@@ -29,10 +29,6 @@ countIn-split a b h (x ∷ xs) = omega (
       (λ t. let p = within-iff (suc a) b x .0 t in within-iff 1 b x .1 (omega arith))
       (λ t u. let p = within-iff 1 a x .0 t in let q = within-iff (suc a) b x .0 u in omega arith),
 )
-
-pub countIn-length : (a b : ℕ) (xs : List ℕ) → countIn a b xs ≤ length xs
-countIn-length a b [] = omega arith
-countIn-length a b (x ∷ xs) = omega (arith, countIn-length a b xs, oneIf-most (within a b x))
 
 -- windows inside a stretch have their slots there
 pub inside-count : (f t : ℕ) (ws : List Window) (xs : List ℕ) → T (inWindows ws xs) → howMany (insideOf f t) ws ≤ countIn f t xs

@@ -11,11 +11,12 @@ use lib.ListN.{length, getD}
 use lib.IntN.{pos}
 use Rattle.integers.specs.Parts.{ints, sum, neg}
 use Rattle.network.specs.Network.{Feasible}
-use Rattle.lists.specs.Lists.{every}
+use Rattle.lists.specs.Lists.{within, every}
+use Rattle.lists.specs.Counts.{howMany-most}
 use Rattle.lists.specs.Members.{In, left, right, within-iff, every-in}
 use Rattle.sheet.specs.Sheet.{Rule, Sheet, noWindow, top, countIn, inWindows, obeys, lawful, atMost, atLeast, limit}
 use Rattle.sheet.specs.PlanLaws.{inWindows-seated}
-use Rattle.sheet.specs.LimitLaws.{countIn-split, countIn-length, inside-count, limit-fwd, limit-back, limit-same, atMost-ge, atLeast-le}
+use Rattle.sheet.specs.LimitLaws.{countIn-split, inside-count, limit-fwd, limit-back, limit-same, atMost-ge, atLeast-le}
 
 pub record Valid (s : Sheet) : Type 0 where
   pub spans : 1 ≤ top s
@@ -36,7 +37,7 @@ module _ (s : Sheet) (x : List ℕ) (l : T (lawful s x)) where
       (every-in (obeys x) r (s .rules) m (right (inWindows (s .units) x) (every (obeys x) (s .rules)) l))
 
   most : (a b : ℕ) → countIn (suc a) b x ≤ atMost s (suc a) b
-  most a b = atMost-ge s (suc a) b (countIn (suc a) b x) (omega (arith, countIn-length (suc a) b x, inWindows-seated (s .units) x sits .size))
+  most a b = atMost-ge s (suc a) b (countIn (suc a) b x) (omega (arith, howMany-most (within (suc a) b) x, inWindows-seated (s .units) x sits .size))
       (λ r m e f. subst (λ (t : ℕ). countIn (suc a) t x ≤ r .high) f (subst (λ (u : ℕ). countIn u (r .to) x ≤ r .high) e (kept r m .1)))
 
   fewest : (a b : ℕ) → atLeast s (suc a) b ≤ countIn (suc a) b x

@@ -5,16 +5,17 @@ use mathlib.Core.Bool.{_&&_, true}
 use mathlib.Core.List.{List, [], _∷_}
 use Prim.Native.Nat.{ℕ, zero, suc, _≤_, _<_}
 use native.Mathlib.Omega.{arith}
-use lib.Dec.{T, leb, ltb, eqb, leb→le, eqb→eq}
+use lib.Dec.{T, ltb, eqb, leb→le, eqb→eq}
 use lib.ListN.{length, getD}
+use Rattle.lists.specs.Lists.{within}
 use Rattle.lists.specs.Members.{In, left, right, within-iff, every-at, every-in}
-use Rattle.sheet.specs.Sizes.{maxSlots, maxUnits, maxRules, maxCount}
+use Rattle.sheet.specs.Sizes.{maxSlots, maxUnits, maxRules, maxCount, carriedPlace}
 use Rattle.sheet.specs.Sheet.{Rule, Sheet, top, noWindow}
 use Rattle.sheet.specs.PlanLaws.{noRule}
 use Rattle.sheet.specs.PotentialLaws.{Valid}
 use Rattle.questions.specs.Questions.{ask}
 use Rattle.questions.specs.FirstNoLaws.{yes-at}
-use Rattle.sheet.specs.Questions.{windowsOf, rulesOf, listsAgree, rising, isStretch, isCount, sheetQuestions, accepted}
+use Rattle.sheet.specs.Questions.{windowsOf, rulesOf, listsAgree, rising, isStretch, isWindow, isCount, sheetQuestions, accepted}
 use Rattle.sheet.specs.Questions.{spanFits, windowsFit, stretchesFit, countsFit, unitsFit, rulesFit}
 
 -- ---- the parallel lists
@@ -77,13 +78,11 @@ pub record Sized (s : Sheet) : Type 0 where
   pub rules : length (s .rules) ≤ maxRules
   pub counts : (r : Rule) → In r (s .rules) → (r .low ≤ r .high) × (r .high ≤ maxCount)
 
-rising-read : (least most f l : ℕ) → T (rising least most f l) → (least ≤ f) × (f ≤ l) × (l ≤ most)
-rising-read least most f l t =
-    let a = leb least f in
-    let b = leb f l in
-    let c = leb l most in
-    let r = right a (b && c) t in
-    (leb→le least f (left a (b && c) t), leb→le f l (left b c r), leb→le l most (right b c r))
+rising-read : (least start most f l : ℕ) → T (rising least start most f l) → ((least ≤ f) × (f ≤ start)) × ((f ≤ l) × (l ≤ most))
+rising-read least start most f l t =
+    let a = within least start f in
+    let b = within f most l in
+    (within-iff least start f .0 (left a b t), within-iff f most l .0 (right a b t))
 
 module _ (s : Sheet) (ok : T (accepted s)) where
   -- the answer at a place of the questions
@@ -98,18 +97,25 @@ module _ (s : Sheet) (ok : T (accepted s)) where
     units = leb→le (length (s .units)) maxUnits (yes 1 tt);
     rules = leb→le (length (s .rules)) maxRules (yes 2 tt);
     counts = λ r m.
-        let c = rising-read 0 maxCount (r .low) (r .high) (every-in (λ q. isCount (q .low) (q .high)) r (s .rules) m (yes 5 tt)) in
-        (c .1, c .2);
+        rising-read 0 maxCount maxCount (r .low) (r .high) (every-in (λ q. isCount (q .low) (q .high)) r (s .rules) m (yes 5 tt)) .1;
   }
 
+  -- a rule's stretch ends inside the span
+  pub accepted-stretch : (r : Rule) → In r (s .rules) → (1 ≤ r .from) × (r .from ≤ r .to) × (r .to ≤ s .span)
+  unfolding stretchesFit
+  accepted-stretch r m =
+      let e = rising-read 1 (s .span) (s .span) (r .from) (r .to)
+          (every-in (λ q. isStretch (s .span) (q .from) (q .to)) r (s .rules) m (yes 4 tt)) in
+      (e .0 .0, e .1 .0, e .1 .1)
+
   pub accepted-valid : Valid s
-  unfolding top windowsFit stretchesFit
+  unfolding top windowsFit
   accepted-valid = record {
-    spans = accepted-sized .slots .0;
+    spans = omega arith;
     windows = λ j h.
         let w = getD (s .units) j noWindow in
-        rising-read 1 (s .span) (w .first) (w .last)
-        (every-at (λ v. isStretch (s .span) (v .first) (v .last)) noWindow (s .units) (yes 3 tt) j h);
-    stretches = λ r m.
-        rising-read 1 (s .span) (r .from) (r .to) (every-in (λ q. isStretch (s .span) (q .from) (q .to)) r (s .rules) m (yes 4 tt));
+        let e = rising-read 1 (s .span) (carriedPlace (s .span)) (w .first) (w .last)
+            (every-at (λ v. isWindow (s .span) (v .first) (v .last)) noWindow (s .units) (yes 3 tt) j h) in
+        (e .0 .0, e .1 .0, e .1 .1);
+    stretches = λ r m. let e = accepted-stretch r m in (e .0, e .1, omega (arith, e .2));
   }

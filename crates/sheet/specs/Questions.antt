@@ -6,9 +6,9 @@ use lib.Dec.{leb, eqb}
 use lib.ListN.{length}
 use Rattle.lists.specs.Lists.{within, every, member}
 use Rattle.questions.specs.Questions.{Question, ask}
-use Rattle.sheet.specs.Sizes.{maxSlots, maxUnits, maxRules, maxCount, maxLoader}
-use Rattle.slots.specs.Slots.{Slot, slotBefore}
-use Rattle.sheet.specs.Sheet.{Window, Rule, Sheet, top}
+use Rattle.sheet.specs.Sizes.{maxSlots, maxUnits, maxRules, maxCount, maxLoader, carriedPlace}
+use Rattle.slots.specs.Slots.{Slot}
+use Rattle.sheet.specs.Sheet.{Window, Rule, Sheet}
 
 abbrev pub windowsOf : List Slot → List Slot → List Window
 windowsOf [] ls = []
@@ -40,23 +40,26 @@ isSpan span = within 1 maxSlots span
 unfoldable pub spanFits : Sheet → Bool
 spanFits s = isSpan (s .span)
 
--- least ≤ first ≤ last ≤ most: the one test of two ends
-abbrev pub rising : ℕ → ℕ → ℕ → ℕ → Bool
-rising least most first last = leb least first && (leb first last && leb last most)
+-- the first is from least to start, and the last from the first to most: the one test of two ends
+abbrev pub rising : ℕ → ℕ → ℕ → ℕ → ℕ → Bool
+rising least start most first last = within least start first && within first most last
 
--- 7: is 1 ≤ first ≤ last ≤ span? A window may reach to the slot before the top boundary, a rule's stretch to the span.
+-- 7: is 1 ≤ first ≤ last ≤ span? A window's last slot, and no other, may be the carried place too.
 abbrev pub isStretch : ℕ → Slot → Slot → Bool
-isStretch bound first last = rising 1 bound first last
+isStretch span first last = rising 1 span span first last
+
+abbrev pub isWindow : ℕ → Slot → Slot → Bool
+isWindow span first last = rising 1 span (carriedPlace span) first last
 
 unfoldable pub windowsFit : Sheet → Bool
-windowsFit s = every (λ w. isStretch (slotBefore (top s)) (w .first) (w .last)) (s .units)
+windowsFit s = every (λ w. isWindow (s .span) (w .first) (w .last)) (s .units)
 
 unfoldable pub stretchesFit : Sheet → Bool
 stretchesFit s = every (λ r. isStretch (s .span) (r .from) (r .to)) (s .rules)
 
 -- 8: is low ≤ high ≤ 300?
 abbrev pub isCount : ℕ → ℕ → Bool
-isCount low high = rising 0 maxCount low high
+isCount low high = rising 0 maxCount maxCount low high
 
 unfoldable pub countsFit : Sheet → Bool
 countsFit s = every (λ r. isCount (r .low) (r .high)) (s .rules)

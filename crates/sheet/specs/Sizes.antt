@@ -1,6 +1,6 @@
 -- The sizes of a sheet, as its associated constants state them: the one place in specs where they stand. Boundaries are network's `maxBoundaries`, which
 -- `boundaries-max` ties to the slots, and a weight is at most network's `maxWeight`, which `weight-max` ties to the counts.
-use Prim.Native.Nat.{ℕ, _+_, _*_}
+use Prim.Native.Nat.{ℕ, suc, _+_, _*_}
 use mathlib.Core.Path.{_≡_, refl}
 use Rattle.slots.specs.Slots.{Slot, Boundary, slotEnd}
 use Rattle.network.specs.Table.{maxBoundaries}
@@ -31,9 +31,13 @@ maxBytes = 16000
 abbrev pub maxCells : ℕ
 maxCells = maxBoundaries * maxBoundaries
 
--- the top boundary of a span, which is the end of its last slot, and how many boundaries it has: the one place where the two are counted from the slots
+-- the carried place of a span: it follows the last slot, and a unit that has it is carried over into the next wave
+abbrev pub carriedPlace : Slot → Slot
+carriedPlace span = suc span
+
+-- the top boundary of a span, which is the end of the carried place, and how many boundaries it has: the one place where the two are counted from the slots
 abbrev pub topOf : Slot → Boundary
-topOf span = slotEnd span
+topOf span = slotEnd (carriedPlace span)
 
 abbrev pub boundariesOf : Slot → ℕ
 boundariesOf span = topOf span + 1

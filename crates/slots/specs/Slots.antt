@@ -1,4 +1,4 @@
--- Slots and boundaries are counted apart: slots run 1 to span, boundaries 0 to span, and boundary b is the end of slot b. Definitions only.
+-- Slots and boundaries are counted apart: slots from 1 on, boundaries from 0 on, and boundary b is the end of slot b. Definitions only.
 -- Both are numbers here, and these four are the steps between them.
 use Prim.Native.Nat.{ℕ, suc, _-_}
 

@@ -2,7 +2,7 @@ ghost use mathlib.Core.Path.{_≡_};
 ghost use Prim.Native.Nat.{_+_, _-_, _^_, _<_};
 ghost use Rattle.slots.specs.Slots.{slotEnd, slotStart, slotBefore, slotAfter};
 
-// Slots run 1 to span, boundaries 0 to span; boundary b is the end of slot b.
+// Slots are counted from 1 on, boundaries from 0 on; boundary b is the end of slot b.
 pub struct Slot(pub usize);
 
 pub struct Boundary(pub usize);

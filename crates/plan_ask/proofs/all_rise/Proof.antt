@@ -9,10 +9,10 @@ use Rattle.plan_ask.proofs.all_rise.Statement.{statement}
 use Rattle.plan_ask.proofs.all_rise.Tie as tie
 
 abbrev Inv-loop : tie.InvT-loop
-Inv-loop least most first last j₀ j = (j ≤ length first) × (allRising least most first last ≡ risingFrom least most first last j)
+Inv-loop least start most first last j₀ j = (j ≤ length first) × (allRising least start most first last ≡ risingFrom least start most first last j)
 
 abbrev μ-loop : tie.MeasureT-loop
-μ-loop least most first last j₀ j = length first - j
+μ-loop least start most first last j₀ j = length first - j
 
 loop-again : tie.Need-loop-again Inv-loop μ-loop
 loop-again c =
@@ -20,20 +20,20 @@ loop-again c =
     let l = c .before .before .before .before .before .loop in
     let e = c .before .before .before .before .before .before .before .before .pre in
     let rises = sym (c .before .rises .ensures) ∙ c .if1 .taken in
-    (omega arith, l .inv .1 ∙ rising-next (a .least) (a .most) (a .first .now) (a .last .now) e (l .j) (omega arith) rises)
+    (omega arith, l .inv .1 ∙ rising-next (a .least) (a .start) (a .most) (a .first .now) (a .last .now) e (l .j) (omega arith) rises)
 
 returns : tie.Need-returns Inv-loop μ-loop
 returns c =
     let a = c .before .before .before .before .before .before .before .before .args in
     let l = c .before .before .before .before .before .loop in
     let e = c .before .before .before .before .before .before .before .before .pre in
-    sym (l .inv .1 ∙ rising-stop (a .least) (a .most) (a .first .now) (a .last .now) e (l .j) (omega arith) (sym (c .before .rises .ensures) ∙ c .if1 .left))
+    sym (l .inv .1 ∙ rising-stop (a .least) (a .start) (a .most) (a .first .now) (a .last .now) e (l .j) (omega arith) (sym (c .before .rises .ensures) ∙ c .if1 .left))
 
 returns-2 : tie.Need-returns-2 Inv-loop μ-loop
 returns-2 c =
     let a = c .before .before .before .before .args in
     let l = c .before .loop in
-    sym (l .inv .1 ∙ rising-end (a .least) (a .most) (a .first .now) (a .last .now) (c .before .before .before .before .pre) (l .j) (omega arith))
+    sym (l .inv .1 ∙ rising-end (a .least) (a .start) (a .most) (a .first .now) (a .last .now) (c .before .before .before .before .pre) (l .j) (omega arith))
 
 pub all-rise-spec : {M : Type 1} → statement M
 unfolding allRising risingFrom

@@ -46,6 +46,7 @@ loop-holds c =
     let a = z .args in (
       asking-start (a .text .now) (c .empty .result) (a .numbers .now) (a .units .now) (a .rules .now) (c .empty .ensures),
       rw (c .empty .ensures) (record {
+        few-slots = omega arith;
         few-units = omega arith;
         in-numbers = z .pre .0;
         in-nexts = refl;
