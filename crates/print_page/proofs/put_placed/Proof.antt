@@ -1,6 +1,7 @@
 -- Inside the span it is the line with the slot, past it the line of a carried unit.
 use mathlib.Core.Path.{_≡_, sym, subst}
 use mathlib.Core.List.{List}
+use Prim.Native.Nat.{ℕ}
 use borrow.Author.Needs.{needs}
 use denote.Ref.{now}
 use Rattle.print_bytes.specs.Writing.{Room, Written, unitLine, carriedLine}
