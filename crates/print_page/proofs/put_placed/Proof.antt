@@ -2,6 +2,7 @@
 use mathlib.Core.Path.{_≡_, sym, subst}
 use mathlib.Core.List.{List}
 use Prim.Native.Nat.{ℕ}
+use native.Mathlib.Omega.{arith}
 use borrow.Author.Needs.{needs}
 use denote.Ref.{now}
 use Rattle.print_bytes.specs.Writing.{Room, Written, unitLine, carriedLine}
@@ -17,12 +18,12 @@ line c = let a = c .args in placedLine (a .span) (a .loader) (a .slot) (a .earli
 inside : (c : tie.Then1) → let s = c .before .before in line s ≡ unitLine (s .args .loader) (s .args .slot) (s .args .earliest) (s .args .latest)
 inside c =
     let a = c .before .before .args in
-    placed-inside (a .span) (a .loader) (a .slot) (a .earliest) (a .latest) (c .if1 .taken)
+    placed-inside (a .span) (a .loader) (a .slot) (a .earliest) (a .latest) (omega arith)
 
 past : (c : tie.Else1) → let s = c .before .before in line s ≡ carriedLine (s .args .loader) (s .args .earliest) (s .args .latest)
 past c =
     let a = c .before .before .args in
-    placed-past (a .span) (a .loader) (a .slot) (a .earliest) (a .latest) (c .if1 .left)
+    placed-past (a .span) (a .loader) (a .slot) (a .earliest) (a .latest) (omega arith)
 
 put-unit-requires : tie.Need-put-unit-requires
 put-unit-requires c κs =
