@@ -32,7 +32,7 @@ fn end(child: Child) -> (i32, String, String) {
 
 #[test]
 fn the_status_is_the_answer() {
-    let (p2, p4) = (cases::all()[1].sheet.text(), cases::all()[3].sheet.text());
+    let (p2, p4) = (cases::named("P2").sheet.text(), cases::named("P4").sheet.text());
     assert_eq!(end(start("plan", &p2)), (0, cases::P2_PAGE.into(), String::new()));
     assert_eq!(end(start("none", &p4)), (1, cases::P4_PAGE.into(), String::new()));
     assert_eq!(end(start("refused", b"(sheet 49)\n")), (2, "(refused 6 (line 1))\n".into(), String::new()));
@@ -48,7 +48,7 @@ fn reading_or_writing_fails() {
     let (status, page, said) = end(folder);
     assert_eq!((status, page.as_str()), (3, ""));
     assert!(said.contains("plan: the sheet could not be read"), "{said}");
-    for text in [cases::all()[1].sheet.text(), cases::all()[3].sheet.text(), b"(sheet 49)\n".to_vec()] {
+    for text in [cases::named("P2").sheet.text(), cases::named("P4").sheet.text(), b"(sheet 49)\n".to_vec()] {
         let path = Path::new(env!("CARGO_TARGET_TMPDIR")).join("full.sheet");
         fs::write(&path, text).unwrap();
         let full = File::options().write(true).open("/dev/full").unwrap();
@@ -65,10 +65,10 @@ fn reading_or_writing_fails() {
 
 /// On a built tree nothing is proved, and calls do not disturb each other.
 #[test]
-fn ten_at_once() {
+fn many_at_once() {
     let sheets: Vec<Vec<u8>> = cases::all().iter().map(|case| case.sheet.text()).collect();
     let pages: Vec<(i32, String, String)> = sheets.iter().enumerate().map(|(i, text)| end(start(&format!("one{i}"), text))).collect();
-    let calls: Vec<Child> = sheets.iter().enumerate().map(|(i, text)| start(&format!("ten{i}"), text)).collect();
+    let calls: Vec<Child> = sheets.iter().enumerate().map(|(i, text)| start(&format!("many{i}"), text)).collect();
     for (call, alone) in calls.into_iter().zip(pages) {
         assert!(alone.2.is_empty(), "{}", alone.2);
         assert_eq!(end(call), alone);
