@@ -102,8 +102,8 @@ struct tugrokt_planning tugrokt_plan(
 
 /*
  * Plans from lists and prints the answer on the page from the given place on, each unit with its loader number, and one that is
- * carried over with (carried) in place of its slot. The rooms are left
- * as by tugrokt_plan, but where the page does not hold the whole answer the call is refused by 15 and changes neither page nor rooms.
+ * carried over with (carried) in place of its slot. The rooms are left as by tugrokt_plan, but where the page does not hold the whole
+ * answer the call is refused by 15 and changes neither page nor rooms.
  */
 struct tugrokt_printing tugrokt_print(
     size_t span, const uint16_t *loader, size_t loader_length,
