@@ -70,7 +70,7 @@ fn every_single_byte() {
 
 /// A line for each question that it can fail, and lines that pass; with two faults in one line the question that comes first
 /// decides.
-const LINES: [&str; 39] = [
+const LINES: [&str; 40] = [
     "(sheet 4)",
     "(sheet 48)",
     "(sheet 49)",
@@ -97,6 +97,7 @@ const LINES: [&str; 39] = [
     "(unit (window 01 9))",
     "(rule (slots 1 4) (count 0 300))",
     "(rule (slots 2 1) (count 0 301))",
+    "(rule (slots 4 5) (count 0 1))",
     "(rule (slots 1 4) (count 0 301))",
     "(rule (slots 1 4) (count 2 1))",
     "(rule (slots 05 6) (count 0 1))",
