@@ -127,7 +127,8 @@ module _ (input page left : List ℕ) (next : ℕ) (call : Answered (AnswerTo in
   -- ---- 2 and 3. A text that is not refused
   module _ (all-yes : verdict input ≡ allYes) where
     -- gets the page of a plan exactly when some assignment meets all windows and all rules of the sheet in the text. What the page says, whole, is
-    -- `PlanPage`: the plan is lawful, has the seat property, and by the end of each slot no lawful plan has more; each narrowed window and each slot's range.
+    -- `PlanPage`: the plan is lawful, has the seat property, and by the end of each slot, and of the carried place, no lawful plan has more; which units are
+    -- carried; each narrowed window and each slot's range.
     pub plan-exactly-when-lawful : ((x : List ℕ) × PlanPage ks s x lines) ↔ ((x : List ℕ) × T (lawful s x))
     plan-exactly-when-lawful = (λ p. (p .0, p .1 .legal), λ x. go (x .0) (x .1) (way all-yes))
       where

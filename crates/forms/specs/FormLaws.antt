@@ -1,13 +1,14 @@
 -- What `matches` and `numbers` mean: a line is of a form just when it is the form written out with some numbers, and these are its numbers.
 -- Key idea: form and line are read together from the left. A word is cut off by its length. A number is cut off by its digits, and ends where the
--- next word begins, since in no form a digit follows a number.
+-- next word begins, since in no form a digit follows a number. So a line of one form is read the same by another for as long as the two forms are the same,
+-- and where a word of theirs differs, the other stops.
 use Prim.Native.Nat.{ℕ}
 use mathlib.Core.Path.{_≡_, refl, ap, ap₂, _∙_}
 use mathlib.Core.Bool.{Bool, true, false, _&&_, not, cond}
 use mathlib.Core.List.{List, [], _∷_, _++_}
 use lib.ListN.{length, drop}
 use lib.Seq.{drop-append-seam}
-use lib.Dec.{eqb}
+use lib.Dec.{T, eqb}
 use borrow.Author.Tests.{eqb-true, eq-eqb, not-true}
 use Rattle.lists.specs.Lists.{every}
 use Rattle.lists.specs.Members.{false-not-true, and-left, and-right}
@@ -161,3 +162,51 @@ written-matches (number ∷ f) (n ∷ ns) h s =
 pub sheet-separated : every separated (sheetForm ∷ unitForm ∷ ruleForm ∷ []) ≡ true
 unfolding text
 sheet-separated = refl
+
+-- ---- a form written out is no line of another form
+
+-- two words that differ before either ends; or they are the same, and so it is of what stands behind them
+abbrev wordsApart : List ℕ → List ℕ → Bool → Bool
+wordsApart [] [] rest = rest
+wordsApart [] (y ∷ w) rest = false
+wordsApart (x ∷ v) [] rest = false
+wordsApart (x ∷ v) (y ∷ w) rest = cond (eqb x y) (wordsApart v w rest) true
+
+-- two forms that begin with the same words and numbers, up to a word where they differ
+abbrev pub formsApart : List Piece → List Piece → Bool
+formsApart [] f = false
+formsApart (word v ∷ g) [] = false
+formsApart (word v ∷ g) (word w ∷ f) = wordsApart v w (formsApart g f)
+formsApart (word v ∷ g) (number ∷ f) = false
+formsApart (number ∷ g) [] = false
+formsApart (number ∷ g) (word w ∷ f) = false
+formsApart (number ∷ g) (number ∷ f) = formsApart g f
+
+-- past two words that are the same the rest is read, by m
+past-words : (v w : List ℕ) (rest : Bool) (t : List ℕ) (m : List ℕ → Bool) → T (wordsApart v w rest) → (T rest → m t ≡ false)
+    → (startsWith v (w ++ t) && m (drop (length v) (w ++ t))) ≡ false
+past-words [] [] rest t m h k = k h
+past-words [] (y ∷ w) rest t m h k = absurd h
+past-words (x ∷ v) [] rest t m h k = absurd h
+past-words (x ∷ v) (y ∷ w) rest t m h k = go (eqb x y) h (λ e. past-words v w rest t m e k)
+  where
+    go : (e : Bool) → T (cond e (wordsApart v w rest) true)
+        → (T (wordsApart v w rest) → (startsWith v (w ++ t) && m (drop (length v) (w ++ t))) ≡ false)
+        → ((e && startsWith v (w ++ t)) && m (drop (length v) (w ++ t))) ≡ false
+    go true h same = same h
+    go false h same = refl
+
+pub apart-unmatched : (g f : List Piece) (ns : List (List ℕ)) → T (formsApart g f) → separated f ≡ true → Suits f ns → matches g (written f ns) ≡ false
+unfolding matches written
+apart-unmatched [] f ns h e s = absurd h
+apart-unmatched (word v ∷ g) [] ns h e s = absurd h
+apart-unmatched (word v ∷ g) (word w ∷ f) ns h e s =
+    past-words v w (formsApart g f) (written f ns) (matches g) h (λ k. apart-unmatched g f ns k e s)
+apart-unmatched (word v ∷ g) (number ∷ f) ns h e s = absurd h
+apart-unmatched (number ∷ g) [] ns h e s = absurd h
+apart-unmatched (number ∷ g) (word w ∷ f) ns h e s = absurd h
+apart-unmatched (number ∷ g) (number ∷ f) [] h e s = absurd s
+apart-unmatched (number ∷ g) (number ∷ f) (n ∷ ns) h e s =
+    let a = leading-of n (written f ns) (s .0 .digits) (stops f ns e) in
+    let b = past-of n (written f ns) (s .0 .digits) (stops f ns e) in
+    rw (a, b) (rw (s .0 .not-empty) (apart-unmatched g f ns h (separated-tail f e) (s .1)))

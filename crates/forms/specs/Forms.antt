@@ -30,6 +30,10 @@ abbrev pub unitLineForm : List Piece
 unitLineForm =
     word (text "(unit ") ∷ number ∷ word (text " (slot ") ∷ number ∷ word (text ") (between ") ∷ number ∷ word (text " ") ∷ number ∷ word (text "))") ∷ []
 
+-- (unit N (carried) (between N N))
+abbrev pub carriedLineForm : List Piece
+carriedLineForm = word (text "(unit ") ∷ number ∷ word (text " (carried) (between ") ∷ number ∷ word (text " ") ∷ number ∷ word (text "))") ∷ []
+
 -- (slot N (count N) (range N N))
 abbrev pub slotLineForm : List Piece
 slotLineForm =

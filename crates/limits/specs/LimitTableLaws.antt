@@ -11,7 +11,7 @@ use Rattle.integers.specs.Parts.{Within, neg}
 use Rattle.lists.specs.Members.{In}
 use Rattle.network.specs.Table.{maxBoundaries, tableOf, entry}
 use Rattle.network.specs.TableLaws.{length-tableOf, entry-front}
-use Rattle.sheet.specs.Sizes.{maxSlots, maxCount, boundariesOf}
+use Rattle.sheet.specs.Sizes.{maxSlots, maxCount, topOf, boundariesOf}
 use Rattle.sheet.specs.Sheet.{Rule, Sheet, top, boundaries, noWindow, insideOf, atLeast, limit}
 use Rattle.sheet.specs.PlanLaws.{noRule}
 use Rattle.sheet.specs.LimitLaws.{limit-fwd, limit-back, limit-same, atMost-n, atLeast-le}
@@ -46,7 +46,7 @@ module _ {span : ℕ} {first last from to low high : List ℕ} {room : ℕ} (f :
     each = λ j h.
         let e = windowsOf-at first last (fillable-lists .windows) j h in
         let w = getD (windowsOf first last) j noWindow in
-        let v : (1 ≤ w .first) × (w .first ≤ w .last) × (w .last ≤ span) = accepted-valid (sheetOf span first last from to low high) (f .ok) .windows j
+        let v : (1 ≤ w .first) × (w .first ≤ w .last) × (w .last ≤ topOf span) = accepted-valid (sheetOf span first last from to low high) (f .ok) .windows j
         (omega (arith, windowsOf-length first last (fillable-lists .windows))) in
         let x = rw e at v in
         (x .0, x .1, omega (arith, x .2));

@@ -127,7 +127,8 @@ module _ (l : WrittenLists) (before : Rooms) (reply : says.Reply) (after : Rooms
         ∙ List·getD-append (P .table) (drop (places s) (before .table)) (pos 0) (a * boundaries s + b)
         (omega (arith, P .size, row-inside a (boundaries s) (omega arith)))
 
-    -- For every stretch, a whole number is the count of some lawful plan exactly when it is from the least to the greatest.
+    -- For every stretch, those that end with the carried place included, a whole number is the count of some lawful plan exactly when it is from the least to
+    -- the greatest.
     pub counts : (a b : Boundary) → a < b → b ≤ top s → (k : ℤ)
         → ((x : List ℕ) × T (lawful s x) × (pos (countIn (slotAfter a) (slotBefore b) x) ≡ k))
         ↔ ((negℤ (entry (boundaries s) (after .table) b a) ≤ℤ k) × (k ≤ℤ entry (boundaries s) (after .table) a b))
@@ -165,7 +166,7 @@ module _ (l : WrittenLists) (before : Rooms) (reply : says.Reply) (after : Rooms
     pub plan-fair : T (fair s (take (length (s .units)) (after .plan)))
     plan-fair = subst (λ (x : List ℕ). T (fair s x)) (sym plan-at) (printed .order)
 
-    -- and by the end of each slot no lawful plan has more deliveries.
+    -- and by the end of each slot, the carried place included, no lawful plan has more deliveries.
     pub plan-soonest : (x : List ℕ) → T (lawful s x) → (t : Slot) → 1 ≤ t → t ≤ slotBefore (top s)
         → countIn 1 t x ≤ countIn 1 t (take (length (s .units)) (after .plan))
     plan-soonest x k t h ht =

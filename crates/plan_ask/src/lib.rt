@@ -154,7 +154,8 @@ pub fn ask_lists(
             line: 0,
         });
     }
-    if all_rise(1, span, sheet::carried_place(span), first, last) {} else {
+    let carried = sheet::carried_place(span);
+    if all_rise(1, span, carried, first, last) {} else {
         return Checked::No(Refusal { number: 7, line: 0 });
     }
     if all_rise(1, span, span, from, to) {} else {

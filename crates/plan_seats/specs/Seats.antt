@@ -8,7 +8,8 @@ use lib.Signed.{_≤ℤ_}
 use Rattle.integers.specs.Parts.{up}
 use Rattle.slots.specs.Slots.{Slot, Boundary, slotBefore}
 use Rattle.network.specs.Network.{Weights}
-use Rattle.sheet.specs.Sizes.{maxSlots, maxUnits}
+use Rattle.network.specs.Table.{maxBoundaries}
+use Rattle.sheet.specs.Sizes.{maxUnits}
 use Rattle.sheet.specs.Sheet.{Sheet, top}
 use Rattle.sheet.specs.Questions.{windowsOf}
 use Rattle.sheet.specs.Solved.{Solved}
@@ -27,8 +28,8 @@ pub record Seatable (first last : List ℕ) (counts : List ℤ) (plan : List ℕ
   pub lists : length last ≡ length first
   pub units : length first ≤ maxUnits
   pub room : length first ≤ length plan
-  pub slots : (1 ≤ length counts) × (length counts ≤ suc maxSlots)
-  pub closes : (j : ℕ) → j < length last → at last j ≤ maxSlots
+  pub slots : (1 ≤ length counts) × (length counts ≤ maxBoundaries)
+  pub closes : (j : ℕ) → j < length last → at last j < maxBoundaries
   pub rising : Rising counts
 
 -- the units in the order in which they are seated, in a list that has a place for each

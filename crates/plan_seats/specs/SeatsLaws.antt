@@ -8,7 +8,8 @@ use lib.IntN.{ℤ, pos}
 use Rattle.integers.specs.Parts.{up, ints, sum, neg}
 use Rattle.network.specs.Network.{Weights}
 use Rattle.network.specs.ClosureLaws.{row-feasible}
-use Rattle.sheet.specs.Sizes.{maxSlots, maxUnits}
+use Rattle.network.specs.Table.{maxBoundaries}
+use Rattle.sheet.specs.Sizes.{maxUnits}
 use Rattle.sheet.specs.Sheet.{Sheet, Window, top, noWindow, atLeast, limit, printedPlan}
 use Rattle.sheet.specs.LimitLaws.{limit-back}
 use Rattle.sheet.specs.QuestionLaws.{windowsOf-length, windowsOf-at}
@@ -37,7 +38,7 @@ module _ (s : Sheet) (D : Weights) (first last : List ℕ) (counts : List ℤ) (
       (λ j h. sym (ap (λ (w : Window). w .last) (window j h))) (λ b hb. ap up (R .row b hb))
 
   -- row 0 rises from 0
-  pub row-seatable : (plan : List ℕ) → length first ≤ maxUnits → top s ≤ maxSlots → length first ≤ length plan → Seatable first last counts plan
+  pub row-seatable : (plan : List ℕ) → length first ≤ maxUnits → top s < maxBoundaries → length first ≤ length plan → Seatable first last counts plan
   row-seatable plan few short room = record {
     lists = lists;
     units = few;

@@ -1,7 +1,7 @@
 -- Row 0 of the finished table, as seating takes it; and a finished table at the front of a longer room.
 use mathlib.Core.Path.{_≡_, sym, ap, _∙_, subst}
 use mathlib.Core.List.{List, _++_}
-use Prim.Native.Nat.{ℕ, _+_, _*_, _≤_}
+use Prim.Native.Nat.{ℕ, _+_, _*_, _≤_, _<_}
 use native.Mathlib.Omega.{arith}
 use lib.Dec.{T}
 use lib.ListN.{length, getD, take, drop, List·getD-append}
@@ -10,27 +10,27 @@ use lib.IntN.{ℤ, pos, _+ℤ_}
 use lib.Signed.{_≤ℤ_}
 use Rattle.integers.specs.Parts.{ints, sum}
 use Rattle.network.specs.Network.{Weights}
-use Rattle.network.specs.Table.{entry}
+use Rattle.network.specs.Table.{maxBoundaries, entry}
 use Rattle.network.specs.TableLaws.{row-inside}
-use Rattle.sheet.specs.Sizes.{maxSlots, maxUnits}
+use Rattle.sheet.specs.Sizes.{maxUnits}
 use Rattle.sheet.specs.Sheet.{Sheet, top, boundaries, limit, lawful, printedPlan}
 use Rattle.sheet.specs.PlanLaws.{lawful-iff}
 use Rattle.sheet.specs.QuestionLaws.{windowsOf-length, accepted-sized}
 use Rattle.sheet.specs.Solved.{Solved}
+use Rattle.limits.specs.LimitTableLaws.{boundaries-fit}
 use Rattle.plan_seats.specs.Seats.{Seatable, RowOf}
 use Rattle.plan_seats.specs.SeatsLaws.{row-seatable}
 use Rattle.plans.specs.PrintedLaws.{some-printed}
 use Rattle.plan_windows.specs.Narrowing.{Narrowable}
 use Rattle.plan_solve.specs.Filling.{Ready}
 
--- ---- the numbers of units and slots that an accepted sheet has
+-- ---- the numbers of units and boundaries that an accepted sheet has
 module _ (s : Sheet) (w : ℕ) (first last : List ℕ) (table : List ℤ) (R : Ready s w first last table) where
   units-few : length first ≤ maxUnits
   units-few = omega (arith, ap length (R .units), windowsOf-length first last (R .lists), accepted-sized s (R .sheet) .units)
 
-  slots-few : top s ≤ maxSlots
-  unfolding top
-  slots-few = accepted-sized s (R .sheet) .slots .1
+  boundaries-few : top s < maxBoundaries
+  boundaries-few = boundaries-fit s (R .sheet) .1
 
   pub row-fits : w ≤ length table
   row-fits = omega (arith, R .room, R .size, row-inside 0 w (omega (arith, R .size)))
@@ -46,7 +46,7 @@ module _ (s : Sheet) (w : ℕ) (first last : List ℕ) (table : List ℤ) (R : R
       }
 
   pub seatable : (k : ℕ) → k ≡ w → (plan : List ℕ) → length first ≤ length plan → Seatable first last (take k table) plan
-  seatable k e plan room = row-seatable s (entry w table) first last (take k table) (row-of k e) (R .lists) plan units-few slots-few room
+  seatable k e plan room = row-seatable s (entry w table) first last (take k table) (row-of k e) (R .lists) plan units-few boundaries-few room
 
   units-length : length (s .units) ≡ length first
   units-length = ap length (R .units) ∙ windowsOf-length first last (R .lists)
@@ -63,7 +63,7 @@ module _ (s : Sheet) (w : ℕ) (first last : List ℕ) (table : List ℤ) (R : R
         paired = R .lists;
         few = units-few;
         boundaries = sym (R .size);
-        most = omega (arith, R .size, slots-few);
+        most = omega (arith, R .size, boundaries-few);
         size = R .room;
         solved = R .solved;
         lawfully = subst (λ (x : List ℕ). T (lawful s x))

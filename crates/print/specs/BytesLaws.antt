@@ -15,7 +15,7 @@ use Rattle.network.specs.NetworkLaws.{Upto}
 use Rattle.network.specs.Table.{finished, entry, tableOf}
 use Rattle.network.specs.TableLaws.{length-tableOf, entry-front}
 use Rattle.network.specs.PassLaws.{finished-kept}
-use Rattle.sheet.specs.Sizes.{boundariesOf}
+use Rattle.sheet.specs.Sizes.{topOf, boundariesOf}
 use Rattle.sheet.specs.Sheet.{Sheet, top, boundaries, limit, earliest, latest, earliestSlots, latestSlots, printedPlan, leastIn, greatestIn, isRing}
 use Rattle.sheet.specs.PlanLaws.{lawful-iff}
 use Rattle.sheet.specs.Questions.{accepted, loadersFit}
@@ -36,7 +36,7 @@ use Rattle.print.specs.Printing.{planBytes, ringBytes}
 module _ (s : Sheet) (ok : T (accepted s)) where
   pub boundaries-span : boundaries s ≡ boundariesOf (s .span)
   unfolding top
-  boundaries-span = sym (add-one (s .span))
+  boundaries-span = sym (add-one (topOf (s .span)))
 
   pub places-span : places s ≡ boundariesOf (s .span) * boundariesOf (s .span)
   places-span = ap (λ w. w * w) boundaries-span
@@ -81,7 +81,7 @@ module _ (s : Sheet) (ok : T (accepted s)) where
     least-same = record {
       each = λ k h m.
           let one : suc (k - 1) ≡ k = omega arith in
-          let l = least-entry s (entry (boundaries s) t) solved (k - 1) k (omega arith) m in
+          let l = least-entry s (entry (boundaries s) t) solved (k - 1) k (omega arith) (omega arith) in
           ap (λ w. dn (entry w t k (k - 1))) (sym boundaries-span) ∙ ap dn (sym l) ∙ neg (pos (leastIn s (suc (k - 1)) k)) .1 ∙ ap (λ i. leastIn s i k) one;
     }
 
@@ -90,7 +90,7 @@ module _ (s : Sheet) (ok : T (accepted s)) where
     greatest-same = record {
       each = λ k h m.
           let one : suc (k - 1) ≡ k = omega arith in
-          let g = greatest-entry s (entry (boundaries s) t) solved (k - 1) k (omega arith) m in
+          let g = greatest-entry s (entry (boundaries s) t) solved (k - 1) k (omega arith) (omega arith) in
           ap (λ w. up (entry w t (k - 1) k)) (sym boundaries-span) ∙ ap up (sym g) ∙ ap (λ i. greatestIn s i k) one;
     }
 
@@ -139,7 +139,7 @@ module _ (s : Sheet) (ok : T (accepted s)) where
     pub ring-bytes : nonePage (entry (boundariesOf (s .span)) (limitTable s room)) ring ≡ ringBytes s ring
     unfolding ringBytes top
     ring-bytes =
-        nonePage-same (s .span) (entry (boundariesOf (s .span)) (limitTable s room)) (limit s)
+        nonePage-same (top s) (entry (boundariesOf (s .span)) (limitTable s room)) (limit s)
         (λ a b ha hb. limits-are a b (omega arith) (omega arith)) ring (read .upto)
 
     pub ring-fits : length (nonePage (entry (boundariesOf (s .span)) (limitTable s room)) ring) ≤ maxRingPage

@@ -9,21 +9,23 @@ use lib.ListN.{length, getD}
 use Rattle.lists.specs.Lists.{fromTo}
 use Rattle.lists.specs.Members.{In}
 use Rattle.slots.specs.Slots.{Slot, Boundary, slotBefore}
+use Rattle.sheet.specs.Sizes.{carriedPlace}
 use Rattle.sheet.specs.Sheet.{Sheet, top, unitPlaces, lawful, fair, countIn, leastIn, greatestIn, earliest, latest, limit, isRing}
 use Rattle.print_page.specs.Page.{shortfallOf}
-use Rattle.print_page.specs.PageLines.{Said, plan, unit, none, shortfall, unitLinesWith, unitSaid, slotSaid, ringSaid}
+use Rattle.print_page.specs.PageLines.{Said, plan, unit, carried, none, shortfall, unitLinesWith, unitSaid, slotSaid, ringSaid}
 
--- The lines of the plan x, all of them. The head has the number of units. Then a line for each unit, in order: its loader number, its slot in x, and the
--- earliest and the latest slot that it has in any lawful plan. Then a line for each slot, in order: how many of these very lines give a unit this slot, and
--- the least and the greatest count of the slot over lawful plans. `ks` are the units' loader numbers.
+-- The lines of the plan x, all of them. The head has the number of all units. Then a line for each unit, in order: its loader number, its slot in x or, where
+-- that is past the span, that it is carried, and the earliest and the latest slot that it has in any lawful plan. Then a line for each slot of the span, in
+-- order: how many of these very lines give a unit this slot, and the least and the greatest count of the slot over lawful plans. `ks` are the units' loader
+-- numbers.
 abbrev pub planLines : List ℕ → Sheet → List Slot → List Said → List Said
 planLines ks s x ls =
     plan (length (s .units))
-    ∷ (map (unitSaid (λ j. getD ks j 0) (λ j. getD x j 0) (earliest s) (latest s)) (unitPlaces s)
+    ∷ (map (unitSaid (s .span) (λ j. getD ks j 0) (λ j. getD x j 0) (earliest s) (latest s)) (unitPlaces s)
     ++ map (slotSaid (λ t. unitLinesWith t ls) (λ t. leastIn s t t) (λ t. greatestIn s t t)) (fromTo 1 (s .span)))
 
--- A line `unit k t e f` is one unit's: k is the loader number of the unit at this place and of no other unit, t is its slot in the plan x, and e and f are its
--- earliest and its latest slot.
+-- A line with the loader number k and the narrowed window e to f is one unit's: k is the loader number of the unit at this place and of no other unit, t is
+-- its slot in the plan x, and e and f are its earliest and its latest slot. The line of a carried unit has no t: its slot is the carried place.
 pub record UnitOf (ks : List ℕ) (s : Sheet) (x : List Slot) (k t e f : ℕ) : Type 0 where
   pub place : ℕ
   pub inside : place < length (s .units)
@@ -33,11 +35,13 @@ pub record UnitOf (ks : List ℕ) (s : Sheet) (x : List Slot) (k t e f : ℕ) : 
   pub first : e ≡ earliest s place
   pub last : f ≡ latest s place
 
--- The lines are those of the plan x, and each unit line is one unit's. The plan is lawful, has the seat property, and by the end of each slot no lawful plan
--- has more deliveries. A number is a slot's count in some lawful plan exactly when it is from the slot line's least to its greatest.
+-- The lines are those of the plan x. Each unit line is one unit's, with a slot of the span; each carried line is one unit's that x has at the carried place.
+-- The plan is lawful, has the seat property, and by the end of each slot, and of the carried place, no lawful plan has more deliveries. A number is a slot's
+-- count in some lawful plan exactly when it is from the slot line's least to its greatest.
 pub record PlanPage (ks : List ℕ) (s : Sheet) (x : List Slot) (ls : List Said) : Type 0 where
   pub lines : ls ≡ planLines ks s x ls
-  pub units : (k t e f : ℕ) → In (unit k t e f) ls → UnitOf ks s x k t e f
+  pub units : (k t e f : ℕ) → In (unit k t e f) ls → UnitOf ks s x k t e f × (1 ≤ t) × (t ≤ s .span)
+  pub carries : (k e f : ℕ) → In (carried k e f) ls → UnitOf ks s x k (carriedPlace (s .span)) e f
   pub legal : T (lawful s x)
   pub seated : T (fair s x)
   pub soonest : (y : List Slot) → T (lawful s y) → (t : Slot) → 1 ≤ t → t ≤ slotBefore (top s) → countIn 1 t y ≤ countIn 1 t x

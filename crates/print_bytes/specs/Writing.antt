@@ -5,7 +5,7 @@ use mathlib.Core.List.{List, [], _∷_, _++_}
 use Prim.Native.Nat.{ℕ, _+_, _≤_}
 use lib.ListN.{length, take, drop}
 use Rattle.forms.specs.Form.{Piece, word, number}
-use Rattle.forms.specs.Forms.{planHeadForm, unitLineForm, slotLineForm, noneHeadForm, atMostForm, atLeastForm, shortfallForm, refusedForm}
+use Rattle.forms.specs.Forms.{planHeadForm, unitLineForm, carriedLineForm, slotLineForm, noneHeadForm, atMostForm, atLeastForm, shortfallForm, refusedForm}
 use Rattle.forms.specs.Decimal.{formLine}
 
 -- the page with these bytes from the place on, and nothing else changed
@@ -28,6 +28,10 @@ planHead units = formLine planHeadForm (units ∷ [])
 
 unfoldable pub unitLine : ℕ → ℕ → ℕ → ℕ → List ℕ
 unitLine loader slot earliest latest = formLine unitLineForm (loader ∷ slot ∷ earliest ∷ latest ∷ [])
+
+-- of a unit that is carried over into the next wave
+unfoldable pub carriedLine : ℕ → ℕ → ℕ → List ℕ
+carriedLine loader earliest latest = formLine carriedLineForm (loader ∷ earliest ∷ latest ∷ [])
 
 unfoldable pub slotLine : ℕ → ℕ → ℕ → ℕ → List ℕ
 slotLine slot count least greatest = formLine slotLineForm (slot ∷ count ∷ least ∷ greatest ∷ [])

@@ -1,7 +1,7 @@
 ghost use mathlib.Core.List.{_++_, _∷_, []};
 ghost use Prim.Native.Nat.{_<_, _≤_};
 ghost use Rattle.forms.specs.Decimal.{digits, formLine};
-ghost use Rattle.print_bytes.specs.Writing.{Room, Written, unitLine, slotLine};
+ghost use Rattle.print_bytes.specs.Writing.{Room, Written, unitLine, carriedLine, slotLine};
 ghost use Rattle.print_bytes.specs.Writing.{noNumber, oneNumber, twoNumbers};
 
 // Words, numbers and lines, written into a slice from a place on. Each function gives the place just past what it wrote; that the slice holds it is
@@ -126,6 +126,23 @@ pub fn put_two_numbers(
 {
     let next = put_pair(page, at, first, a);
     put_one_number(page, next, second, b, end)
+}
+
+// The line of a unit that is carried over into the next wave.
+pub fn put_carried(page: &mut [u8], at: usize, loader: u16, earliest: u16, latest: u16) -> usize
+    requires { ⌜ Room (now page) at (carriedLine loader earliest latest) ⌝ }
+    ensures { λ r. ⌜ Written (now (page .entry)) at (carriedLine loader earliest latest) (now (page .exit)) r ⌝ }
+{
+    let next = put_pair(page, at, b"(unit ", loader);
+    put_two_numbers(
+        page,
+        next,
+        b" (carried) (between ",
+        earliest,
+        b" ",
+        latest,
+        b"))",
+    )
 }
 
 // The two lines that a page has many of call `put_word` themselves: so the compiler writes their words as they are.

@@ -4,7 +4,7 @@ use mathlib.Core.Path.{_≡_}
 use mathlib.Core.Bool.{cond}
 use mathlib.Core.List.{List, [], _∷_, map}
 use Prim.Native.Nat.{ℕ, _+_, _*_, _≤_, _<_}
-use lib.Dec.{ltb, eqb}
+use lib.Dec.{leb, ltb, eqb}
 use lib.ListN.{length, getD}
 use lib.IntN.{ℤ, negℤ}
 use Rattle.integers.specs.Parts.{up, dn}
@@ -16,16 +16,20 @@ use Rattle.network.specs.Network.{Weights, around}
 use Rattle.network.specs.Table.{entry, maxBoundaries}
 use Rattle.forms.specs.Words.{text}
 use Rattle.forms.specs.Form.{Piece, word, number}
-use Rattle.print_bytes.specs.Writing.{planHead, unitLine, slotLine, noneHead, atMostLine, atLeastLine, shortfallLine}
+use Rattle.print_bytes.specs.Writing.{planHead, unitLine, carriedLine, slotLine, noneHead, atMostLine, atLeastLine, shortfallLine}
 
 -- ---- the page of a plan
 
--- the line of the unit at a place of the lists, by its loader number
-unfoldable pub unitLineAt : List ℕ → List ℕ → List ℕ → List ℕ → ℕ → List ℕ
-unitLineAt loaders slots earliest latest j = unitLine (getD loaders j 0) (getD slots j 0) (getD earliest j 0) (getD latest j 0)
+-- the line of a unit with a slot: a unit whose slot is past the span is carried
+unfoldable pub placedLine : Slot → ℕ → Slot → Slot → Slot → List ℕ
+placedLine span loader slot earliest latest = cond (leb slot span) (unitLine loader slot earliest latest) (carriedLine loader earliest latest)
 
-unfoldable pub unitLines : List ℕ → List ℕ → List ℕ → List ℕ → List ℕ
-unitLines loaders slots earliest latest = joined (map (unitLineAt loaders slots earliest latest) (run 0 (length slots)))
+-- the line of the unit at a place of the lists, by its loader number
+unfoldable pub unitLineAt : Slot → List ℕ → List ℕ → List ℕ → List ℕ → ℕ → List ℕ
+unitLineAt span loaders slots earliest latest j = placedLine span (getD loaders j 0) (getD slots j 0) (getD earliest j 0) (getD latest j 0)
+
+unfoldable pub unitLines : Slot → List ℕ → List ℕ → List ℕ → List ℕ → List ℕ
+unitLines span loaders slots earliest latest = joined (map (unitLineAt span loaders slots earliest latest) (run 0 (length slots)))
 
 unfoldable pub slotLineAt : (Slot → ℕ) → (Slot → ℕ) → (Slot → ℕ) → Slot → List ℕ
 slotLineAt count least greatest t = slotLine t (count t) (least t) (greatest t)
@@ -41,10 +45,10 @@ unitsAt slots t = howMany (eqb t) slots
 unfoldable pub slotCounts : List ℕ → List ℕ
 slotCounts slots = listOf maxBoundaries (unitsAt slots)
 
--- each unit's loader number, slot and narrowed window; each slot's count in this plan, and the least and the greatest over lawful plans
+-- each unit's loader number, slot or that it is carried, and narrowed window; each slot's count in this plan, and the least and the greatest over lawful plans
 unfoldable pub planPage : ℕ → List ℕ → List ℕ → List ℕ → List ℕ → (ℕ → ℕ) → (ℕ → ℕ) → List ℕ
 planPage span loaders slots earliest latest least greatest =
-    joined (planHead (length slots) ∷ unitLines loaders slots earliest latest ∷ slotLines span (unitsAt slots) least greatest ∷ [])
+    joined (planHead (length slots) ∷ unitLines span loaders slots earliest latest ∷ slotLines span (unitsAt slots) least greatest ∷ [])
 
 -- the least and the greatest count of a slot, from the finished table of w boundaries: a slot is the stretch from its start to its end
 abbrev pub leastFrom : ℕ → List ℤ → Slot → ℕ
@@ -107,7 +111,7 @@ pub record RingFits (w : ℕ) (limits : List ℤ) (ring : List Boundary) : Type 
 -- ---- how long a page can be
 
 -- the longest head, and the longest line of a unit, of a slot and of a step: loader numbers have at most four digits, the number of units and counts at most
--- three, slots at most two
+-- three, slots at most two; ` (carried)` is as long as ` (slot 48)`
 abbrev pub maxHead : ℕ
 maxHead = 18
 

@@ -19,7 +19,7 @@ use Rattle.lists.specs.Counts.{howMany-most}
 use Rattle.network.specs.Network.{Weights, via}
 use Rattle.network.specs.NetworkLaws.{Upto, distinct-length, cycle-read}
 use Rattle.network.specs.Table.{maxBoundaries}
-use Rattle.sheet.specs.Sizes.{maxSlots, maxUnits, maxCount, maxLoader}
+use Rattle.sheet.specs.Sizes.{maxSlots, maxUnits, maxCount, maxLoader, carriedPlace, topOf}
 use Rattle.sheet.specs.Sheet.{Sheet, top, limit, isRing, countIn, lawfulPlans, leastIn, greatestIn, earliest, latest}
 use Rattle.sheet.specs.Sheet.{earliestSlots, latestSlots, soonest, fair, printedPlans, printedPlan, headOr}
 use Rattle.sheet.specs.PlanLaws.{in-lawfulPlans-iff}
@@ -28,17 +28,29 @@ use Rattle.sheet.specs.Questions.{accepted, loadersFit}
 use Rattle.sheet.specs.LoaderLaws.{loader-size}
 use Rattle.sheet.specs.QuestionLaws.{accepted-sized, accepted-valid}
 use Rattle.forms.specs.Words.{text}
-use Rattle.forms.specs.Forms.{planHeadForm, unitLineForm, slotLineForm, noneHeadForm, atMostForm, atLeastForm, shortfallForm}
+use Rattle.forms.specs.Forms.{planHeadForm, unitLineForm, carriedLineForm, slotLineForm, noneHeadForm, atMostForm, atLeastForm, shortfallForm}
 use Rattle.forms.specs.DecimalLaws.{line-short}
-use Rattle.print_bytes.specs.Writing.{planHead, unitLine, slotLine, noneHead, atMostLine, atLeastLine, shortfallLine}
-use Rattle.print_page.specs.Page.{unitLineAt, unitLines, slotLineAt, slotLines, unitsAt, planPage, maxHead, maxUnitLine, maxSlotLine}
+use Rattle.print_bytes.specs.Writing.{planHead, unitLine, carriedLine, slotLine, noneHead, atMostLine, atLeastLine, shortfallLine}
+use Rattle.print_page.specs.Page.{placedLine, unitLineAt, unitLines, slotLineAt, slotLines, unitsAt, planPage, maxHead, maxUnitLine, maxSlotLine}
 use Rattle.print_page.specs.Page.{stepLine, stepLines, ringLines, shortfallOf, nonePage, maxStepLine, maxPage, maxRingPage}
-use Rattle.print_page.specs.PageLaws.{three-length, step-forward, step-backward}
+use Rattle.print_page.specs.PageLaws.{three-length, placed-inside, placed-past, step-forward, step-backward}
 
 -- ---- lines
 unitLine-short : (k x e l : ℕ) → k < 10000 → x < 100 → e < 100 → l < 100 → length (unitLine k x e l) ≤ maxUnitLine
 unfolding unitLine text
 unitLine-short k x e l hk hx he hl = line-short unitLineForm (k ∷ x ∷ e ∷ l ∷ []) (4 ∷ 2 ∷ 2 ∷ 2 ∷ []) (hk, (hx, (he, (hl, tt))))
+
+carriedLine-short : (k e l : ℕ) → k < 10000 → e < 100 → l < 100 → length (carriedLine k e l) ≤ maxUnitLine
+unfolding carriedLine text
+carriedLine-short k e l hk he hl = line-short carriedLineForm (k ∷ e ∷ l ∷ []) (4 ∷ 2 ∷ 2 ∷ []) (hk, (he, (hl, tt)))
+
+-- the slot of a unit line is at most the span
+placedLine-short : (span k x e l : ℕ) → span < 100 → k < 10000 → e < 100 → l < 100 → length (placedLine span k x e l) ≤ maxUnitLine
+placedLine-short span k x e l hs hk he hl =
+    elim (decLe x span) [
+      | yes h ↦ rw (placed-inside span k x e l h) (unitLine-short k x e l hk (omega arith) he hl)
+      | no g ↦ rw (placed-past span k x e l (omega arith)) (carriedLine-short k e l hk he hl)
+    ]
 
 slotLine-short : (t c l g : ℕ) → t < 100 → c < 1000 → l < 1000 → g < 1000 → length (slotLine t c l g) ≤ maxSlotLine
 unfolding slotLine text
@@ -77,20 +89,20 @@ lines-short f m i (suc k) h =
 
 -- ---- the page of a plan
 
--- loader numbers within 9999, slots within 48 and counts within 300
+-- loader numbers within 9999, the span within 48, narrowed windows within the carried place behind it, and counts within 300
 pub record Small (span : ℕ) (loader slots first last : List ℕ) (low high : ℕ → ℕ) : Type 0 where
   pub spans : span ≤ maxSlots
   pub units : length slots ≤ maxUnits
   pub loaders : (j : ℕ) → getD loader j 0 ≤ maxLoader
-  pub seats : (j : ℕ) → (getD slots j 0 ≤ maxSlots) × (getD first j 0 ≤ maxSlots) × (getD last j 0 ≤ maxSlots)
+  pub windows : (j : ℕ) → (getD first j 0 ≤ carriedPlace maxSlots) × (getD last j 0 ≤ carriedPlace maxSlots)
   pub ranges : (t : ℕ) → (low t ≤ maxUnits) × (high t ≤ maxUnits)
 
 module _ {span : ℕ} {loader slots first last : List ℕ} {low high : ℕ → ℕ} (s : Small span loader slots first last low high) where
-  units-short : length (unitLines loader slots first last) ≤ length slots * maxUnitLine
+  units-short : length (unitLines span loader slots first last) ≤ length slots * maxUnitLine
   unfolding unitLines unitLineAt
-  units-short = lines-short (unitLineAt loader slots first last) maxUnitLine 0 (length slots)
-      (λ j p q. let b = s .seats j in unitLine-short (getD loader j 0) (getD slots j 0) (getD first j 0) (getD last j 0)
-      (omega (arith, s .loaders j)) (omega arith) (omega arith) (omega arith))
+  units-short = lines-short (unitLineAt span loader slots first last) maxUnitLine 0 (length slots)
+      (λ j p q. let b = s .windows j in placedLine-short span (getD loader j 0) (getD slots j 0) (getD first j 0) (getD last j 0)
+      (omega (arith, s .spans)) (omega (arith, s .loaders j)) (omega arith) (omega arith))
 
   slots-short : length (slotLines span (unitsAt slots) low high) ≤ span * maxSlotLine
   unfolding slotLines slotLineAt
@@ -111,7 +123,7 @@ module _ {span : ℕ} {loader slots first last : List ℕ} {low high : ℕ → �
   planPage-short =
       omega (
         arith,
-        three-length (planHead (length slots)) (unitLines loader slots first last) (slotLines span (unitsAt slots) low high),
+        three-length (planHead (length slots)) (unitLines span loader slots first last) (slotLines span (unitsAt slots) low high),
         units-short,
         slots-short,
         head-short (length slots) (omega (arith, s .units)),
@@ -147,7 +159,7 @@ loader-small ks fit j =
     ]
 
 module _ (s : Sheet) (ok : T (accepted s)) where
-  seat-small : (x : List ℕ) → In x (lawfulPlans s) → (j : ℕ) → getD x j 0 ≤ maxSlots
+  seat-small : (x : List ℕ) → In x (lawfulPlans s) → (j : ℕ) → getD x j 0 ≤ carriedPlace maxSlots
   unfolding top
   seat-small x m j =
       let l = in-lawfulPlans-iff s x .0 m .seated in
@@ -168,9 +180,6 @@ module _ (s : Sheet) (ok : T (accepted s)) where
       go [] h = inl refl
       go (x ∷ xs) h = inr (h x (List·Memᴰ·head refl))
 
-  printed-small : (j : ℕ) → getD (printedPlan s) j 0 ≤ maxSlots
-  printed-small j = ⊎-elim (λ e. omega (arith, ap (λ x. getD x j 0) e)) (λ m. seat-small (printedPlan s) m j) printed
-
   printed-few : length (printedPlan s) ≤ maxUnits
   printed-few =
       ⊎-elim (λ e. omega (arith, ap length e))
@@ -179,14 +188,13 @@ module _ (s : Sheet) (ok : T (accepted s)) where
   sheet-small : (ks : List ℕ) → T (loadersFit ks)
       → Small (s .span) ks (printedPlan s) (earliestSlots s) (latestSlots s) (λ t. leastIn s t t) (λ t. greatestIn s t t)
   unfolding earliestSlots latestSlots earliest latest leastIn greatestIn
-  sheet-small ks fit = record {
+  sheet-small ks fit = let last = carriedPlace maxSlots in record {
     spans = accepted-sized s ok .slots .1;
     units = printed-few;
     loaders = loader-small ks fit;
-    seats = λ j. (
-      printed-small j,
-      values-small (earliest s) maxSlots 0 (length (s .units)) j (λ m. least-small (λ plan. getD plan m 0) maxSlots (lawfulPlans s) (λ x h. seat-small x h m)),
-      values-small (latest s) maxSlots 0 (length (s .units)) j (λ m. greatest-small (λ plan. getD plan m 0) maxSlots (lawfulPlans s) (λ x h. seat-small x h m)),
+    windows = λ j. (
+      values-small (earliest s) last 0 (length (s .units)) j (λ m. least-small (λ plan. getD plan m 0) last (lawfulPlans s) (λ x h. seat-small x h m)),
+      values-small (latest s) last 0 (length (s .units)) j (λ m. greatest-small (λ plan. getD plan m 0) last (lawfulPlans s) (λ x h. seat-small x h m)),
     );
     ranges = λ t. (
       least-small (countIn t t) maxUnits (lawfulPlans s) (count-small t t),
@@ -200,15 +208,15 @@ module _ (s : Sheet) (ok : T (accepted s)) where
 
 -- ---- the page of a ring
 
--- limits within 300 of 0, between boundaries within 48
+-- limits within 300 of 0, between boundaries within the top of the longest span
 pub record SmallSteps (d : Weights) : Type 0 where
-  pub each : (a b : ℕ) → a ≤ maxSlots → b ≤ maxSlots → (up (d a b) ≤ maxCount) × (dn (d a b) ≤ maxCount)
+  pub each : (a b : ℕ) → a ≤ topOf maxSlots → b ≤ topOf maxSlots → (up (d a b) ≤ maxCount) × (dn (d a b) ≤ maxCount)
 
 fall-sum : (x y : ℤ) → dn (x +ℤ y) ≤ dn x + dn y
 fall-sum x y = ⊎-elim (λ e. omega (arith, sum x y)) (λ e. omega arith) (apart (x +ℤ y))
 
 module _ (d : Weights) (small : SmallSteps d) where
-  stepLine-short : (a b : ℕ) → a ≤ maxSlots → b ≤ maxSlots → length (stepLine d a b) ≤ maxStepLine
+  stepLine-short : (a b : ℕ) → a ≤ topOf maxSlots → b ≤ topOf maxSlots → length (stepLine d a b) ≤ maxStepLine
   stepLine-short a b ha hb =
       let l = small .each a b ha hb in
       elim (decLe b a) [
@@ -216,7 +224,7 @@ module _ (d : Weights) (small : SmallSteps d) where
         | no g ↦ rw (step-forward d a b (omega arith)) (atMost-short (up (d a b)) (suc a) b (omega arith) (omega arith) (omega arith))
       ]
 
-  stepLines-short : (a : ℕ) (bs : List ℕ) (e : ℕ) → a ≤ maxSlots → ((b : ℕ) → In b bs → b ≤ maxSlots) → e ≤ maxSlots
+  stepLines-short : (a : ℕ) (bs : List ℕ) (e : ℕ) → a ≤ topOf maxSlots → ((b : ℕ) → In b bs → b ≤ topOf maxSlots) → e ≤ topOf maxSlots
       → length (joined (stepLines d a bs e)) ≤ suc (length bs) * maxStepLine
   unfolding stepLines
   stepLines-short a [] e ha h he = omega (arith, stepLine-short a e ha he, length-append (stepLine d a e) [])
@@ -229,20 +237,20 @@ module _ (d : Weights) (small : SmallSteps d) where
         stepLines-short b bs e hb (λ c m. h c (List·Memᴰ·tail m)) he,
       )
 
-  fall-short : (a : ℕ) (bs : List ℕ) (e : ℕ) → a ≤ maxSlots → ((b : ℕ) → In b bs → b ≤ maxSlots) → e ≤ maxSlots
+  fall-short : (a : ℕ) (bs : List ℕ) (e : ℕ) → a ≤ topOf maxSlots → ((b : ℕ) → In b bs → b ≤ topOf maxSlots) → e ≤ topOf maxSlots
       → dn (via d a bs e) ≤ suc (length bs) * maxCount
   fall-short a [] e ha h he = omega (arith, small .each a e ha he)
   fall-short a (b ∷ bs) e ha h he =
       let hb = h b (List·Memᴰ·head refl) in
       omega (arith, fall-sum (d a b) (via d b bs e), small .each a b ha hb, fall-short b bs e hb (λ c m. h c (List·Memᴰ·tail m)) he)
 
-  pub nonePage-short : (ring : List ℕ) → length ring ≤ maxBoundaries → ((b : ℕ) → In b ring → b ≤ maxSlots) → length (nonePage d ring) ≤ maxRingPage
+  pub nonePage-short : (ring : List ℕ) → length ring ≤ maxBoundaries → ((b : ℕ) → In b ring → b ≤ topOf maxSlots) → length (nonePage d ring) ≤ maxRingPage
   unfolding nonePage ringLines
   nonePage-short [] few h =
       omega (arith, three-length noneHead [] (shortfallLine (shortfallOf d [])), noneHead-short, shortfall-short (shortfallOf d []) (omega arith))
   nonePage-short (a ∷ bs) few h =
       let ha = h a (List·Memᴰ·head refl) in
-      let hs : (b : ℕ) → In b bs → b ≤ maxSlots = λ c m. h c (List·Memᴰ·tail m) in
+      let hs : (b : ℕ) → In b bs → b ≤ topOf maxSlots = λ c m. h c (List·Memᴰ·tail m) in
       omega (
         arith,
         three-length noneHead (joined (stepLines d a bs a)) (shortfallLine (shortfallOf d (a ∷ bs))),

@@ -11,7 +11,7 @@ use lib.ListN.{length, drop, getD, length-append, drop-of-length-le}
 use lib.Dec.{ltb}
 use lib.IntN.{ℤ, negℤ, _+ℤ_}
 use lib.Seq.{drop-cons}
-use borrow.Author.Tests.{lt-ltb, le-ltb}
+use borrow.Author.Tests.{lt-ltb, le-ltb, le-leb, lt-leb}
 use Rattle.integers.specs.Parts.{up, dn, sum, neg, apart}
 use Rattle.lists.specs.Lists.{joined}
 use Rattle.lists.specs.Values.{values-same, length-listOf, listOf-at}
@@ -20,8 +20,8 @@ use Rattle.network.specs.NetworkLaws.{Upto, via-same}
 use Rattle.network.specs.Table.{maxBoundaries}
 use Rattle.sheet.specs.Sizes.{maxSlots}
 use Rattle.limits.specs.LentTableLaws.{place-inside}
-use Rattle.print_bytes.specs.Writing.{planHead, noneHead, atMostLine, atLeastLine, shortfallLine}
-use Rattle.print_page.specs.Page.{unitsAt, slotCounts, unitLines, slotLineAt, slotLines, planPage}
+use Rattle.print_bytes.specs.Writing.{planHead, unitLine, carriedLine, noneHead, atMostLine, atLeastLine, shortfallLine}
+use Rattle.print_page.specs.Page.{unitsAt, slotCounts, placedLine, unitLines, slotLineAt, slotLines, planPage}
 use Rattle.print_page.specs.Page.{stepLine, stepLines, ringLines, shortfallOf, nonePage, RingFits}
 
 -- a page is three parts
@@ -46,8 +46,18 @@ pub planPage-same : (span : ℕ) (loaders slots earliest latest : List ℕ) {lea
     → planPage span loaders slots earliest latest least greatest ≡ planPage span loaders slots earliest latest least′ greatest′
 unfolding planPage
 planPage-same span loaders slots earliest latest l g =
-    ap (λ ls. joined (planHead (length slots) ∷ unitLines loaders slots earliest latest ∷ ls ∷ []))
+    ap (λ ls. joined (planHead (length slots) ∷ unitLines span loaders slots earliest latest ∷ ls ∷ []))
     (slotLines-same span (record { each = λ t h k. refl }) l g)
+
+-- ---- a unit's line, by where its slot lies
+module _ (span k x e l : ℕ) where
+  pub placed-inside : x ≤ span → placedLine span k x e l ≡ unitLine k x e l
+  unfolding placedLine
+  placed-inside h = rw (le-leb x span h)
+
+  pub placed-past : span < x → placedLine span k x e l ≡ carriedLine k e l
+  unfolding placedLine
+  placed-past h = rw (lt-leb x span h)
 
 -- ---- each slot's count, read from the list of counts
 pub counts-at : (plan : List ℕ) (t : ℕ) → t < maxBoundaries → getD (slotCounts plan) t 0 ≡ unitsAt plan t
@@ -61,10 +71,10 @@ counts-length plan = length-listOf (unitsAt plan) maxBoundaries
 -- the page of a plan, with each slot's count read from the list of counts
 pub page-counted : (span : ℕ) (loaders plan earliest latest counts : List ℕ) (least greatest : ℕ → ℕ) → span ≤ maxSlots → counts ≡ slotCounts plan
     → planPage span loaders plan earliest latest least greatest
-    ≡ joined (planHead (length plan) ∷ unitLines loaders plan earliest latest ∷ slotLines span (λ t. getD counts t 0) least greatest ∷ [])
+    ≡ joined (planHead (length plan) ∷ unitLines span loaders plan earliest latest ∷ slotLines span (λ t. getD counts t 0) least greatest ∷ [])
 unfolding planPage
 page-counted span loaders plan earliest latest counts least greatest h e =
-    ap (λ ls. joined (planHead (length plan) ∷ unitLines loaders plan earliest latest ∷ ls ∷ []))
+    ap (λ ls. joined (planHead (length plan) ∷ unitLines span loaders plan earliest latest ∷ ls ∷ []))
     (slotLines-same span counted (record { each = λ t k m. refl }) (record { each = λ t k m. refl }))
   where
     counted : SameSlots span (unitsAt plan) (λ t. getD counts t 0)

@@ -3,21 +3,22 @@
 use mathlib.Core.Bool.{Bool, false, cond}
 use mathlib.Core.List.{List, [], _∷_, map}
 use Prim.Native.Nat.{ℕ, _-_}
-use lib.Dec.{eqb, ltb}
+use lib.Dec.{eqb, leb, ltb}
 use lib.IntN.{negℤ}
 use lib.ListN.{getD, take, drop}
 use Rattle.lists.specs.Lists.{howMany}
 use Rattle.integers.specs.Parts.{up}
-use Rattle.slots.specs.Slots.{Boundary, slotBefore, slotAfter}
+use Rattle.slots.specs.Slots.{Slot, Boundary, slotBefore, slotAfter}
 use Rattle.network.specs.Network.{Weights}
 use Rattle.forms.specs.Form.{Piece, matches, numbers, value}
-use Rattle.forms.specs.Forms.{planHeadForm, unitLineForm, slotLineForm, noneHeadForm, atMostForm, atLeastForm, shortfallForm, refusedForm}
+use Rattle.forms.specs.Forms.{planHeadForm, unitLineForm, carriedLineForm, slotLineForm, noneHeadForm, atMostForm, atLeastForm, shortfallForm, refusedForm}
 use Rattle.forms.specs.Lines.{TextLine, lines}
 
 -- what a line says, with its numbers in their order
 pub data Said : Type 0 where
   plan : ℕ → Said
   unit : ℕ → ℕ → ℕ → ℕ → Said
+  carried : ℕ → ℕ → ℕ → Said
   slot : ℕ → ℕ → ℕ → ℕ → Said
   none : Said
   atMost : ℕ → ℕ → ℕ → Said
@@ -34,11 +35,12 @@ pub record Reading : Type 0 where
 abbrev pub reading : List Piece → ((ℕ → ℕ) → Said) → Reading
 reading f s = record { form = f; says = s }
 
--- the lines of a page; no two of them start alike
+-- the lines of a page; none is of two of these forms, for each two differ at a word, and before it they are the same
 abbrev pub readings : List Reading
 readings =
     reading planHeadForm (λ n. plan (n 0))
     ∷ reading unitLineForm (λ n. unit (n 0) (n 1) (n 2) (n 3))
+    ∷ reading carriedLineForm (λ n. carried (n 0) (n 1) (n 2))
     ∷ reading slotLineForm (λ n. slot (n 0) (n 1) (n 2) (n 3))
     ∷ reading noneHeadForm (λ n. none)
     ∷ reading atMostForm (λ n. atMost (n 0) (n 1) (n 2))
@@ -70,6 +72,7 @@ answerOn page at next = readLines (take (next - at) (drop at page))
 abbrev pub isUnitWith : ℕ → Said → Bool
 isUnitWith t (plan n) = false
 isUnitWith t (unit k x e l) = eqb t x
+isUnitWith t (carried k e l) = false
 isUnitWith t (slot s c l g) = false
 isUnitWith t none = false
 isUnitWith t (atMost v a b) = false
@@ -83,10 +86,11 @@ abbrev pub unitLinesWith : ℕ → List Said → ℕ
 unitLinesWith t ls = howMany (isUnitWith t) ls
 
 -- ---- what the lines of a plan are to say: of the unit at place j, with its loader number, its slot and the ends of its narrowed window, and of slot t, with
--- its count and range
+-- its count and range; a unit whose slot is past the span is carried, and its line has no slot
 
-abbrev pub unitSaid : (ℕ → ℕ) → (ℕ → ℕ) → (ℕ → ℕ) → (ℕ → ℕ) → ℕ → Said
-unitSaid loaders slots earliest latest j = unit (loaders j) (slots j) (earliest j) (latest j)
+abbrev pub unitSaid : Slot → (ℕ → ℕ) → (ℕ → ℕ) → (ℕ → ℕ) → (ℕ → ℕ) → ℕ → Said
+unitSaid span loaders slots earliest latest j =
+    cond (leb (slots j) span) (unit (loaders j) (slots j) (earliest j) (latest j)) (carried (loaders j) (earliest j) (latest j))
 
 abbrev pub slotSaid : (ℕ → ℕ) → (ℕ → ℕ) → (ℕ → ℕ) → ℕ → Said
 slotSaid count least greatest t = slot t (count t) (least t) (greatest t)

@@ -1,31 +1,32 @@
 -- What is read on a page is what was written on it.
 -- Key idea: each line is a form written out with the digits of its numbers and ended by a line feed. A form written out matches itself and gives its
--- numbers back, a line without a line feed inside is found again, and no form starts as an earlier one does, which is one computed test (`clear`). So one
--- law, `says`, reads every line.
+-- numbers back, a line without a line feed inside is found again, and each form differs from an earlier one at a word, which is one computed test (`clear`).
+-- So one law, `says`, reads every line. A carried unit's slot is past the span, so it is in the count of no slot line.
 use mathlib.Core.Path.{_≡_, refl, sym, ap, ap₂, _∙_}
 use mathlib.Core.Bool.{Bool, true, false, _&&_, not, cond}
 use mathlib.Core.List.{List, [], _∷_, _++_, map, append-assoc, append-nil}
-use Prim.Native.Nat.{ℕ, zero, suc, _+_, _-_}
+use Prim.Native.Nat.{ℕ, zero, suc, _+_, _-_, _≤_}
 use native.Mathlib.Omega.{arith}
 use lib.Dec.{T, eqb, leb, ltb}
 use lib.ListN.{length, getD}
 use lib.IntN.{negℤ}
-use borrow.Author.Tests.{ne-eqb, leb-true}
+use borrow.Author.Tests.{ne-eqb, leb-true, leb-false}
 use Rattle.lists.specs.Members.{both, left, right, and-left}
 use Rattle.lists.specs.Values.{listOf-is, values-same}
 use Rattle.lists.specs.Lists.{run, fromTo, every, howMany, oneIf, joined}
 use Rattle.integers.specs.Parts.{up}
 use Rattle.network.specs.Network.{Weights}
 use Rattle.forms.specs.Words.{lineFeed, text}
-use Rattle.forms.specs.Form.{Piece, word, number, isDigit, startsWith, matches, numbers, written, value}
-use Rattle.forms.specs.FormLaws.{Digits, Suits, separated, written-matches}
+use Rattle.forms.specs.Form.{Piece, word, number, isDigit, numbers, written, value}
+use Rattle.forms.specs.FormLaws.{Digits, Suits, separated, written-matches, formsApart, apart-unmatched}
 use Rattle.forms.specs.Decimal.{digits, spell, formLine}
 use Rattle.forms.specs.DecimalLaws.{values-digits, numbersIn, suits-digits}
 use Rattle.forms.specs.Lines.{textLine, inFront, lines}
-use Rattle.print_bytes.specs.Writing.{Room, Written, planHead, unitLine, slotLine, noneHead, atMostLine, atLeastLine, shortfallLine, refusedLine}
+use Rattle.print_bytes.specs.Writing.{Room, Written, planHead, unitLine, carriedLine, slotLine, noneHead, atMostLine, atLeastLine, shortfallLine, refusedLine}
 use Rattle.print_bytes.specs.WritingLaws.{written-part}
-use Rattle.print_page.specs.Page.{unitLineAt, unitLines, slotLineAt, slotLines, unitsAt, planPage, stepLine, stepLines, ringLines, shortfallOf, nonePage}
-use Rattle.print_page.specs.PageLines.{Said, plan, unit, slot, none, atMost, atLeast, shortfall, refused, other, Reading, reading, readings}
+use Rattle.print_page.specs.Page.{placedLine, unitLineAt, unitLines, slotLineAt, slotLines, unitsAt, planPage}
+use Rattle.print_page.specs.Page.{stepLine, stepLines, ringLines, shortfallOf, nonePage}
+use Rattle.print_page.specs.PageLines.{Said, plan, unit, carried, slot, none, atMost, atLeast, shortfall, refused, other, Reading, reading, readings}
 use Rattle.print_page.specs.PageLines.{readBy, readLine, saidBy, readLines, answerOn, isUnitWith, unitLinesWith}
 use Rattle.print_page.specs.PageLines.{unitSaid, slotSaid, stepSaid, stepsSaid, ringSaid}
 
@@ -91,69 +92,51 @@ read-next {line} {s} t l =
 
 -- ---- a form, read by the first reading that has it
 
--- two words that differ before either ends
-abbrev apart : List ℕ → List ℕ → Bool
-apart [] w = false
-apart (x ∷ v) [] = false
-apart (x ∷ v) (y ∷ w) = cond (eqb x y) (apart v w) true
-
-apart-starts : (v w t : List ℕ) → T (apart v w) → startsWith v (w ++ t) ≡ false
-apart-starts [] w t h = absurd h
-apart-starts (x ∷ v) [] t h = absurd h
-apart-starts (x ∷ v) (y ∷ w) t h = go (eqb x y) (apart-starts v w t) h
-  where
-    go : (e : Bool) → (T (apart v w) → startsWith v (w ++ t) ≡ false) → T (cond e (apart v w) true) → (e && startsWith v (w ++ t)) ≡ false
-    go true rest h = rest h
-    go false rest h = refl
-
-abbrev firstWord : List Piece → List ℕ
-firstWord [] = []
-firstWord (word w ∷ f) = w
-firstWord (number ∷ f) = []
-
-other-form : (g f : List Piece) (ns : List (List ℕ)) → T (apart (firstWord g) (firstWord f)) → matches g (written f ns) ≡ false
-unfolding matches written
-other-form [] f ns h = absurd h
-other-form (number ∷ g) f ns h = absurd h
-other-form (word [] ∷ g) f ns h = absurd h
-other-form (word (x ∷ v) ∷ g) [] ns h = absurd h
-other-form (word (x ∷ v) ∷ g) (number ∷ f) ns h = absurd h
-other-form (word (x ∷ v) ∷ g) (word w ∷ f) ns h = rw (apart-starts (x ∷ v) w (written f ns) h)
-
 abbrev nth : List Reading → ℕ → Reading
 nth [] i = reading [] (λ n. other)
 nth (r ∷ rs) zero = r
 nth (r ∷ rs) (suc i) = nth rs i
 
--- the form at a place: no earlier one starts as it does, words end its numbers, and no line feed stands in it
+-- a form whose lines are read back: words end its numbers, and no line feed stands in it
+abbrev sound : List Piece → Bool
+sound f = separated f && unbrokenForm f
+
+-- the form at a place is one, and differs from each earlier one at a word
 abbrev clear : List Reading → ℕ → Bool
 clear [] i = false
-clear (r ∷ rs) zero = separated (r .form) && unbrokenForm (r .form)
-clear (r ∷ rs) (suc i) = apart (firstWord (r .form)) (firstWord (nth rs i .form)) && clear rs i
+clear (r ∷ rs) zero = sound (r .form)
+clear (r ∷ rs) (suc i) = formsApart (r .form) (nth rs i .form) && clear rs i
+
+clear-sound : (rs : List Reading) (i : ℕ) → T (clear rs i) → T (sound (nth rs i .form))
+clear-sound [] i h = absurd h
+clear-sound (r ∷ rs) zero h = h
+clear-sound (r ∷ rs) (suc i) h = clear-sound rs i (right (formsApart (r .form) (nth rs i .form)) (clear rs i) h)
 
 is-true : (b : Bool) → T b → b ≡ true
 is-true true h = refl
 is-true false h = absurd h
 
+clear-separated : (rs : List Reading) (i : ℕ) → T (clear rs i) → separated (nth rs i .form) ≡ true
+clear-separated rs i h = let f = nth rs i .form in is-true (separated f) (left (separated f) (unbrokenForm f) (clear-sound rs i h))
+
 clear-unbroken : (rs : List Reading) (i : ℕ) → T (clear rs i) → T (unbrokenForm (nth rs i .form))
-clear-unbroken [] i h = absurd h
-clear-unbroken (r ∷ rs) zero h = right (separated (r .form)) (unbrokenForm (r .form)) h
-clear-unbroken (r ∷ rs) (suc i) h = clear-unbroken rs i (right (apart (firstWord (r .form)) (firstWord (nth rs i .form))) (clear rs i) h)
+clear-unbroken rs i h = let f = nth rs i .form in right (separated f) (unbrokenForm f) (clear-sound rs i h)
 
 reads : (rs : List Reading) (i : ℕ) (ns : List ℕ) → T (clear rs i) → Suits (nth rs i .form) (map digits ns)
     → readBy rs (spell (nth rs i .form) ns) ≡ (nth rs i .says) (λ j. getD ns j 0)
 unfolding readBy
 reads [] i ns h s = absurd h
 reads (r ∷ rs) zero ns h s =
-    let f = written-matches (r .form) (map digits ns) (is-true (separated (r .form)) (left (separated (r .form)) (unbrokenForm (r .form)) h)) s in
+    let f = written-matches (r .form) (map digits ns) (clear-separated (r ∷ rs) zero h) s in
     ap₂ (λ m v. cond m ((r .says) (λ i. getD (map value v) i 0)) (readBy rs (spell (r .form) ns))) (f .matched) (f .found)
     ∙ ap (λ v. (r .says) (λ i. getD v i 0)) (values-digits ns)
 reads (r ∷ rs) (suc i) ns h s =
     let l = spell (nth rs i .form) ns in
-    let differs = apart (firstWord (r .form)) (firstWord (nth rs i .form)) in
+    let differs = formsApart (r .form) (nth rs i .form) in
+    let later = right differs (clear rs i) h in
     ap (λ m. cond m ((r .says) (λ i. getD (map value (numbers (r .form) l)) i 0)) (readBy rs l))
-    (other-form (r .form) (nth rs i .form) (map digits ns) (left differs (clear rs i) h))
-    ∙ reads rs i ns (right differs (clear rs i) h) s
+    (apart-unmatched (r .form) (nth rs i .form) (map digits ns) (left differs (clear rs i) h) (clear-separated rs i later) s)
+    ∙ reads rs i ns later s
 
 -- the line of the form at place i of the readings says what that reading has it say
 says : (i : ℕ) (ns : List ℕ) → T (clear readings i) → length ns ≡ numbersIn (nth readings i .form)
@@ -175,29 +158,33 @@ unit-says : (a b c d : ℕ) → Says (unitLine a b c d) (unit a b c d)
 unfolding unitLine text
 unit-says a b c d = says 1 (a ∷ b ∷ c ∷ d ∷ []) tt refl
 
+carried-says : (a b c : ℕ) → Says (carriedLine a b c) (carried a b c)
+unfolding carriedLine text
+carried-says a b c = says 2 (a ∷ b ∷ c ∷ []) tt refl
+
 slot-says : (a b c d : ℕ) → Says (slotLine a b c d) (slot a b c d)
 unfolding slotLine text
-slot-says a b c d = says 2 (a ∷ b ∷ c ∷ d ∷ []) tt refl
+slot-says a b c d = says 3 (a ∷ b ∷ c ∷ d ∷ []) tt refl
 
 none-says : Says noneHead none
 unfolding noneHead text
-none-says = says 3 [] tt refl
+none-says = says 4 [] tt refl
 
 at-most-says : (a b c : ℕ) → Says (atMostLine a b c) (atMost a b c)
 unfolding atMostLine text
-at-most-says a b c = says 4 (a ∷ b ∷ c ∷ []) tt refl
+at-most-says a b c = says 5 (a ∷ b ∷ c ∷ []) tt refl
 
 at-least-says : (a b c : ℕ) → Says (atLeastLine a b c) (atLeast a b c)
 unfolding atLeastLine text
-at-least-says a b c = says 5 (a ∷ b ∷ c ∷ []) tt refl
+at-least-says a b c = says 6 (a ∷ b ∷ c ∷ []) tt refl
 
 shortfall-says : (n : ℕ) → Says (shortfallLine n) (shortfall n)
 unfolding shortfallLine text
-shortfall-says n = says 6 (n ∷ []) tt refl
+shortfall-says n = says 7 (n ∷ []) tt refl
 
 refused-says : (q n : ℕ) → Says (refusedLine q n) (refused q n)
 unfolding refusedLine text
-refused-says q n = says 7 (q ∷ n ∷ []) tt refl
+refused-says q n = says 8 (q ∷ n ∷ []) tt refl
 
 -- ---- the page of a plan, read
 
@@ -218,12 +205,20 @@ read-nothing : readLines [] ≡ []
 unfolding readLines lines
 read-nothing = refl
 
+placed-says : (span k x e l : ℕ) → Says (placedLine span k x e l) (cond (leb x span) (unit k x e l) (carried k e l))
+unfolding placedLine
+placed-says span k x e l = go (leb x span)
+  where
+    go : (b : Bool) → Says (cond b (unitLine k x e l) (carriedLine k e l)) (cond b (unit k x e l) (carried k e l))
+    go true = unit-says k x e l
+    go false = carried-says k e l
+
 module _ (span : ℕ) (loaders slots first last : List ℕ) (low high : ℕ → ℕ) where
   abbrev page : List ℕ
   page = planPage span loaders slots first last low high
 
   abbrev ofUnit : ℕ → Said
-  ofUnit = unitSaid (λ j. getD loaders j 0) (λ j. getD slots j 0) (λ j. getD first j 0) (λ j. getD last j 0)
+  ofUnit = unitSaid span (λ j. getD loaders j 0) (λ j. getD slots j 0) (λ j. getD first j 0) (λ j. getD last j 0)
 
   abbrev ofSlot : (ℕ → ℕ) → ℕ → Said
   ofSlot count = slotSaid count low high
@@ -232,31 +227,40 @@ module _ (span : ℕ) (loaders slots first last : List ℕ) (low high : ℕ → 
   counted-read : readLines page ≡ plan (length slots) ∷ (map ofUnit (run 0 (length slots)) ++ map (ofSlot (unitsAt slots)) (fromTo 1 span))
   unfolding planPage unitLines unitLineAt slotLines slotLineAt
   counted-read =
-      read-next (joined (unitLines loaders slots first last ∷ slotLines span (unitsAt slots) low high ∷ [])) (plan-says (length slots))
+      read-next (joined (unitLines span loaders slots first last ∷ slotLines span (unitsAt slots) low high ∷ [])) (plan-says (length slots))
       ∙ ap (λ ls. plan (length slots) ∷ ls)
-      (read-lines (unitLineAt loaders slots first last) ofUnit
-      (λ j. unit-says (getD loaders j 0) (getD slots j 0) (getD first j 0) (getD last j 0)) 0 (length slots)
+      (read-lines (unitLineAt span loaders slots first last) ofUnit
+      (λ j. placed-says span (getD loaders j 0) (getD slots j 0) (getD first j 0) (getD last j 0)) 0 (length slots)
       (joined (slotLines span (unitsAt slots) low high ∷ []))
       ∙ ap (λ ls. map ofUnit (run 0 (length slots)) ++ ls)
       (read-lines (slotLineAt (unitsAt slots) low high) (ofSlot (unitsAt slots)) (λ t. slot-says t (unitsAt slots t) (low t) (high t)) 1 (suc span - 1) []
       ∙ ap (λ ls. map (ofSlot (unitsAt slots)) (fromTo 1 span) ++ ls) read-nothing ∙ append-nil (map (ofSlot (unitsAt slots)) (fromTo 1 span))))
 
   -- the unit lines with a slot are as many as the units that have it
-  units-counted : (t i k : ℕ) → howMany (isUnitWith t) (map ofUnit (run i k)) ≡ howMany (eqb t) (map (λ j. getD slots j 0) (run i k))
-  units-counted t i zero = refl
-  units-counted t i (suc k) = ap (λ n. oneIf (eqb t (getD slots i 0)) + n) (units-counted t (suc i) k)
+  unit-counted : (t j : ℕ) → t ≤ span → isUnitWith t (ofUnit j) ≡ eqb t (getD slots j 0)
+  unit-counted t j h = go (leb (getD slots j 0) span) refl
+    where
+      go : (b : Bool) → leb (getD slots j 0) span ≡ b
+          → isUnitWith t (cond b (unit (getD loaders j 0) (getD slots j 0) (getD first j 0) (getD last j 0))
+          (carried (getD loaders j 0) (getD first j 0) (getD last j 0))) ≡ eqb t (getD slots j 0)
+      go true e = refl
+      go false e = sym (ne-eqb t (getD slots j 0) (λ z. omega (arith, leb-false (getD slots j 0) span e)))
+
+  units-counted : (t i k : ℕ) → t ≤ span → howMany (isUnitWith t) (map ofUnit (run i k)) ≡ howMany (eqb t) (map (λ j. getD slots j 0) (run i k))
+  units-counted t i zero h = refl
+  units-counted t i (suc k) h = ap₂ (λ b n. oneIf b + n) (unit-counted t i h) (units-counted t (suc i) k h)
 
   no-units : (t i k : ℕ) → howMany (isUnitWith t) (map (ofSlot (unitsAt slots)) (run i k)) ≡ 0
   no-units t i zero = refl
   no-units t i (suc k) = omega (arith, no-units t (suc i) k)
 
-  lines-with : (t : ℕ) → unitLinesWith t (readLines page) ≡ unitsAt slots t
-  lines-with t =
+  lines-with : (t : ℕ) → t ≤ span → unitLinesWith t (readLines page) ≡ unitsAt slots t
+  lines-with t h =
       omega (
         arith,
         ap (unitLinesWith t) counted-read,
         howMany-append (isUnitWith t) (map ofUnit (run 0 (length slots))) (map (ofSlot (unitsAt slots)) (fromTo 1 span)),
-        units-counted t 0 (length slots),
+        units-counted t 0 (length slots) h,
         no-units t 1 (suc span - 1),
         ap (howMany (eqb t)) (listOf-is (λ j. getD slots j 0) 0 (length slots) slots refl (λ j h. refl)),
       )
@@ -269,7 +273,7 @@ module _ (span : ℕ) (loaders slots first last : List ℕ) (low high : ℕ → 
       counted-read
       ∙ ap (λ ls. plan (length slots) ∷ (map ofUnit (run 0 (length slots)) ++ ls))
       (values-same (ofSlot (unitsAt slots)) (ofSlot (λ t. unitLinesWith t (readLines page))) 1 (suc span - 1)
-      (λ t l h. ap (λ c. slot t c (low t) (high t)) (sym (lines-with t))))
+      (λ t l h. ap (λ c. slot t c (low t) (high t)) (sym (lines-with t (omega arith)))))
 
 -- ---- the page of a ring, read
 module _ (d : Weights) where

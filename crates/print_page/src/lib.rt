@@ -8,9 +8,10 @@ ghost use Rattle.network.specs.Table.{entry, maxBoundaries};
 ghost use Rattle.sheet.specs.Sizes.{maxSlots, maxUnits, boundariesOf};
 ghost use Rattle.forms.specs.Decimal.{formLine};
 ghost use Rattle.print_bytes.specs.Writing.{Room, Written};
-ghost use Rattle.print_page.specs.Page.{unitLines, slotLines, slotCounts, leastFrom, greatestFrom, Printable, tablePage};
+ghost use Rattle.print_page.specs.Page.{placedLine, unitLines, slotLines, slotCounts, leastFrom, greatestFrom, Printable, tablePage};
 ghost use Rattle.print_page.specs.Page.{boundForm, stepLine, ringLines, shortfallOf, nonePage, RingFits};
 use network::entry_at;
+use print_bytes::put_carried;
 use print_bytes::put_no_number;
 use print_bytes::put_one_number;
 use print_bytes::put_pair;
@@ -28,23 +29,43 @@ pub const MAX_PAGE: usize = 18 + 38 * Sheet::MAX_UNITS + 38 * Sheet::MAX_SLOTS;
 // No page of a ring is longer: the head, a line of 29 bytes for each boundary, and the shortfall.
 pub const MAX_RING_PAGE: usize = 18 + 29 * Sheet::MAX_BOUNDARIES + 18;
 
+// The line of a unit with a slot: past the span it is carried.
+fn put_placed(
+    page: &mut [u8],
+    at: usize,
+    span: usize,
+    loader: u16,
+    slot: u16,
+    earliest: u16,
+    latest: u16,
+) -> usize
+    requires { ⌜ Room (now page) at (placedLine span loader slot earliest latest) ⌝ }
+    ensures { λ r. ⌜ Written (now (page .entry)) at (placedLine span loader slot earliest latest) (now (page .exit)) r ⌝ }
+{
+    if slot as usize <= span {
+        return put_unit(page, at, loader, slot, earliest, latest);
+    }
+    put_carried(page, at, loader, earliest, latest)
+}
+
 fn put_units(
     page: &mut [u8],
     at: usize,
+    span: usize,
     loader: &[u16],
     plan: &[u16],
     earliest: &[u16],
     latest: &[u16],
 ) -> usize
     requires { ⌜ (length (now loader) ≡ length (now plan)) × (length (now earliest) ≡ length (now plan)) × (length (now latest) ≡ length (now plan)) ⌝ }
-    requires { ⌜ Room (now page) at (unitLines (now loader) (now plan) (now earliest) (now latest)) ⌝ }
+    requires { ⌜ Room (now page) at (unitLines span (now loader) (now plan) (now earliest) (now latest)) ⌝ }
     ensures { λ r. ⌜ Written (now (page .entry)) at
-        (unitLines (now (loader .entry)) (now (plan .entry)) (now (earliest .entry)) (now (latest .entry))) (now (page .exit)) r ⌝ }
+        (unitLines span (now (loader .entry)) (now (plan .entry)) (now (earliest .entry)) (now (latest .entry))) (now (page .exit)) r ⌝ }
 {
     let mut next = at;
     let mut j = 0;
     while j < plan.len() {
-        next = put_unit(page, next, loader[j], plan[j], earliest[j], latest[j]);
+        next = put_placed(page, next, span, loader[j], plan[j], earliest[j], latest[j]);
         j += 1;
     }
     next
@@ -141,7 +162,7 @@ pub fn put_plan(
     let mut counts = [0u16; Sheet::MAX_BOUNDARIES];
     count_slots(plan, &mut counts);
     let next = put_one_number(page, at, b"(answer plan ", plan.len() as u16, b")");
-    let next2 = put_units(page, next, loader, plan, earliest, latest);
+    let next2 = put_units(page, next, span, loader, plan, earliest, latest);
     put_slots(page, next2, span, &counts, table)
 }
 

@@ -26,7 +26,8 @@ fn is_window(span: usize, first: u16, last: u16) -> bool
     requires { ⌜ span ≤ maxSlots ⌝ }
     ensures { λ r. ⌜ r ≡ isWindow span first last ⌝ }
 {
-    sheet::rises(1, span, sheet::carried_place(span), first as usize, last as usize)
+    let carried = sheet::carried_place(span);
+    sheet::rises(1, span, carried, first as usize, last as usize)
 }
 
 // Question 7 of a rule's stretch.

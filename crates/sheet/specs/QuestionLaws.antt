@@ -111,7 +111,7 @@ module _ (s : Sheet) (ok : T (accepted s)) where
   pub accepted-valid : Valid s
   unfolding top windowsFit
   accepted-valid = record {
-    spans = omega arith;
+    spans = omega (arith, accepted-sized .slots);
     windows = λ j h.
         let w = getD (s .units) j noWindow in
         let e = rising-read 1 (s .span) (carriedPlace (s .span)) (w .first) (w .last)

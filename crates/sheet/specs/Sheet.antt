@@ -51,7 +51,7 @@ constraints w = record { span = w .span; units = map (λ u. u .window) (w .units
 abbrev pub loaders : WrittenSheet → List ℕ
 loaders w = map (λ u. u .loader) (w .units)
 
--- the top boundary
+-- the top boundary, where the carried place ends
 unfoldable pub top : Sheet → Boundary
 top s = topOf (s .span)
 
@@ -117,7 +117,7 @@ latestSlots s = map (latest s) (unitPlaces s)
 
 -- ---- the printed plan
 
--- by the end of every slot no lawful plan has more deliveries
+-- by the end of every slot, the carried place included, no lawful plan has more deliveries
 unfoldable pub soonest : Sheet → List Slot → Bool
 soonest s plan = every (λ t. eqb (countIn 1 t plan) (greatestIn s 1 t)) (fromTo 1 (slotBefore (top s)))
 

@@ -22,7 +22,7 @@ begun : (c : tie.After-count-slots) →
     let w = boundariesOf (a .span) in
     Pending (now (a .page)) (a .at)
     (tablePage (a .span) (now (a .loader)) (now (a .plan)) (now (a .earliest)) (now (a .latest)) (now (a .table))) (now (a .page)) (a .at)
-    (planHead (length (now (a .plan))) ∷ unitLines (now (a .loader)) (now (a .plan)) (now (a .earliest)) (now (a .latest))
+    (planHead (length (now (a .plan))) ∷ unitLines (a .span) (now (a .loader)) (now (a .plan)) (now (a .earliest)) (now (a .latest))
     ∷ slotLines (a .span) (λ t. getD (c .count-slots .last .1 .0) t 0) (leastFrom w (now (a .table))) (greatestFrom w (now (a .table))) ∷ [])
 begun c =
     let s = start c in

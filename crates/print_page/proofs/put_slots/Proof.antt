@@ -6,6 +6,7 @@ use native.Mathlib.Omega.{arith}
 use denote.Ref.{now}
 use lib.ListN.{getD}
 use Rattle.lists.specs.Lists.{run, fromTo}
+use Rattle.sheet.specs.Sizes.{boundariesOf}
 use Rattle.print_bytes.specs.Writing.{Room, Written, slotLine}
 use Rattle.print_page.specs.Page.{slotLineAt, slotLines, leastFrom, greatestFrom}
 use Rattle.print_bytes.specs.WritingLaws.{Pending, pending-whole, pending-room, pending-after, lines-next, lines-end}
@@ -14,8 +15,10 @@ use Rattle.print_page.proofs.put_slots.Tie as tie
 
 abbrev Inv-loop : tie.InvT-loop
 Inv-loop page₀ at span counts table next₀ t₀ page next t =
-    (1 ≤ t) × (t ≤ span + 1) × Pending page₀ at (slotLines span (λ i. getD counts i 0) (leastFrom (span + 1) table) (greatestFrom (span + 1) table)) page next
-    (map (slotLineAt (λ i. getD counts i 0) (leastFrom (span + 1) table) (greatestFrom (span + 1) table)) (run t (suc span - t)))
+    let count : ℕ → ℕ = λ i. getD counts i 0 in
+    let low = leastFrom (boundariesOf span) table in
+    let high = greatestFrom (boundariesOf span) table in
+    (1 ≤ t) × (t ≤ span + 1) × Pending page₀ at (slotLines span count low high) page next (map (slotLineAt count low high) (run t (suc span - t)))
 
 abbrev μ-loop : tie.MeasureT-loop
 μ-loop page₀ at span counts table next₀ t₀ page next t = suc span - t
@@ -25,10 +28,10 @@ abbrev counts : tie.Start Inv-loop μ-loop → ℕ → ℕ
 counts c i = getD (now (c .args .counts)) i 0
 
 abbrev low : tie.Start Inv-loop μ-loop → ℕ → ℕ
-low c = leastFrom (c .args .span + 1) (now (c .args .table))
+low c = leastFrom (boundariesOf (c .args .span)) (now (c .args .table))
 
 abbrev high : tie.Start Inv-loop μ-loop → ℕ → ℕ
-high c = greatestFrom (c .args .span + 1) (now (c .args .table))
+high c = greatestFrom (boundariesOf (c .args .span)) (now (c .args .table))
 
 -- the line of slot t
 abbrev line : tie.Start Inv-loop μ-loop → ℕ → List ℕ
