@@ -41,7 +41,7 @@ slotLines span count least greatest = joined (map (slotLineAt count least greate
 abbrev pub unitsAt : List Slot → Slot → ℕ
 unitsAt slots t = howMany (eqb t) slots
 
--- the number of units in each slot, from slot 0 on, which none has
+-- the number of units in each slot and at the carried place, from slot 0 on, which none has
 unfoldable pub slotCounts : List ℕ → List ℕ
 slotCounts slots = listOf maxBoundaries (unitsAt slots)
 

@@ -35,7 +35,7 @@ pub record Reading : Type 0 where
 abbrev pub reading : List Piece → ((ℕ → ℕ) → Said) → Reading
 reading f s = record { form = f; says = s }
 
--- the lines of a page; none is of two of these forms, for each two differ at a word, and before it they are the same
+-- the lines of a page; no line is of two of these forms, since each two of them are the same up to a word where they differ
 abbrev pub readings : List Reading
 readings =
     reading planHeadForm (λ n. plan (n 0))
