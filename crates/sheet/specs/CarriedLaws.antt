@@ -1,8 +1,7 @@
 -- The carried place: a unit that has it counts in no rule, and the step over all boundaries has the number of all units for its limit.
 -- Key idea: a rule's stretch ends inside the span, so none reaches the end of the carried place; and there every window has ended.
-use mathlib.Core.Path.{_≡_, refl, ap, _∙_}
-use mathlib.Core.Bool.{Bool, true, false}
-use Prim.Native.Nat.{ℕ, suc, _≤_}
+use mathlib.Core.Path.{_≡_, ap, _∙_}
+use Prim.Native.Nat.{_≤_}
 use native.Mathlib.Omega.{arith}
 use native.Mathlib.Nat.{le-antisymm}
 use lib.Dec.{T, leb, le→leb}
@@ -17,16 +16,10 @@ use Rattle.sheet.specs.LimitLaws.{limit-fwd, limit-back, atMost-n, atMos
 use Rattle.sheet.specs.Questions.{accepted}
 use Rattle.sheet.specs.QuestionLaws.{accepted-stretch, accepted-valid}
 
-not-true : (b : Bool) → (T b → ⊥) → b ≡ false
-not-true true h = absurd (h tt)
-not-true false h = refl
-
 module _ (s : Sheet) (ok : T (accepted s)) where
   -- A carried unit counts in no rule.
-  pub carried-in-no-rule : (r : Rule) → In r (s .rules) → within (r .from) (r .to) (carriedPlace (s .span)) ≡ false
-  carried-in-no-rule r m =
-      not-true (within (r .from) (r .to) (suc (s .span)))
-      (λ t. omega (arith, within-iff (r .from) (r .to) (suc (s .span)) .0 t, accepted-stretch s ok r m))
+  pub carried-in-no-rule : (r : Rule) → In r (s .rules) → T (within (r .from) (r .to) (carriedPlace (s .span))) → ⊥
+  carried-in-no-rule r m t = omega (arith, within-iff (r .from) (r .to) (carriedPlace (s .span)) .0 t, accepted-stretch s ok r m)
 
   -- no rule is on a stretch that ends with the carried place
   no-rule : {A : Type 0} (r : Rule) → In r (s .rules) → r .to ≡ top s → A
@@ -50,6 +43,7 @@ module _ (s : Sheet) (ok : T (accepted s)) where
       let n = length (s .units) in
       let some = accepted-valid s ok .spans in
       let most : atMost s 1 (top s) ≡ n = le-antisymm (atMost-n s 1 (top s)) (atMost-ge s 1 (top s) n (omega arith) (λ r m e f. no-rule r m f)) in
+      let few = howMany-most (insideOf 1 (top s)) (s .units) in
       let fewest : atLeast s 1 (top s) ≡ n =
-          omega (arith, atLeast-windows s 1 (top s), inside, atLeast-le s 1 (top s) n (howMany-most (insideOf 1 (top s)) (s .units)) (λ r m e f. no-rule r m f)) in
+          omega (arith, atLeast-windows s 1 (top s), inside, atLeast-le s 1 (top s) n few (λ r m e f. no-rule r m f)) in
       (limit-fwd s 0 (top s) some ∙ ap pos most, limit-back s (top s) 0 some ∙ ap (λ k. negℤ (pos k)) fewest)

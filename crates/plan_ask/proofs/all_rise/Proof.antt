@@ -27,7 +27,8 @@ returns c =
     let a = c .before .before .before .before .before .before .before .before .args in
     let l = c .before .before .before .before .before .loop in
     let e = c .before .before .before .before .before .before .before .before .pre in
-    sym (l .inv .1 ∙ rising-stop (a .least) (a .start) (a .most) (a .first .now) (a .last .now) e (l .j) (omega arith) (sym (c .before .rises .ensures) ∙ c .if1 .left))
+    let falls = sym (c .before .rises .ensures) ∙ c .if1 .left in
+    sym (l .inv .1 ∙ rising-stop (a .least) (a .start) (a .most) (a .first .now) (a .last .now) e (l .j) (omega arith) falls)
 
 returns-2 : tie.Need-returns-2 Inv-loop μ-loop
 returns-2 c =
