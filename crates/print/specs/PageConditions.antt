@@ -215,8 +215,8 @@ module _ (l : WrittenLists) (before : Rooms) (page : List ℕ) (at : ℕ) (reply
       go (none k a w) = (k, _, w .replied, page-of-a-ring k _ (w .replied))
       go (full y short r e p) = let z : _≡_ {A = ℕ} 0 1 = cc in absurd (omega arith)
 
-  -- ---- 3. Counts. For every stretch, of slots or up to the carried place, a whole number is the count of some lawful plan exactly when it is from the least to
-  -- the greatest, read off the table as printing leaves it. (The slot lines and the printed plan: `page-of-a-plan`.)
+  -- ---- 3. Counts. For every stretch, of slots or up to the carried place, a whole number is the count of some lawful plan exactly when it is from the least
+  -- to the greatest, read off the table as printing leaves it. (The slot lines and the printed plan: `page-of-a-plan`.)
   pub counts : (next : ℕ) → reply ≡ says.plan next → (a b : Boundary) → a < b → b ≤ top s → (k : ℤ)
       → ((x : List ℕ) × T (lawful s x) × (pos (countIn (slotAfter a) (slotBefore b) x) ≡ k))
       ↔ ((negℤ (entry (boundaries s) (after .table) b a) ≤ℤ k) × (k ≤ℤ entry (boundaries s) (after .table) a b))
