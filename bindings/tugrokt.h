@@ -38,9 +38,15 @@
 #define TUGROKT_MAX_COUNT 300
 #define TUGROKT_MAX_LOADER 9999
 #define TUGROKT_MAX_BYTES 16000
-#define TUGROKT_MAX_BOUNDARIES (TUGROKT_MAX_SLOTS + 1)
+#define TUGROKT_MAX_BOUNDARIES (TUGROKT_MAX_SLOTS + 2)
 #define TUGROKT_MAX_CELLS (TUGROKT_MAX_BOUNDARIES * TUGROKT_MAX_BOUNDARIES)
 #define TUGROKT_MAX_PAGE 13242
+
+/*
+ * The place behind the last slot of a span. A unit whose window ends there may be carried over into the next wave, and one that has
+ * it for its slot is: plan[i] == TUGROKT_CARRIED_PLACE(span).
+ */
+#define TUGROKT_CARRIED_PLACE(span) ((span) + 1)
 
 #ifdef __cplusplus
 extern "C" {
@@ -78,9 +84,10 @@ struct tugrokt_reading tugrokt_read(
     uint16_t *low, size_t low_length, uint16_t *high, size_t high_length);
 
 /*
- * Plans from lists. With a plan, plan has each unit's slot, earliest and latest its narrowed window, and table, with
- * w = span + 1 numbers a row, the greatest count of the slots a+1 to b at a*w + b, and minus the least at b*w + a; ring is
- * unchanged. With none, length boundaries stand at the front of ring, whose steps' limits add up to less than 0, and the w*w
+ * Plans from lists. A window's last slot may be the carried place, its first and a rule's last may not (7).
+ * With a plan, plan has each unit's slot, earliest and latest its narrowed window, and table, with w = span + 2 numbers a row, the
+ * greatest count of the slots a+1 to b at a*w + b, and minus the least at b*w + a; the carried place counts as the last slot. ring
+ * is unchanged. With none, length boundaries stand at the front of ring, whose steps' limits add up to less than 0, and the w*w
  * places of table are 0; plan, earliest and latest are unchanged.
  * Rooms needed: w*w places in table, w in ring, one for each unit in the others.
  */
@@ -94,8 +101,9 @@ struct tugrokt_planning tugrokt_plan(
     uint16_t *ring, size_t ring_length);
 
 /*
- * Plans from lists and prints the answer on the page from the given place on, each unit with its loader number. The rooms are left
- * as by tugrokt_plan, but where the page does not hold the whole answer the call is refused by 15 and changes neither page nor rooms.
+ * Plans from lists and prints the answer on the page from the given place on, each unit with its loader number, and one that is
+ * carried over with (carried) in place of its slot. The rooms are left as by tugrokt_plan, but where the page does not hold the whole
+ * answer the call is refused by 15 and changes neither page nor rooms.
  */
 struct tugrokt_printing tugrokt_print(
     size_t span, const uint16_t *loader, size_t loader_length,

@@ -1,6 +1,6 @@
 //! The sheets that are measured.
 
-use model::random::{largest_sheet, paper_sheet, Random};
+use model::random::{largest_sheet, paper_sheet, Random, Reach};
 use model::sheet::{Sheet, Unit};
 
 pub struct Case {
@@ -11,10 +11,10 @@ pub struct Case {
 }
 
 /// Sheets as in Chabert and Demassey, section 4, by their number of units, rules and slots; the largest sheets, loose, tight, and with no plan by
-/// one unit; the largest tight sheets again, with loader numbers that share few remainders; sheets whose narrowing has much to do; and the
-/// smallest.
-pub const NAMES: [&str; 14] = [
-    "paper-10", "paper-16", "paper-24", "paper-32", "largest-loose", "largest-tight", "largest-none", "loaders", "narrowing", "distinct",
+/// one unit; the largest tight sheets again, with loader numbers that share few remainders, and such with windows past the wave; sheets whose
+/// narrowing has much to do; and the smallest.
+pub const NAMES: [&str; 15] = [
+    "paper-10", "paper-16", "paper-24", "paper-32", "largest-loose", "largest-tight", "largest-none", "loaders", "carried", "narrowing", "distinct",
     "chain-2", "chain-4", "staircase", "smallest",
 ];
 
@@ -22,8 +22,9 @@ pub const NAMES: [&str; 14] = [
 const NARROWING: &[u8] = include_bytes!("../sheets/narrowing.txt");
 
 pub fn make(name: &str) -> Case {
-    let of_paper = |n| (0..50).map(|i| paper_sheet(&mut Random::of_case(1, i), n)).collect();
-    let largest = |slack| (0..5).map(|i| largest_sheet(&mut Random::of_case(2, i), slack, 48).numbered(&spread(i))).collect::<Vec<_>>();
+    let of_paper = |n| (0..50).map(|i| paper_sheet(&mut Random::of_case(1, i), n, Reach::InsideWave)).collect();
+    let reaching = |slack, reach| (0..5).map(|i| largest_sheet(&mut Random::of_case(2, i), slack, 48, reach).numbered(&spread(i))).collect::<Vec<_>>();
+    let largest = |slack| reaching(slack, Reach::InsideWave);
     let sheets: Vec<Sheet> = match name {
         "paper-10" => of_paper(10),
         "paper-16" => of_paper(16),
@@ -33,6 +34,7 @@ pub fn make(name: &str) -> Case {
         "largest-tight" => largest(0),
         "largest-none" => largest(0).into_iter().map(none_by_one).collect(),
         "loaders" => largest(0).into_iter().map(|sheet| sheet.numbered(&of_few_remainders())).collect(),
+        "carried" => reaching(0, Reach::PastWave),
         "narrowing" => vec![model::reading::read(NARROWING).expect("a sheet")],
         "distinct" => (0..5).map(distinct).collect(),
         "chain-2" => vec![chain(2)],
@@ -88,7 +90,7 @@ fn answer(sheet: &Sheet) -> plain::Answer {
 /// 300 different windows, and tight rules.
 fn distinct(i: usize) -> Sheet {
     let r = &mut Random::of_case(3, i);
-    let mut sheet = largest_sheet(r, 0, 48).numbered(&spread(i));
+    let mut sheet = largest_sheet(r, 0, 48, Reach::InsideWave).numbered(&spread(i));
     let plain::Answer::Plan { plan, .. } = answer(&sheet) else { panic!("a sheet with a plan") };
     let mut taken = vec![];
     for (unit, &slot) in sheet.units.iter_mut().zip(&plan) {

@@ -46,7 +46,7 @@ impl Side for Plain {
         for ((text, sheet), limits) in case.texts.iter().zip(&case.sheets).zip(&case.limits) {
             match job {
                 Job::Read => drop(black_box(plain::read(black_box(text)))),
-                Job::Pass => drop(black_box(plain::close(&mut black_box(limits).clone(), sheet.span + 1))),
+                Job::Pass => drop(black_box(plain::close(&mut black_box(limits).clone(), plain::boundaries(sheet.span)))),
                 Job::Plan => drop(black_box(self.answer(black_box(sheet)))),
                 Job::Print => drop(black_box(plain::print(sheet, &self.answer(black_box(sheet))))),
                 Job::Whole => drop(black_box(self.page(black_box(text)))),
@@ -145,7 +145,7 @@ mod planner {
             for ((text, sheet), limits) in case.texts.iter().zip(&case.sheets).zip(&case.limits) {
                 match job {
                     Job::Read => drop(black_box(self.read(black_box(text)))),
-                    Job::Pass => drop(black_box(self.pass(black_box(limits), sheet.span + 1))),
+                    Job::Pass => drop(black_box(self.pass(black_box(limits), plain::boundaries(sheet.span)))),
                     Job::Plan => drop(black_box(self.plan(black_box(sheet)))),
                     Job::Print => drop(black_box(self.print(black_box(sheet)))),
                     Job::Whole => drop(black_box(self.whole(black_box(text)))),
@@ -159,7 +159,7 @@ mod planner {
                 return plain::Answer::None { ring: self.ring[..length].to_vec() };
             }
             let [plan, earliest, latest] = self.rooms.clone().map(|room| room[..sheet.first.len()].to_vec());
-            let table = self.table[..(sheet.span + 1) * (sheet.span + 1)].to_vec();
+            let table = self.table[..plain::boundaries(sheet.span).pow(2)].to_vec();
             plain::Answer::Plan { plan, earliest, latest, table }
         }
 

@@ -37,8 +37,13 @@ int main(void)
     }
     for (i = 0; i < planned.length; i++)
         printf("boundary %u\n", (unsigned)ring[i]);
-    for (i = 0; planned.length == 0 && i < read.units; i++)
-        printf("unit %u: slot %u, from %u to %u\n", (unsigned)loader[i], (unsigned)plan[i], (unsigned)earliest[i],
-               (unsigned)latest[i]);
+    for (i = 0; planned.length == 0 && i < read.units; i++) {
+        printf("unit %u: ", (unsigned)loader[i]);
+        if (plan[i] == TUGROKT_CARRIED_PLACE(read.span))
+            printf("carried");
+        else
+            printf("slot %u", (unsigned)plan[i]);
+        printf(", from %u to %u\n", (unsigned)earliest[i], (unsigned)latest[i]);
+    }
     return 0;
 }

@@ -14,7 +14,8 @@ fn main() {
         Ok(tugrokt::Answer::None { ring }) => println!("no plan: {ring:?}"),
         Ok(tugrokt::Answer::Plan(plan)) => {
             for (i, slot) in plan.slot.iter().enumerate() {
-                println!("unit {}: slot {slot}, from {} to {}", sheet.loader[i], plan.earliest[i], plan.latest[i]);
+                let place = if plan.is_carried(i) { "carried".to_string() } else { format!("slot {slot}") };
+                println!("unit {}: {place}, from {} to {}", sheet.loader[i], plan.earliest[i], plan.latest[i]);
             }
             for slot in 1..=sheet.span {
                 println!("slot {slot}: {:?}", plan.range(slot, slot));

@@ -15,7 +15,7 @@ pub struct Lists<'a> {
     pub span: usize,
     /// Each unit's loader number, 1 to 9999 and on no earlier unit, or the call is refused (16).
     pub loader: &'a [u16],
-    /// Each unit's window: its first and its last slot.
+    /// Each unit's window: its first and its last slot. Only the last may be the carried place, span + 1.
     pub first: &'a [u16],
     pub last: &'a [u16],
     /// Each rule's stretch: its first and its last slot.
@@ -26,12 +26,12 @@ pub struct Lists<'a> {
     pub high: &'a [u16],
 }
 
-/// The rooms that planning fills. For a span of p and n units the table needs (p+1)² places, the ring p+1, the others n.
+/// The rooms that planning fills. For a span of p and n units the table needs (p+2)² places, the ring p+2, the others n.
 #[derive(Debug)]
 pub struct Rooms<'a> {
     /// Row by row, the greatest count of each stretch, and minus the least.
     pub table: &'a mut [i16],
-    /// Each unit's slot.
+    /// Each unit's slot: the carried place, span + 1, for a unit that is carried over.
     pub plan: &'a mut [u16],
     /// Each unit's narrowed window.
     pub earliest: &'a mut [u16],

@@ -30,11 +30,22 @@ pub const MAX_COUNT: usize = 300;
 pub const MAX_LOADER: u16 = 9_999;
 /// The longest text of a sheet.
 pub const MAX_BYTES: usize = 16_000;
-pub const MAX_BOUNDARIES: usize = MAX_SLOTS + 1;
+/// The boundaries of the longest span (see [`boundaries`]).
+pub const MAX_BOUNDARIES: usize = MAX_SLOTS + 2;
 /// The largest table.
 pub const MAX_CELLS: usize = MAX_BOUNDARIES * MAX_BOUNDARIES;
 /// The longest answer page, as is proved.
 pub const MAX_PAGE: usize = 13_242;
+
+/// The place behind the last slot of a span: a unit with this slot is carried over into the next wave.
+pub fn carried_place(span: usize) -> usize {
+    span + 1
+}
+
+/// The number of boundaries of a span, 0 to the end of the carried place: the numbers in a row of the table.
+pub fn boundaries(span: usize) -> usize {
+    carried_place(span) + 1
+}
 
 /// A call that was refused: the number of the question that was answered no, and the line that it names.
 #[derive(Clone, Copy, Debug, PartialEq, Eq)]
@@ -83,9 +94,9 @@ pub enum Answer {
 /// The printed plan, and what holds of all lawful plans.
 #[derive(Clone, Debug, PartialEq, Eq)]
 pub struct Plan {
-    /// Each unit's slot, in the order of the sheet.
+    /// Each unit's slot, in the order of the sheet; [`carried_place`] for a unit that is carried over ([`Plan::is_carried`]).
     pub slot: Vec<u16>,
-    /// The earliest and the latest slot that each unit has in any lawful plan.
+    /// The earliest and the latest slot that each unit has in any lawful plan, the carried place being the last.
     pub earliest: Vec<u16>,
     pub latest: Vec<u16>,
     table: Vec<i16>,
@@ -93,10 +104,29 @@ pub struct Plan {
 }
 
 impl Plan {
-    /// The least and the greatest number of units that a lawful plan has in the slots `first` to `last`.
+    /// Is this unit of the sheet, counted from 0, carried over into the next wave?
+    ///
+    /// ```
+    /// # fn main() -> Result<(), tugrokt::Refusal> {
+    /// let mut sheet = tugrokt::Sheet::new(3);
+    /// sheet.add_unit(4017, 1, 4);
+    /// sheet.add_unit(212, 1, 4);
+    /// sheet.add_rule(1, 3, 1, 1);
+    /// let tugrokt::Answer::Plan(plan) = sheet.plan()? else { panic!("one may be carried") };
+    /// assert_eq!(plan.slot, [1, 4]);
+    /// assert!(!plan.is_carried(0) && plan.is_carried(1));
+    /// # Ok(())
+    /// # }
+    /// ```
+    pub fn is_carried(&self, unit: usize) -> bool {
+        self.slot[unit] as usize == carried_place(self.span)
+    }
+
+    /// The least and the greatest number of units that a lawful plan has in the slots `first` to `last`. The carried place may be among
+    /// them, as the last.
     pub fn range(&self, first: usize, last: usize) -> (u16, u16) {
-        assert!(1 <= first && first <= last && last <= self.span, "{first} to {last} is no stretch");
-        let (w, before) = (self.span + 1, first - 1);
+        assert!(1 <= first && first <= last && last <= carried_place(self.span), "{first} to {last} is no stretch");
+        let (w, before) = (boundaries(self.span), first - 1);
         ((-self.table[last * w + before]) as u16, self.table[before * w + last] as u16)
     }
 }
@@ -195,7 +225,7 @@ struct OwnRooms {
 impl OwnRooms {
     fn new(sheet: &Sheet) -> OwnRooms {
         // A span that is no span is refused before any room is asked for.
-        let w = sheet.span.min(MAX_SLOTS) + 1;
+        let w = boundaries(sheet.span.min(MAX_SLOTS));
         let units = vec![0; sheet.first.len()];
         OwnRooms {
             table: vec![0; w * w],

@@ -1,4 +1,4 @@
-//! P1 to P10, with their answers (docs/RULES.md, "Sheets to try").
+//! P1 to P12, with their answers (docs/RULES.md, "Sheets to try").
 
 use crate::sheet::Sheet;
 
@@ -58,8 +58,18 @@ pub fn all() -> Vec<Case> {
             Sheet::new(3, &[(1, 3), (1, 3)], &[(2, 2, 1, 1), (3, 3, 1, 1)]),
             plan(&[2, 3], &[(2, 3), (2, 3)]),
         ),
+        case("P11", Sheet::new(2, &[(1, 2), (1, 3)], &[(1, 2, 0, 1)]), plan(&[1, 3], &[(1, 2), (3, 3)])),
+        case("P12", Sheet::new(3, &[(1, 4), (1, 4)], &[(1, 3, 1, 1)]), plan(&[1, 4], &[(1, 4), (1, 4)])),
     ]
 }
+
+/// The case of this name.
+pub fn named(name: &str) -> Case {
+    all().into_iter().find(|case| case.name == name).expect("a case")
+}
+
+/// The cases whose pages are known byte for byte, with their pages.
+pub const PAGES: [(&str, &str); 4] = [("P2", P2_PAGE), ("P4", P4_PAGE), ("P11", P11_PAGE), ("P12", P12_PAGE)];
 
 /// P2's page, byte for byte as docs/RULES.md prints it.
 pub const P2_PAGE: &str = "(answer plan 2)
@@ -76,4 +86,21 @@ pub const P4_PAGE: &str = "(answer none)
 (at-most 1 (slots 1 3))
 (at-least 2 (slots 1 3))
 (shortfall 1)
+";
+
+/// P11's page: the second unit must be carried.
+pub const P11_PAGE: &str = "(answer plan 2)
+(unit 1 (slot 1) (between 1 2))
+(unit 2 (carried) (between 3 3))
+(slot 1 (count 1) (range 0 1))
+(slot 2 (count 0) (range 0 1))
+";
+
+/// P12's page, byte for byte as docs/RULES.md prints it: P4 has a plan where its windows reach into the next wave.
+pub const P12_PAGE: &str = "(answer plan 2)
+(unit 1 (slot 1) (between 1 4))
+(unit 2 (carried) (between 1 4))
+(slot 1 (count 1) (range 0 1))
+(slot 2 (count 0) (range 0 1))
+(slot 3 (count 0) (range 0 1))
 ";

@@ -91,10 +91,10 @@ pub fn ring(sheet: &Sheet) -> Option<Vec<u16>> {
     Some(ring)
 }
 
-/// Seats by deadline: each slot takes, of the units that are open and not seated, those that close first.
+/// Seats by deadline: each slot takes, of the units that are open and not seated, those that close first; the carried place is the last.
 pub fn seats(sheet: &Sheet, by_end: &[i64]) -> Vec<u16> {
     let mut plan = vec![0; sheet.units.len()];
-    for slot in 1..=sheet.span {
+    for slot in 1..=sheet.carried_place() {
         let mut open: Vec<(u16, usize)> = (0..plan.len())
             .filter(|&i| plan[i] == 0 && sheet.units[i].first as usize <= slot)
             .map(|i| (sheet.units[i].last, i))

@@ -1,7 +1,7 @@
 //! Random texts: sheets with notes, and texts with faults of every kind, also several at once.
 
 use crate::random::{any_sheet, small_sheet, Random};
-use crate::sheet::Sheet;
+use crate::sheet::{carried_place, Sheet, MAX_SLOTS};
 
 /// The inside of a note: words and brackets that go at most `depth` deeper.
 fn note_inside(r: &mut Random, depth: usize, text: &mut Vec<u8>) {
@@ -145,11 +145,33 @@ fn renumber(r: &mut Random, lines: &mut [Vec<u8>]) {
     lines[at].splice(old, number);
 }
 
+/// The span that a sheet line gives.
+fn span_of(line: &[u8]) -> Option<usize> {
+    std::str::from_utf8(line).ok()?.strip_prefix("(sheet ")?.strip_suffix(")\n")?.parse().ok()
+}
+
+/// A window or a stretch of the text ends with the last slot, the carried place, or one place too far, and may begin there.
+pub fn reach_the_end(r: &mut Random, text: &mut Vec<u8>) {
+    const HEADS: [&[u8]; 2] = [b" (window ", b" (slots "];
+    let Some(span) = lines(text).iter().find_map(|line| span_of(line)).filter(|&span| span <= MAX_SLOTS) else { return };
+    let starts: Vec<usize> = (0..text.len())
+        .filter_map(|at| HEADS.iter().find(|head| text[at..].starts_with(head)).map(|head| at + head.len()))
+        .collect();
+    if starts.is_empty() {
+        return;
+    }
+    let start = *r.pick(&starts);
+    let end = (start..text.len()).find(|&at| text[at] == b')').unwrap_or(text.len());
+    let last = r.between(span, carried_place(span) + 1);
+    let first = if r.chance(50) { 1 } else { r.between(span, last) };
+    text.splice(start..end, format!("{first} {last}").into_bytes());
+}
+
 /// One fault in one place.
 pub fn damage(r: &mut Random, text: &mut Vec<u8>) {
     const ODD: &[u8] = b"\r\t\x7f\x00\x1f\x80\xff\n  ()00123459noteshuirw-/:@";
     let at = r.below(text.len().max(1)).min(text.len());
-    match r.below(18) {
+    match r.below(20) {
         0..=2 if at < text.len() => text[at] = *r.pick(ODD),
         3 if at < text.len() => text[at] = r.below(256) as u8,
         4 if at < text.len() => text[at] = text[at].wrapping_add(1),
@@ -199,6 +221,7 @@ pub fn damage(r: &mut Random, text: &mut Vec<u8>) {
             renumber(r, &mut all);
             *text = all.concat();
         }
+        17 | 18 => reach_the_end(r, text),
         _ => {
             // A number becomes another.
             let digits: Vec<usize> = (0..text.len()).filter(|&i| text[i].is_ascii_digit()).collect();

@@ -1,4 +1,4 @@
-//! Answers by definition: every assignment of slots to units is tried. For small sheets only.
+//! Answers by definition: every assignment of slots to units is tried, the carried place among them. For small sheets only.
 
 use crate::sheet::{Sheet, Solved};
 
@@ -48,9 +48,9 @@ pub fn seats_are_due(sheet: &Sheet, plan: &[u16]) -> bool {
 
 /// The plans that "The printed plan" leaves.
 pub fn printed_plans(sheet: &Sheet, lawful: &[Vec<u16>]) -> Vec<Vec<u16>> {
-    let most: Vec<usize> =
-        (0..=sheet.span).map(|b| lawful.iter().map(|p| count(p, 0, b)).max().unwrap_or(0)).collect();
-    let early = |p: &[u16]| (0..=sheet.span).all(|b| count(p, 0, b) == most[b]);
+    let ends = 0..sheet.boundaries();
+    let most: Vec<usize> = ends.clone().map(|b| lawful.iter().map(|p| count(p, 0, b)).max().unwrap_or(0)).collect();
+    let early = |p: &[u16]| ends.clone().all(|b| count(p, 0, b) == most[b]);
     lawful.iter().filter(|p| early(p) && seats_are_due(sheet, p)).cloned().collect()
 }
 
@@ -60,7 +60,7 @@ pub fn has_ring(sheet: &Sheet) -> bool {
         if ring.len() >= 2 && sheet.ring_fault(ring).is_none() {
             return true;
         }
-        for b in ring[0] + 1..=sheet.span as u16 {
+        for b in ring[0] + 1..sheet.boundaries() as u16 {
             if !ring.contains(&b) {
                 ring.push(b);
                 if extend(sheet, ring) {
@@ -71,7 +71,7 @@ pub fn has_ring(sheet: &Sheet) -> bool {
         }
         false
     }
-    (0..=sheet.span as u16).any(|b| extend(sheet, &mut vec![b]))
+    (0..sheet.boundaries() as u16).any(|b| extend(sheet, &mut vec![b]))
 }
 
 /// The answer: nothing if there is no lawful plan.

@@ -7,8 +7,9 @@ pub fn of_plan(sheet: &Sheet, solved: &Solved) -> Vec<u8> {
     let w = sheet.boundaries();
     let mut page = format!("(answer plan {})\n", sheet.units.len());
     for i in 0..sheet.units.len() {
-        let (loader, slot, first, last) = (sheet.units[i].loader, solved.plan[i], solved.earliest[i], solved.latest[i]);
-        page += &format!("(unit {loader} (slot {slot}) (between {first} {last}))\n");
+        let (loader, first, last) = (sheet.units[i].loader, solved.earliest[i], solved.latest[i]);
+        let seat = sheet.slot_at(solved.plan[i]).map_or("(carried)".to_string(), |slot| format!("(slot {slot})"));
+        page += &format!("(unit {loader} {seat} (between {first} {last}))\n");
     }
     for slot in 1..=sheet.span {
         let count = solved.plan.iter().filter(|&&s| s as usize == slot).count();
@@ -36,7 +37,8 @@ pub fn of_ring(sheet: &Sheet, ring: &[u16]) -> Vec<u8> {
 #[derive(Clone, Debug, PartialEq, Eq)]
 pub struct UnitLine {
     pub loader: u16,
-    pub slot: u16,
+    /// Nothing for a carried unit.
+    pub slot: Option<u16>,
     pub first: u16,
     pub last: u16,
 }
@@ -75,6 +77,17 @@ fn numbers(line: &str, words: &str) -> Option<Vec<u64>> {
     Some(all)
 }
 
+fn unit_line(line: &str) -> Option<UnitLine> {
+    let (u, slot) = match numbers(line, "unit # (slot #) (between # #)") {
+        Some(mut u) => {
+            let slot = u.remove(1) as u16;
+            (u, Some(slot))
+        }
+        None => (numbers(line, "unit # (carried) (between # #)")?, None),
+    };
+    Some(UnitLine { loader: u[0] as u16, slot, first: u[1] as u16, last: u[2] as u16 })
+}
+
 /// Takes a page apart by its words. How it is laid out is checked by formatting it again.
 pub fn parse(page: &[u8]) -> Option<Page> {
     let text = std::str::from_utf8(page).ok()?.strip_suffix('\n')?;
@@ -86,8 +99,7 @@ pub fn parse(page: &[u8]) -> Option<Page> {
     if let Some(n) = numbers(head, "answer plan #") {
         let mut units = Vec::new();
         for _ in 0..n[0] {
-            let u = numbers(lines.next()?, "unit # (slot #) (between # #)")?;
-            units.push(UnitLine { loader: u[0] as u16, slot: u[1] as u16, first: u[2] as u16, last: u[3] as u16 });
+            units.push(unit_line(lines.next()?)?);
         }
         let mut slots = Vec::new();
         for line in lines {

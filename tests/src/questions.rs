@@ -1,6 +1,6 @@
 //! The questions that planning and printing ask of lists and rooms, in their order (docs/RULES.md, "The order of the questions").
 
-use crate::sheet::{Rule, Sheet, Unit, MAX_COUNT, MAX_LOADER, MAX_RULES, MAX_SLOTS, MAX_UNITS};
+use crate::sheet::{carried_place, Rule, Sheet, Unit, MAX_COUNT, MAX_LOADER, MAX_RULES, MAX_SLOTS, MAX_UNITS};
 
 /// The lists as they are handed over: any span, any lengths.
 #[derive(Clone, Debug, Default, PartialEq, Eq)]
@@ -78,9 +78,14 @@ impl Lists {
     }
 }
 
-/// Question 7.
-pub fn lies_in_span(first: u16, last: u16, span: usize) -> bool {
-    1 <= first && first <= last && last as usize <= span
+/// Question 7 of a unit: only the last slot may be the carried place.
+pub fn is_window(first: u16, last: u16, span: usize) -> bool {
+    1 <= first && first as usize <= span && first <= last && last as usize <= carried_place(span)
+}
+
+/// Question 7 of a rule.
+pub fn is_stretch(from: u16, to: u16, span: usize) -> bool {
+    1 <= from && from <= to && to as usize <= span
 }
 
 /// Question 8.
@@ -108,8 +113,8 @@ pub fn planning_refusal(lists: &Lists, rooms: &Lengths) -> usize {
     if k > MAX_RULES {
         return 10;
     }
-    let units_lie = (0..n).all(|i| lies_in_span(lists.first[i], lists.last[i], lists.span));
-    let rules_lie = (0..k).all(|i| lies_in_span(lists.from[i], lists.to[i], lists.span));
+    let units_lie = (0..n).all(|i| is_window(lists.first[i], lists.last[i], lists.span));
+    let rules_lie = (0..k).all(|i| is_stretch(lists.from[i], lists.to[i], lists.span));
     if !units_lie || !rules_lie {
         return 7;
     }

@@ -1,7 +1,7 @@
 //! Random numbers from a printed seed, and random sheets.
 
 use crate::enumerated::count;
-use crate::sheet::{Rule, Sheet, Unit, MAX_COUNT, MAX_LOADER};
+use crate::sheet::{carried_place, Rule, Sheet, Unit, MAX_COUNT, MAX_LOADER};
 
 /// SplitMix64.
 #[derive(Clone, Debug)]
@@ -87,13 +87,30 @@ pub fn loaders(r: &mut Random, n: usize) -> Vec<u16> {
     all
 }
 
-/// Units with windows of at most this width. Their numbers are drawn beside, so that a seed has the windows and rules it has
-/// whatever the numbers are.
-fn units(r: &mut Random, span: usize, n: usize, widest: usize) -> Vec<Unit> {
+/// How far the windows of a sheet may reach.
+#[derive(Clone, Copy, Debug, PartialEq, Eq)]
+pub enum Reach {
+    /// To the last slot: no unit can be carried.
+    InsideWave,
+    /// Half of those that reach the last slot reach the carried place too.
+    PastWave,
+}
+
+impl Reach {
+    fn window(self, r: &mut Random, span: usize, widest: usize) -> (u16, u16) {
+        let (first, last) = r.interval(span, widest);
+        let past = self == Reach::PastWave && last as usize == span && r.chance(50);
+        (first, if past { carried_place(span) as u16 } else { last })
+    }
+}
+
+/// Units with windows of at most this width, the carried place not counted. Their numbers are drawn beside, so that a seed has the
+/// windows and rules it has whatever the numbers are.
+fn units(r: &mut Random, span: usize, n: usize, widest: usize, reach: Reach) -> Vec<Unit> {
     loaders(&mut r.beside(), n)
         .into_iter()
         .map(|loader| {
-            let (first, last) = r.interval(span, widest);
+            let (first, last) = reach.window(r, span, widest);
             Unit { loader, first, last }
         })
         .collect()
@@ -130,7 +147,7 @@ pub fn sheet_up_to(r: &mut Random, most_slots: usize, most_units: usize) -> Shee
     let span = r.between(1, most_slots);
     let n = if r.chance(5) { 0 } else { r.between(1, most_units) };
     let widest = r.between(1, span);
-    let units = units(r, span, n, widest);
+    let units = units(r, span, n, widest, Reach::PastWave);
     let plan = any_plan(r, &units);
     let around = r.chance(60);
     let tight = r.chance(50);
@@ -161,7 +178,12 @@ pub fn sheet_up_to(r: &mut Random, most_slots: usize, most_units: usize) -> Shee
 /// A sheet of any size up to the greatest, built around a plan. `slack` is the room that rules leave, `shut` how often in a
 /// hundred a rule shuts that plan out by one.
 pub fn sheet_around(r: &mut Random, span: usize, n: usize, k: usize, widest: usize, slack: usize, shut: usize) -> Sheet {
-    let units = units(r, span, n, widest);
+    let units = units(r, span, n, widest, Reach::PastWave);
+    with_rules_around(r, span, units, k, slack, shut)
+}
+
+/// The same with these units.
+fn with_rules_around(r: &mut Random, span: usize, units: Vec<Unit>, k: usize, slack: usize, shut: usize) -> Sheet {
     let plan = any_plan(r, &units);
     let rules = (0..k)
         .map(|_| {
@@ -178,8 +200,8 @@ pub fn sheet_around(r: &mut Random, span: usize, n: usize, k: usize, widest: usi
 }
 
 /// A sheet as in Chabert and Demassey, section 4: as many units and rules as slots, counts within one of an a priori plan's.
-pub fn paper_sheet(r: &mut Random, n: usize) -> Sheet {
-    let units = units(r, n, n, n);
+pub fn paper_sheet(r: &mut Random, n: usize, reach: Reach) -> Sheet {
+    let units = units(r, n, n, n, reach);
     let plan = any_plan(r, &units);
     let rules = (0..n)
         .map(|_| {
@@ -200,7 +222,7 @@ pub fn any_sheet(r: &mut Random) -> Sheet {
         }
         2 => {
             let n = r.between(10, 32);
-            paper_sheet(r, n)
+            paper_sheet(r, n, Reach::PastWave)
         }
         3 => {
             let (n, k, widest) = (r.between(0, 300), r.between(0, 60), r.between(1, 48));
@@ -228,8 +250,9 @@ pub fn any_sheet(r: &mut Random) -> Sheet {
 }
 
 /// The largest sheet with this room in its rules; every rule lies on a stretch of its own.
-pub fn largest_sheet(r: &mut Random, slack: usize, widest: usize) -> Sheet {
-    let mut sheet = sheet_around(r, 48, 300, 0, widest, 0, 0);
+pub fn largest_sheet(r: &mut Random, slack: usize, widest: usize, reach: Reach) -> Sheet {
+    let units = units(r, 48, 300, widest, reach);
+    let mut sheet = with_rules_around(r, 48, units, 0, 0, 0);
     let plan = any_plan(r, &sheet.units);
     while sheet.rules.len() < 60 {
         let stretch = r.interval(48, 48);

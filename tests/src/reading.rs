@@ -1,6 +1,6 @@
 //! A reader of sheets, straight from docs/RULES.md: a line is split by hand, and each question is asked of it in turn.
 
-use crate::questions::{is_count, is_new, lies_in_span};
+use crate::questions::{is_count, is_new, is_stretch, is_window};
 use crate::sheet::{Rule, Sheet, Unit, MAX_RULES, MAX_SLOTS, MAX_UNITS};
 
 /// The greatest length of a text (question 1), and the greatest depth of a note (question 11).
@@ -121,7 +121,7 @@ impl Reader {
             Form::Unit(digits) => {
                 let [loader, first, last] = all_numbers(digits).ok_or(4usize)?;
                 let span = self.span.ok_or(5usize)?;
-                ask(lies_in_span(first, last, span), 7)?;
+                ask(is_window(first, last, span), 7)?;
                 let earlier: Vec<u16> = self.units.iter().map(|u| u.loader).collect();
                 ask(is_new(loader, &earlier), 16)?;
                 ask(self.units.len() < MAX_UNITS, 9)?;
@@ -130,7 +130,7 @@ impl Reader {
             Form::Rule(digits) => {
                 let [from, to, low, high] = all_numbers(digits).ok_or(4usize)?;
                 let span = self.span.ok_or(5usize)?;
-                ask(lies_in_span(from, to, span), 7)?;
+                ask(is_stretch(from, to, span), 7)?;
                 ask(is_count(low, high), 8)?;
                 ask(self.rules.len() < MAX_RULES, 10)?;
                 self.rules.push(Rule { from, to, low, high });

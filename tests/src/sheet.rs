@@ -7,6 +7,11 @@ pub const MAX_RULES: usize = 60;
 pub const MAX_COUNT: u16 = 300;
 pub const MAX_LOADER: u16 = 9_999;
 
+/// The place behind the last slot of a span, where a unit is carried over into the next wave.
+pub fn carried_place(span: usize) -> usize {
+    span + 1
+}
+
 #[derive(Clone, Copy, Debug, PartialEq, Eq)]
 pub struct Unit {
     pub loader: u16,
@@ -29,7 +34,7 @@ pub struct Sheet {
     pub rules: Vec<Rule>,
 }
 
-/// What a plan leaves: the plan, the narrowed windows, and the table, row by row.
+/// What a plan leaves: the plan, the narrowed windows, and the table, row by row. A carried unit has the carried place for its slot.
 #[derive(Clone, Debug, PartialEq, Eq)]
 pub struct Solved {
     pub plan: Vec<u16>,
@@ -65,9 +70,24 @@ impl Sheet {
         self.units.iter().map(|u| u.loader).collect()
     }
 
-    /// The number of boundaries, 0 to span.
+    pub fn carried_place(&self) -> usize {
+        carried_place(self.span)
+    }
+
+    /// The number of boundaries, 0 to the end of the carried place.
     pub fn boundaries(&self) -> usize {
-        self.span + 1
+        self.carried_place() + 1
+    }
+
+    /// The slot of a place, and nothing for the carried place.
+    pub fn slot_at(&self, place: u16) -> Option<u16> {
+        (place as usize != self.carried_place()).then_some(place)
+    }
+
+    /// The same sheet with no window past the end of the wave.
+    pub fn cut_to_span(&self) -> Sheet {
+        let cut = |u: &Unit| Unit { last: u.last.min(self.span as u16), ..*u };
+        Sheet { units: self.units.iter().map(cut).collect(), ..self.clone() }
     }
 
     /// The number of windows inside the stretch a+1 to b.
@@ -111,7 +131,7 @@ impl Sheet {
         if ring.len() < 2 {
             return Some(format!("{} boundaries", ring.len()));
         }
-        if let Some(b) = ring.iter().find(|&&b| b as usize > self.span) {
+        if let Some(b) = ring.iter().find(|&&b| b as usize >= self.boundaries()) {
             return Some(format!("{b} is no boundary"));
         }
         if (1..ring.len()).any(|i| ring[..i].contains(&ring[i])) {

@@ -2,6 +2,21 @@
 
 use std::io::Write;
 
+use crate::sheet::{Sheet, Solved};
+
+/// The answers to a sheet.
+pub const PLAN: &str = "with a plan";
+pub const CARRIES: &str = "with a plan that carries units";
+pub const NONE: &str = "with none";
+
+pub fn answer(sheet: &Sheet, solved: Option<&Solved>) -> &'static str {
+    match solved {
+        Some(solved) if solved.plan.iter().any(|&place| sheet.slot_at(place).is_none()) => CARRIES,
+        Some(_) => PLAN,
+        None => NONE,
+    }
+}
+
 #[derive(Clone, Debug)]
 pub struct Tally {
     name: &'static str,

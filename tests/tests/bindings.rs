@@ -51,6 +51,39 @@ fn sheets_are_built_and_ranges_are_read() {
     assert_eq!(units, ["(unit 4017 (slot 1) (between 1 2))", "(unit 12 (slot 3) (between 3 4))"]);
 }
 
+/// A carried unit is told from one with a slot, and stretches may end with the carried place.
+#[test]
+fn carried_units() {
+    let mut sheet = Sheet::new(3);
+    for loader in [4_017, 12] {
+        sheet.add_unit(loader, 1, 4);
+    }
+    sheet.add_rule(1, 3, 1, 1);
+    let Answer::Plan(plan) = sheet.plan().unwrap() else { panic!("P12 has a plan") };
+    assert_eq!(plan.slot.iter().map(|&slot| slot as usize).collect::<Vec<_>>(), [1, tugrokt::carried_place(3)]);
+    assert_eq!([0, 1].map(|unit| plan.is_carried(unit)), [false, true]);
+    assert_eq!([plan.range(1, 3), plan.range(4, 4), plan.range(3, 4), plan.range(1, 4)], [(1, 1), (1, 1), (1, 2), (2, 2)]);
+    assert_eq!(sheet.page().unwrap(), cases::P12_PAGE.replace("unit 1 ", "unit 4017 ").replace("unit 2 ", "unit 12 ").as_bytes());
+    sheet.add_unit(1, 4, 4);
+    assert_eq!(sheet.plan(), Err(Refusal { question: 7, line: 0 }));
+}
+
+/// The longest span in rooms of the largest sizes, and one place less.
+#[test]
+fn the_largest_rooms() {
+    let mut sheet = Sheet::new(tugrokt::MAX_SLOTS);
+    sheet.add_unit(1, 48, 49);
+    let plan = |table: usize, ring: usize| {
+        let (mut table, mut ring, mut rooms) = (vec![0; table], vec![0; ring], [[0], [0], [0]]);
+        let [plan, earliest, latest] = &mut rooms;
+        tugrokt::entry::plan(sheet.lists(), tugrokt::entry::Rooms { table: &mut table, plan, earliest, latest, ring: &mut ring }).number
+    };
+    assert_eq!(tugrokt::boundaries(tugrokt::MAX_SLOTS), tugrokt::MAX_BOUNDARIES);
+    assert_eq!(plan(tugrokt::MAX_CELLS, tugrokt::MAX_BOUNDARIES), 0);
+    assert_eq!(plan(tugrokt::MAX_CELLS - 1, tugrokt::MAX_BOUNDARIES), 12);
+    assert_eq!(plan(tugrokt::MAX_CELLS, tugrokt::MAX_BOUNDARIES - 1), 12);
+}
+
 #[test]
 fn refusals() {
     assert_eq!(Sheet::read(b""), Err(Refusal { question: 5, line: 0 }));
@@ -151,10 +184,11 @@ fn replies_from_c() {
 fn planning_from_c() {
     let program = c_example("plan");
     let run = |text: &[u8]| written(&mut Command::new(&program), text);
-    let all = cases::all();
-    assert_eq!(run(&all[1].sheet.text()), "unit 1: slot 1, from 1 to 2\nunit 2: slot 3, from 3 to 4\n");
-    assert_eq!(run(&all[3].sheet.text()), "boundary 0\nboundary 3\n");
-    let numbered = all[1].sheet.clone().numbered(&[4_017, 12]);
+    let case = |name: &str| cases::named(name).sheet;
+    assert_eq!(run(&case("P2").text()), "unit 1: slot 1, from 1 to 2\nunit 2: slot 3, from 3 to 4\n");
+    assert_eq!(run(&case("P4").text()), "boundary 0\nboundary 3\n");
+    assert_eq!(run(&case("P11").text()), "unit 1: slot 1, from 1 to 2\nunit 2: carried, from 3 to 3\n");
+    let numbered = case("P2").numbered(&[4_017, 12]);
     assert_eq!(run(&numbered.text()), "unit 4017: slot 1, from 1 to 2\nunit 12: slot 3, from 3 to 4\n");
     assert_eq!(run(b"(sheet 49)\n"), "(refused 6 (line 1))\n");
 }

@@ -221,12 +221,12 @@ fn value(text: &str, named: &BTreeMap<String, usize>) -> usize {
     text.replace('_', "").parse().unwrap_or_else(|_| *named.get(name).unwrap_or_else(|| panic!("{name} is no number")))
 }
 
-/// The constants that lines `head` + NAME + one of `between` + EXPRESSION + `tail` state, in their order.
+/// The constants that lines `head` + NAME + one of `between` + EXPRESSION + `tail` state, in their order. What takes an argument is none.
 fn constants(text: &str, head: &str, between: &[&str], tail: &str, known: &BTreeMap<String, usize>) -> BTreeMap<String, usize> {
     let mut all = known.clone();
     for line in text.lines().map(str::trim) {
         let Some(named) = line.strip_prefix(head) else { continue };
-        let Some((name, rest)) = between.iter().find_map(|b| named.split_once(b)) else { continue };
+        let Some((name, rest)) = between.iter().find_map(|b| named.split_once(b)).filter(|(name, _)| !name.contains('(')) else { continue };
         let rest = rest.strip_suffix(tail).unwrap_or_else(|| panic!("{line}"));
         let number = value(rest, &all);
         assert!(all.insert(name.to_string(), number).is_none_or(|old| old == number), "{name} has two values");

@@ -161,10 +161,10 @@ fn blocks(document: &str) -> Vec<String> {
 fn worked_pages() {
     let read = |path: &str| fs::read_to_string(root().join(path)).unwrap();
     let first = read("docs/first.sheet");
-    assert_eq!(first.as_bytes(), cases::all()[1].sheet.text());
+    assert_eq!(first.as_bytes(), cases::named("P2").sheet.text());
     for (document, sheets) in [("README.md", vec![first.as_str()]), ("docs/RULES.md", vec![])] {
         let blocks = blocks(&read(document));
-        for expected in sheets.into_iter().chain([cases::P2_PAGE, cases::P4_PAGE]) {
+        for expected in sheets.into_iter().chain([cases::P2_PAGE, cases::P4_PAGE, cases::P12_PAGE]) {
             assert!(blocks.iter().any(|block| block == expected), "{document} does not have\n{expected}");
         }
     }

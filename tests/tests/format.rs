@@ -92,9 +92,10 @@ fn check(answer: fn(&[u8]) -> Vec<u8>) {
 /// There is an example of each kind of answer, and of each question that a sheet can fail.
 #[test]
 fn the_examples_cover_every_answer() {
-    let heads: Vec<String> = examples().iter().map(|e| String::from_utf8_lossy(&e.answer).into_owned()).collect();
-    let has = |start: &str| heads.iter().any(|h| h.starts_with(start));
+    let pages: Vec<String> = examples().iter().map(|e| String::from_utf8_lossy(&e.answer).into_owned()).collect();
+    let has = |start: &str| pages.iter().any(|page| page.starts_with(start));
     assert!(has("(answer plan ") && has("(answer none)\n"));
+    assert!(pages.iter().any(|page| page.contains(" (carried) ")), "no example of a carried unit");
     for number in (1..=11).chain([16]) {
         assert!(has(&format!("(refused {number} (line ")), "no example of {number}");
     }

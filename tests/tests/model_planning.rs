@@ -1,9 +1,9 @@
-//! The model itself: P1 to P10, the shortcuts that fail, and the model's two halves against each other.
+//! The model itself: P1 to P12, the shortcuts that fail, and the model's two halves against each other.
 
 use model::cases::{self, Says};
 use model::page::{self, Page};
-use model::questions::{is_new, planning_refusal, Lengths, Lists};
-use model::random::{any_sheet, largest_sheet, loaders, small_sheet, Random};
+use model::questions::{is_new, is_stretch, is_window, planning_refusal, Lengths, Lists};
+use model::random::{any_sheet, largest_sheet, loaders, small_sheet, Random, Reach};
 use model::sheet::{Sheet, Solved};
 use model::{computed, effort, enumerated, seed};
 
@@ -14,7 +14,7 @@ fn windows(s: &Solved) -> Vec<(u16, u16)> {
 #[test]
 fn document_cases_have_their_answers() {
     let all = cases::all();
-    assert_eq!(all.len(), 10);
+    assert_eq!(all.len(), 12);
     for case in all {
         for solved in [enumerated::solve(&case.sheet), computed::solve(&case.sheet)] {
             match (&case.says, solved) {
@@ -35,12 +35,13 @@ fn document_cases_have_their_answers() {
 
 #[test]
 fn document_pages_are_printed() {
-    let all = cases::all();
-    let p2 = &all[1].sheet;
-    assert_eq!(page::of_plan(p2, &enumerated::solve(p2).unwrap()), cases::P2_PAGE.as_bytes());
-    assert_eq!(page::of_ring(&all[3].sheet, &[0, 3]), cases::P4_PAGE.as_bytes());
-    let p7 = &all[6].sheet;
-    let page = page::of_plan(p7, &enumerated::solve(p7).unwrap());
+    for (name, expected) in cases::PAGES {
+        let sheet = cases::named(name).sheet;
+        let page = enumerated::solve(&sheet).map_or_else(|| page::of_ring(&sheet, &[0, 3]), |solved| page::of_plan(&sheet, &solved));
+        assert_eq!(String::from_utf8_lossy(&page), expected, "{name}");
+    }
+    let p7 = cases::named("P7").sheet;
+    let page = page::of_plan(&p7, &enumerated::solve(&p7).unwrap());
     assert_eq!(page, b"(answer plan 0)\n(slot 1 (count 0) (range 0 0))\n");
 }
 
@@ -48,7 +49,7 @@ fn document_pages_are_printed() {
 /// out by itself, since the first unit never gets there.)
 #[test]
 fn narrowing_needs_all_rules_at_once() {
-    let p3 = cases::all()[2].sheet.clone();
+    let p3 = cases::named("P3").sheet.clone();
     for rule in &p3.rules[..2] {
         let alone = Sheet { rules: vec![*rule], ..p3.clone() };
         assert_eq!(enumerated::solve(&alone).unwrap().earliest[1], 2);
@@ -62,7 +63,7 @@ fn narrowing_needs_all_rules_at_once() {
 /// P5: every pair of rules has a plan, the three have none.
 #[test]
 fn rules_taken_in_pairs_are_not_enough() {
-    let p5 = cases::all()[4].sheet.clone();
+    let p5 = cases::named("P5").sheet.clone();
     for drop in 0..3 {
         let mut pair = p5.clone();
         pair.rules.remove(drop);
@@ -74,7 +75,7 @@ fn rules_taken_in_pairs_are_not_enough() {
 /// P6: seats by line number would give the second unit's only slot away.
 #[test]
 fn seats_go_by_deadline() {
-    let p6 = cases::all()[5].sheet.clone();
+    let p6 = cases::named("P6").sheet.clone();
     assert!(!enumerated::is_lawful(&p6, &[1, 1]));
     assert!(!enumerated::seats_are_due(&Sheet::new(3, &[(1, 3), (1, 2)], &[]), &[1, 2]));
     assert_eq!(enumerated::solve(&p6).unwrap().plan, [2, 1]);
@@ -83,7 +84,7 @@ fn seats_go_by_deadline() {
 /// P9: either rule alone has another answer than both.
 #[test]
 fn all_rules_of_a_stretch_count() {
-    let p9 = cases::all()[8].sheet.clone();
+    let p9 = cases::named("P9").sheet.clone();
     let both = enumerated::solve(&p9).unwrap();
     for keep in 0..2 {
         let one = Sheet { rules: vec![p9.rules[keep]], ..p9.clone() };
@@ -177,13 +178,14 @@ fn a_low_above_n_leads_to_none() {
 
 #[test]
 fn rings_are_told_from_other_lists() {
-    let p4 = &cases::all()[3].sheet;
+    let p4 = &cases::named("P4").sheet;
     assert_eq!(p4.ring_fault(&[0, 3]), None);
     assert!(p4.ring_fault(&[3, 0]).is_some(), "lowest first");
     assert!(p4.ring_fault(&[0]).is_some());
     assert!(p4.ring_fault(&[]).is_some());
     assert!(p4.ring_fault(&[0, 3, 0, 3]).is_some());
-    assert!(p4.ring_fault(&[0, 4]).is_some());
+    assert!(p4.ring_fault(&[0, 4]).is_some(), "limits 2 and -2");
+    assert!(p4.ring_fault(&[0, 5]).is_some(), "no boundary");
     assert!(p4.ring_fault(&[0, 1]).is_some(), "limits 2 and 0");
 }
 
@@ -200,8 +202,10 @@ fn both_halves_agree_on_small_sheets() {
                 let page = page::of_plan(&sheet, &solved);
                 assert_eq!(page::fault(&sheet, Some(&solved), &page), None);
                 let Some(Page::Plan { units, slots }) = page::parse(&page) else { panic!("case {i}") };
-                assert_eq!(units.iter().map(|u| u.slot).collect::<Vec<_>>(), solved.plan);
-                assert_eq!(slots.iter().map(|s| s.count as usize).sum::<usize>(), sheet.units.len());
+                assert_eq!(units.iter().map(|u| u.slot).collect::<Vec<_>>(), solved.plan.iter().map(|&s| sheet.slot_at(s)).collect::<Vec<_>>());
+                let carried = units.iter().filter(|u| u.slot.is_none()).count();
+                assert_eq!(slots.iter().map(|s| s.count as usize).sum::<usize>() + carried, sheet.units.len());
+                assert_eq!(slots.len(), sheet.span);
             }
             None => {
                 nones += 1;
@@ -254,12 +258,116 @@ fn large_sheets_are_answered_lawfully() {
 #[test]
 fn the_largest_sheets_are_answered() {
     for (slack, widest) in [(0, 48), (0, 12), (1, 24), (3, 48)] {
-        let sheet = largest_sheet(&mut Random::new(seed(4)), slack, widest);
-        assert_eq!((sheet.span, sheet.units.len(), sheet.rules.len()), (48, 300, 60));
-        let solved = computed::solve(&sheet).unwrap();
-        assert!(enumerated::is_lawful(&sheet, &solved.plan));
-        assert!(enumerated::seats_are_due(&sheet, &solved.plan));
+        for reach in [Reach::InsideWave, Reach::PastWave] {
+            let sheet = largest_sheet(&mut Random::new(seed(4)), slack, widest, reach);
+            assert_eq!((sheet.span, sheet.units.len(), sheet.rules.len()), (48, 300, 60));
+            assert_eq!(sheet.cut_to_span() == sheet, reach == Reach::InsideWave);
+            let solved = computed::solve(&sheet).unwrap();
+            assert!(enumerated::is_lawful(&sheet, &solved.plan));
+            assert!(enumerated::seats_are_due(&sheet, &solved.plan));
+        }
     }
+}
+
+/// 7 at its edges: only the last slot of a window may be the carried place.
+#[test]
+fn windows_may_end_in_the_carried_place() {
+    for (first, last, is_a_window, is_a_stretch) in [
+        (1, 4, true, true),
+        (4, 4, true, true),
+        (1, 5, true, false),
+        (4, 5, true, false),
+        (5, 5, false, false),
+        (1, 6, false, false),
+        (4, 6, false, false),
+        (5, 6, false, false),
+        (0, 5, false, false),
+        (4, 3, false, false),
+    ] {
+        assert_eq!(is_window(first, last, 4), is_a_window, "{first} to {last}");
+        assert_eq!(is_stretch(first, last, 4), is_a_stretch, "{first} to {last}");
+    }
+}
+
+/// A carried unit counts in no rule, and the step over all boundaries is n forward and minus n backward.
+#[test]
+fn carried_units_count_in_no_rule() {
+    let sheet = Sheet::new(2, &[(1, 3), (2, 3), (1, 2)], &[(1, 2, 0, 1), (2, 2, 0, 300)]);
+    assert!(enumerated::is_lawful(&sheet, &[3, 3, 1]));
+    assert!(!enumerated::is_lawful(&sheet, &[3, 2, 1]));
+    assert_eq!((sheet.limit(0, 3), sheet.limit(3, 0)), (3, -3));
+    assert_eq!((sheet.limit(1, 3), sheet.limit(3, 1)), (3, -1), "one window inside 2 to 3");
+    assert_eq!((sheet.limit(2, 3), sheet.limit(3, 2)), (3, 0), "no window begins there");
+    assert_eq!((sheet.limit(0, 2), sheet.limit(2, 0)), (1, -1));
+}
+
+/// Seats go by closing slot, the carried place being the last: of two windows that are open the one inside the wave goes first.
+#[test]
+fn windows_past_the_wave_close_last() {
+    let sheet = Sheet::new(2, &[(1, 3), (1, 2)], &[(1, 2, 0, 1)]);
+    for solved in [enumerated::solve(&sheet).unwrap(), computed::solve(&sheet).unwrap()] {
+        assert_eq!(solved.plan, [3, 1]);
+        assert_eq!(windows(&solved), [(3, 3), (1, 2)]);
+        let w = sheet.boundaries();
+        let range = |first: usize, last: usize| (-solved.table[last * w + first - 1], solved.table[(first - 1) * w + last]);
+        assert_eq!([range(1, 2), range(3, 3), range(2, 3), range(1, 3)], [(1, 1), (1, 1), (1, 2), (2, 2)]);
+    }
+}
+
+/// A ring may go through the end of the carried place: slot 1 is to take a unit, and both windows open after it.
+#[test]
+fn rings_reach_the_carried_place() {
+    let sheet = Sheet::new(2, &[(2, 3), (2, 3)], &[(1, 1, 1, 1)]);
+    assert!(enumerated::solve(&sheet).is_none());
+    let ring = computed::ring(&sheet).unwrap();
+    assert_eq!(ring, [0, 3, 1]);
+    let page = "(answer none)\n(at-most 2 (slots 1 3))\n(at-least 2 (slots 2 3))\n(at-least 1 (slots 1 1))\n(shortfall 1)\n";
+    assert_eq!(String::from_utf8_lossy(&page::of_ring(&sheet, &ring)), page);
+}
+
+/// A carried unit's line has no slot, and the page no line for the carried place.
+#[test]
+fn carried_units_are_told_by_their_lines() {
+    let Some(Page::Plan { units, slots }) = page::parse(cases::P11_PAGE.as_bytes()) else { panic!("P11 has a plan") };
+    assert_eq!(units.iter().map(|u| u.slot).collect::<Vec<_>>(), [Some(1), None]);
+    assert_eq!(slots.iter().map(|s| s.count).collect::<Vec<_>>(), [1, 0]);
+    let p11 = cases::named("P11").sheet;
+    let solved = enumerated::solve(&p11).unwrap();
+    let with_slot = cases::P11_PAGE.replace("(carried)", "(slot 3)");
+    assert!(page::fault(&p11, Some(&solved), with_slot.as_bytes()).is_some());
+    let with_line = format!("{}(slot 3 (count 1) (range 1 1))\n", cases::P11_PAGE);
+    assert!(page::fault(&p11, Some(&solved), with_line.as_bytes()).is_some());
+}
+
+/// Of the windows that are drawn, about half of those that reach the last slot reach past it.
+#[test]
+fn windows_at_random_reach_past_the_wave() {
+    let (mut to_the_end, mut past) = (0, 0);
+    for i in 0..effort(2_000) {
+        let mut r = Random::of_case(seed(8), i);
+        let sheet = if i % 10 == 0 { any_sheet(&mut r) } else { small_sheet(&mut r) };
+        to_the_end += sheet.units.iter().filter(|u| u.last as usize >= sheet.span).count();
+        past += sheet.units.iter().filter(|u| u.last as usize == sheet.carried_place()).count();
+    }
+    assert!(past * 5 > to_the_end * 2 && past * 5 < to_the_end * 3, "{past} of {to_the_end}");
+}
+
+/// Where a unit is carried in every lawful plan, cutting the windows to the wave leaves none; and where there is none, cutting them makes
+/// no plan.
+#[test]
+fn windows_cut_to_the_wave() {
+    let mut needed = 0;
+    for i in 0..effort(6_000) {
+        let sheet = small_sheet(&mut Random::of_case(seed(9), i));
+        let solved = enumerated::solve(&sheet);
+        let cut = enumerated::solve(&sheet.cut_to_span());
+        let must_carry = |s: &Solved| s.earliest.iter().any(|&place| sheet.slot_at(place).is_none());
+        if solved.as_ref().is_none_or(must_carry) {
+            assert_eq!(cut, None, "seed {} case {i}: {sheet:?}", seed(9));
+        }
+        needed += (solved.is_some() && cut.is_none()) as usize;
+    }
+    assert!(20 * needed > effort(6_000), "{needed} have a plan only because units may be carried");
 }
 
 /// The questions in their order, one fault each, and in pairs the one asked first.
@@ -281,6 +389,9 @@ fn planning_questions_keep_their_order() {
     assert_eq!(with(&|l| l.span = 0), 6);
     assert_eq!(with(&|l| l.span = 49), 6);
     assert_eq!(with(&|l| l.first[0] = 0), 7);
+    assert_eq!(with(&|l| l.last[0] = 4), 0);
+    assert_eq!(with(&|l| l.last[0] = 5), 7);
+    assert_eq!(with(&|l| (l.first[0], l.last[0]) = (4, 4)), 7);
     assert_eq!(with(&|l| l.to[0] = 4), 7);
     for (numbers, number) in [([1, 9_999], 0), ([9_999, 1], 0), ([0, 1], 16), ([1, 0], 16), ([1, 1], 16), ([1, 10_000], 16), ([65_535, 1], 16)] {
         assert_eq!(with(&|l| l.loader = numbers.to_vec()), number, "{numbers:?}");
@@ -296,6 +407,7 @@ fn planning_questions_keep_their_order() {
     assert_eq!((many(300), many(301)), (16, 9));
     assert_eq!(with(&|l| l.high[0] = 301), 8);
     assert_eq!(with(&|l| l.low[0] = 301), 8);
-    assert_eq!(planning_refusal(&lists, &Lengths { ring: 3, ..rooms }), 12);
-    assert_eq!(planning_refusal(&lists, &Lengths { table: 15, ..rooms }), 12);
+    assert_eq!((rooms.table, rooms.ring), (25, 5));
+    assert_eq!(planning_refusal(&lists, &Lengths { ring: 4, ..rooms }), 12);
+    assert_eq!(planning_refusal(&lists, &Lengths { table: 24, ..rooms }), 12);
 }

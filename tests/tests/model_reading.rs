@@ -1,6 +1,6 @@
 //! The model's reader: the sentences of docs/RULES.md about sheets and questions, one by one.
 
-use model::damage::{any_text, note_of_depth, valid};
+use model::damage::{any_text, note_of_depth, reach_the_end, valid};
 use model::random::Random;
 use model::reading::{read, read_into, refusal_page, Refusal};
 use model::sheet::Sheet;
@@ -111,10 +111,12 @@ fn the_sheet_form_is_first_and_only() {
 fn limits() {
     assert_eq!(reply("(sheet 48)\n"), (0, 0));
     assert_eq!(reply("(sheet 49)\n"), (6, 1));
-    for (window, number) in [("1 4", 0), ("4 4", 0), ("0 1", 7), ("4 3", 7), ("1 5", 7), ("5 5", 7)] {
-        let line = if number == 0 { 0 } else { 2 };
-        assert_eq!(reply(&format!("(sheet 4)\n(unit 1 (window {window}))\n")), (number, line), "{window}");
-        assert_eq!(reply(&format!("(sheet 4)\n(rule (slots {window}) (count 0 1))\n")), (number, line), "{window}");
+    for (places, of_window, of_stretch) in [
+        ("1 4", 0, 0), ("4 4", 0, 0), ("1 5", 0, 7), ("4 5", 0, 7), ("0 1", 7, 7), ("4 3", 7, 7), ("5 5", 7, 7), ("1 6", 7, 7), ("5 6", 7, 7),
+    ] {
+        let refused = |number| (number, if number == 0 { 0 } else { 2 });
+        assert_eq!(reply(&format!("(sheet 4)\n(unit 1 (window {places}))\n")), refused(of_window), "{places}");
+        assert_eq!(reply(&format!("(sheet 4)\n(rule (slots {places}) (count 0 1))\n")), refused(of_stretch), "{places}");
     }
     assert_eq!(reply("(sheet 4)\n(rule (slots 1 4) (count 300 300))\n"), (0, 0));
     assert_eq!(reply("(sheet 4)\n(rule (slots 1 4) (count 0 301))\n"), (8, 2));
@@ -148,7 +150,7 @@ fn loader_numbers() {
     assert_eq!(two("4017", "10000"), (4, 4), "4 before 16");
     assert_eq!(two("17", "0017"), (4, 4), "4 before 16");
     assert_eq!(reply("(sheet 4)\n(unit 0 (window 4 3))\n"), (7, 2), "7 before 16");
-    assert_eq!(reply("(sheet 4)\n(unit 5 (window 1 1))\n(unit 5 (window 1 5))\n"), (7, 3), "7 before 16");
+    assert_eq!(reply("(sheet 4)\n(unit 5 (window 1 1))\n(unit 5 (window 5 5))\n"), (7, 3), "7 before 16");
     assert_eq!(reply("(sheet 4)\n(unit 5 (window 1 1))\n(rule (slots 1 1) (count 0 5))\n(unit 5 (window 1 1))\n"), (16, 4));
     let sheet = read(b"(sheet 4)\n(unit 4017 (window 1 4))\n(unit 12 (window 2 3))\n").unwrap();
     assert_eq!(sheet, Sheet::new(4, &[(1, 4), (2, 3)], &[]).numbered(&[4_017, 12]));
@@ -173,6 +175,25 @@ fn rooms_are_asked_last() {
     }
     assert_eq!(read_into(b"x", [0; 3], [0; 4]), Err(Refusal { number: 3, line: 1 }));
     assert_eq!(refusal_page(Refusal { number: 7, line: 3 }), b"(refused 7 (line 3))\n");
+}
+
+/// A window or a stretch that is moved to the end of the wave is taken, or refused by 7 where it is one place too far.
+#[test]
+fn windows_and_stretches_at_the_end_of_the_wave() {
+    let (mut carried, mut refused, all) = (0, 0, effort(2_000));
+    for i in 0..all {
+        let mut r = Random::of_case(seed(22), i);
+        let mut text = valid(&mut r);
+        reach_the_end(&mut r, &mut text);
+        match read(&text) {
+            Ok(sheet) => carried += (sheet.cut_to_span() != sheet) as usize,
+            Err(refusal) => {
+                assert_eq!(refusal.number, 7, "seed {} case {i}: {}", seed(22), String::from_utf8_lossy(&text));
+                refused += 1;
+            }
+        }
+    }
+    assert!(5 * carried > all && 5 * refused > all, "{carried} with windows past the wave, {refused} refused");
 }
 
 /// The generators reach a sheet and every refusal of reading.

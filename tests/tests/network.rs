@@ -6,6 +6,7 @@ use model::random::{any_sheet, Random};
 use model::sheet::Sheet;
 use model::tally::Tally;
 use model::{effort, seed};
+use tugrokt::MAX_BOUNDARIES;
 
 /// The largest weight, as the plain pass counts.
 const MOST: i64 = MAX_WEIGHT as i64;
@@ -80,7 +81,7 @@ fn number(r: &mut Random, least: i64, greatest: i64) -> i64 {
 
 /// Any width; often a small one, where there is more to tell apart.
 fn width(r: &mut Random) -> usize {
-    if r.chance(70) { r.between(1, 8) } else { r.between(9, 49) }
+    if r.chance(70) { r.between(1, 8) } else { r.between(9, MAX_BOUNDARIES) }
 }
 
 /// The entries, row by row, as they are lent: with up to three places past them.
@@ -195,7 +196,7 @@ fn kind(outcome: Outcome, w: usize) -> &'static str {
 fn report(tally: &Tally) {
     tally.report();
     for outcome in [Outcome::Finished, Outcome::Stopped] {
-        for (w, part) in [(32, 5), (49, 50)] {
+        for (w, part) in [(32, 5), (MAX_BOUNDARIES, 50)] {
             let kind = kind(outcome, w);
             assert!(part * tally.count(kind) > tally.all(), "too few {kind}");
         }

@@ -4,15 +4,24 @@ use std::fs::{self, File, Permissions};
 use std::os::unix::fs::PermissionsExt;
 use std::path::{Path, PathBuf};
 use std::process::{Child, Command, Output, Stdio};
-use std::sync::Once;
+use std::sync::{Mutex, Once};
 
 use model::cases;
+
+/// Held while commands are written and while one is started: until a child runs its program it has all that its parent had open, and
+/// a file that is open for writing cannot be run.
+static STARTING: Mutex<()> = Mutex::new(());
+
+fn spawn(command: &mut Command) -> Child {
+    let _alone = STARTING.lock().unwrap();
+    command.spawn().expect("the command starts")
+}
 
 /// The command, on a tree where there is nothing left to prove.
 fn plan() -> Command {
     static BUILT: Once = Once::new();
     let path = Path::new(env!("ROOT")).join("plan");
-    BUILT.call_once(|| drop(Command::new(&path).stdin(Stdio::null()).output().unwrap()));
+    BUILT.call_once(|| drop(end(spawn(Command::new(&path).stdin(Stdio::null()).stdout(Stdio::piped()).stderr(Stdio::piped())))));
     let mut command = Command::new(path);
     command.stdout(Stdio::piped()).stderr(Stdio::piped());
     command
@@ -22,7 +31,7 @@ fn plan() -> Command {
 fn start(name: &str, text: &[u8]) -> Child {
     let path = Path::new(env!("CARGO_TARGET_TMPDIR")).join(format!("{name}.sheet"));
     fs::write(&path, text).unwrap();
-    plan().stdin(File::open(path).unwrap()).spawn().expect("the command starts")
+    spawn(plan().stdin(File::open(path).unwrap()))
 }
 
 fn end(child: Child) -> (i32, String, String) {
@@ -32,7 +41,7 @@ fn end(child: Child) -> (i32, String, String) {
 
 #[test]
 fn the_status_is_the_answer() {
-    let (p2, p4) = (cases::all()[1].sheet.text(), cases::all()[3].sheet.text());
+    let (p2, p4) = (cases::named("P2").sheet.text(), cases::named("P4").sheet.text());
     assert_eq!(end(start("plan", &p2)), (0, cases::P2_PAGE.into(), String::new()));
     assert_eq!(end(start("none", &p4)), (1, cases::P4_PAGE.into(), String::new()));
     assert_eq!(end(start("refused", b"(sheet 49)\n")), (2, "(refused 6 (line 1))\n".into(), String::new()));
@@ -44,31 +53,33 @@ fn the_status_is_the_answer() {
 /// What cannot be read or written is said, and is no answer.
 #[test]
 fn reading_or_writing_fails() {
-    let folder = plan().stdin(File::open("/").unwrap()).spawn().unwrap();
+    let folder = spawn(plan().stdin(File::open("/").unwrap()));
     let (status, page, said) = end(folder);
     assert_eq!((status, page.as_str()), (3, ""));
     assert!(said.contains("plan: the sheet could not be read"), "{said}");
-    for text in [cases::all()[1].sheet.text(), cases::all()[3].sheet.text(), b"(sheet 49)\n".to_vec()] {
+    for text in [cases::named("P2").sheet.text(), cases::named("P4").sheet.text(), b"(sheet 49)\n".to_vec()] {
         let path = Path::new(env!("CARGO_TARGET_TMPDIR")).join("full.sheet");
         fs::write(&path, text).unwrap();
         let full = File::options().write(true).open("/dev/full").unwrap();
-        let (status, _, said) = end(plan().stdin(File::open(path).unwrap()).stdout(full).spawn().unwrap());
+        let (status, _, said) = end(spawn(plan().stdin(File::open(path).unwrap()).stdout(full)));
         assert_eq!((status, said.as_str()), (3, "plan: the page could not be written\n"));
     }
     for closed in ["<&-", ">&-"] {
         let words = ["-c", &format!("exec ./plan {closed}")];
-        let run = Command::new("bash").args(words).current_dir(env!("ROOT")).stdin(Stdio::null()).output().unwrap();
-        assert_eq!((run.status.code(), run.stdout.len()), (Some(3), 0), "{closed}");
-        assert!(String::from_utf8_lossy(&run.stderr).contains("is closed"), "{closed}");
+        let mut shell = Command::new("bash");
+        shell.args(words).current_dir(env!("ROOT")).stdin(Stdio::null()).stdout(Stdio::piped()).stderr(Stdio::piped());
+        let (status, page, said) = end(spawn(&mut shell));
+        assert_eq!((status, page.as_str()), (3, ""), "{closed}");
+        assert!(said.contains("is closed"), "{closed}");
     }
 }
 
 /// On a built tree nothing is proved, and calls do not disturb each other.
 #[test]
-fn ten_at_once() {
+fn many_at_once() {
     let sheets: Vec<Vec<u8>> = cases::all().iter().map(|case| case.sheet.text()).collect();
     let pages: Vec<(i32, String, String)> = sheets.iter().enumerate().map(|(i, text)| end(start(&format!("one{i}"), text))).collect();
-    let calls: Vec<Child> = sheets.iter().enumerate().map(|(i, text)| start(&format!("ten{i}"), text)).collect();
+    let calls: Vec<Child> = sheets.iter().enumerate().map(|(i, text)| start(&format!("many{i}"), text)).collect();
     for (call, alone) in calls.into_iter().zip(pages) {
         assert!(alone.2.is_empty(), "{}", alone.2);
         assert_eq!(end(call), alone);
@@ -77,6 +88,7 @@ fn ten_at_once() {
 
 /// A small tree with the command and a kit whose `rt check wave` runs this script.
 fn tree(name: &str, check: &str) -> PathBuf {
+    let _alone = STARTING.lock().unwrap();
     let root = Path::new(env!("CARGO_TARGET_TMPDIR")).join(name);
     let _ = fs::remove_dir_all(&root);
     fs::create_dir_all(root.join("crates/low")).unwrap();
@@ -92,7 +104,7 @@ fn tree(name: &str, check: &str) -> PathBuf {
 fn plan_in(root: &Path) -> Child {
     let path = format!("{}:{}", root.join("kit").display(), std::env::var("PATH").unwrap());
     let mut command = Command::new(root.join("plan"));
-    command.env("PATH", path).stdin(Stdio::null()).stdout(Stdio::piped()).stderr(Stdio::piped()).spawn().unwrap()
+    spawn(command.env("PATH", path).stdin(Stdio::null()).stdout(Stdio::piped()).stderr(Stdio::piped()))
 }
 
 const PROVES: &str = r#"sleep 0.3

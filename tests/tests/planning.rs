@@ -2,13 +2,10 @@
 
 use model::calls::planning_fault;
 use model::questions::{planning_refusal, Lengths, Lists};
-use model::random::{any_sheet, largest_sheet, loaders, paper_sheet, sheet_up_to, small_sheet, Random};
-use model::sheet::{Sheet, Solved, Unit};
-use model::tally::Tally;
+use model::random::{any_sheet, largest_sheet, loaders, paper_sheet, sheet_up_to, small_sheet, Random, Reach};
+use model::sheet::{carried_place, Sheet, Solved, Unit, MAX_SLOTS};
+use model::tally::{self, Tally, CARRIES, NONE, PLAN};
 use model::{cases, computed, effort, enumerated, seed};
-
-const PLAN: &str = "with a plan";
-const NONE: &str = "with none";
 
 /// The lengths that are asked for, with some places more here and there.
 fn roomy(r: &mut Random, sheet: &Sheet) -> Lengths {
@@ -26,7 +23,8 @@ fn roomy(r: &mut Random, sheet: &Sheet) -> Lengths {
 /// Plans, counts the case, and fails where anything differs from the model.
 fn hold(tally: &mut Tally, lists: &Lists, lengths: &Lengths, solved: Option<&Solved>) {
     let case = tally.all();
-    tally.add(planning_refusal(lists, lengths), if solved.is_some() { PLAN } else { NONE });
+    let refusal = planning_refusal(lists, lengths);
+    tally.add(refusal, if refusal == 0 { tally::answer(&lists.sheet(), solved) } else { "refused" });
     if let Some(fault) = planning_fault(lists, lengths, solved) {
         panic!("seed {} case {case}: {lists:?} {lengths:?}\n{fault}", tally.seed());
     }
@@ -39,7 +37,7 @@ fn hold_sheet(tally: &mut Tally, sheet: &Sheet, solved: Option<&Solved>) {
 
 #[test]
 fn document_cases() {
-    let mut tally = Tally::new("planning P1 to P10", 0);
+    let mut tally = Tally::new("planning P1 to P12", 0);
     for case in cases::all() {
         hold_sheet(&mut tally, &case.sheet, enumerated::solve(&case.sheet).as_ref());
     }
@@ -56,8 +54,37 @@ fn small_sheets_against_all_plans() {
         hold(&mut tally, &Lists::from(&sheet), &roomy(&mut r, &sheet), solved.as_ref());
     }
     tally.report();
-    let frequent = |answer| 4 * tally.count(answer) > tally.all();
-    assert!(frequent(PLAN) && frequent(NONE));
+    for answer in [PLAN, CARRIES, NONE] {
+        assert!(10 * tally.count(answer) > tally.all(), "too few {answer}");
+    }
+}
+
+/// Small sheets, told apart by what the carried place is to them: without it some have no plan, and in some of these a unit is carried in
+/// every lawful plan.
+#[test]
+fn sheets_that_need_the_carried_place() {
+    const MUST: &str = "with a unit that must be carried";
+    const SOME: &str = "with some unit that must be carried, but not always the same";
+    let mut tally = Tally::new("planning sheets that have no plan inside the wave, all plans tried", seed(110));
+    for i in 0..effort(12_000) {
+        let mut r = Random::of_case(seed(110), i);
+        let sheet = small_sheet(&mut r);
+        let Some(solved) = enumerated::solve(&sheet) else { continue };
+        let cut = sheet.cut_to_span();
+        if enumerated::solve(&cut).is_some() {
+            continue;
+        }
+        let must = solved.earliest.iter().any(|&place| sheet.slot_at(place).is_none());
+        tally.add(0, if must { MUST } else { SOME });
+        for (sheet, solved) in [(&sheet, Some(&solved)), (&cut, None)] {
+            let fault = planning_fault(&Lists::from(sheet), &roomy(&mut r, sheet), solved);
+            assert_eq!(fault, None, "seed {} case {i}: {sheet:?}", seed(110));
+        }
+    }
+    tally.report();
+    for answer in [MUST, SOME] {
+        assert!(tally.count(answer) > effort(100), "too few {answer}");
+    }
 }
 
 /// Fewer sheets, with more plans each.
@@ -101,7 +128,9 @@ fn all_tiny_sheets() {
         let rules: Vec<(u16, u16, u16, u16)> =
             stretches.iter().flat_map(|&(a, b)| counts.iter().map(move |&(low, high)| (a, b, low, high))).collect();
         let rules = lists_of(&rules, 2);
-        for windows in lists_of(&stretches, most_units) {
+        let past = (1..=span).map(|first| (first, carried_place(span as usize) as u16));
+        let windows: Vec<(u16, u16)> = stretches.iter().copied().chain(past).collect();
+        for windows in lists_of(&windows, most_units) {
             for rules in &rules {
                 let sheet = Sheet::new(span as usize, &windows, rules);
                 hold_sheet(&mut tally, &sheet, enumerated::solve(&sheet).as_ref());
@@ -128,7 +157,7 @@ fn sheets_of_all_sizes() {
 fn sheets_of_the_source_paper() {
     let mut tally = Tally::new("planning sheets of the source paper", seed(103));
     for i in 0..effort(460) {
-        let sheet = paper_sheet(&mut Random::of_case(seed(103), i), 10 + i % 23);
+        let sheet = paper_sheet(&mut Random::of_case(seed(103), i), 10 + i % 23, Reach::InsideWave);
         hold_sheet(&mut tally, &sheet, computed::solve(&sheet).as_ref());
     }
     tally.report();
@@ -140,7 +169,8 @@ fn largest_sheets() {
     let mut tally = Tally::new("planning largest sheets", seed(104));
     for i in 0..effort(24) {
         let mut r = Random::of_case(seed(104), i);
-        let mut sheet = largest_sheet(&mut r, [0, 1, 3][i % 3], [48, 24, 6, 3][i % 4]);
+        let reach = [Reach::InsideWave, Reach::PastWave][i % 2];
+        let mut sheet = largest_sheet(&mut r, [0, 1, 3][i % 3], [48, 24, 6, 3][i / 2 % 4], reach);
         if i % 5 == 4 {
             // One unit more is wanted of a stretch than it has.
             let rule = r.below(60);
@@ -156,7 +186,18 @@ fn largest_sheets() {
 #[test]
 fn extreme_sheets() {
     let wide = vec![(1, 48); 300];
+    let wider = vec![(1, 49); 300];
     let sheets = [
+        Sheet::new(48, &wider, &[]),
+        Sheet::new(48, &wider, &[(1, 48, 0, 0)]),
+        Sheet::new(48, &wider, &[(1, 48, 300, 300)]),
+        Sheet::new(48, &wider, &[(1, 48, 150, 150), (48, 48, 75, 300)]),
+        Sheet::new(48, &wider, &[(1, 24, 300, 300), (25, 48, 1, 300)]),
+        Sheet::new(48, &vec![(48, 49); 300], &[(48, 48, 0, 1)]),
+        Sheet::new(48, &vec![(48, 49); 300], &[(1, 47, 1, 300)]),
+        Sheet::new(48, &vec![(25, 49); 300], &[(1, 48, 0, 299), (1, 24, 1, 300)]),
+        Sheet::new(1, &[(1, 2); 300], &[(1, 1, 0, 0); 60]),
+        Sheet::new(1, &[(1, 2); 300], &[(1, 1, 300, 300); 60]),
         Sheet::new(48, &wide, &[]),
         Sheet::new(48, &wide, &[(48, 48, 300, 300)]),
         Sheet::new(48, &wide, &[(1, 48, 300, 300)]),
@@ -185,7 +226,7 @@ fn the_greatest_sums() {
     let mut tally = Tally::new("planning sheets with the greatest sums", seed(107));
     for i in 0..effort(400) {
         let mut r = Random::of_case(seed(107), i);
-        let windows = if r.chance(50) { vec![(1, 48); 300] } else { vec![] };
+        let windows = if r.chance(50) { vec![(1, r.between(48, carried_place(48)) as u16); 300] } else { vec![] };
         let width = r.between(1, 4) as u16;
         let mut rules: Vec<(u16, u16, u16, u16)> = (0..48 / width).map(|j| (j * width + 1, (j + 1) * width, 300, 300)).collect();
         for _ in 0..r.below(12) {
@@ -209,7 +250,8 @@ fn narrowing_through_chains() {
         let mut r = Random::of_case(seed(105), i);
         let span = r.between(6, 48);
         let width = r.between(2, 4);
-        let windows: Vec<(u16, u16)> = (1..=span - width + 1).map(|s| (s as u16, (s + width - 1) as u16)).collect();
+        let end = r.between(span, carried_place(span));
+        let windows: Vec<(u16, u16)> = (1..=end - width + 1).map(|s| (s as u16, (s + width - 1) as u16)).collect();
         let per_slot: Vec<(u16, u16, u16, u16)> = (1..=span as u16).map(|s| (s, s, 0, 1)).collect();
         let mut sheet = Sheet::new(span, &windows, &per_slot);
         for _ in 0..r.below(4) {
@@ -249,6 +291,9 @@ fn faults() -> Vec<(usize, fn(&mut Lists, &mut Lengths))> {
         (7, |l, _| l.first[0] = 0),
         (7, |l, _| l.first[1] = l.last[1] + 1),
         (7, |l, _| l.last[1] = 49),
+        (7, |l, _| l.last[1] = carried_place(l.span) as u16 + 1),
+        (7, |l, _| (l.first[0], l.last[0]) = (carried_place(l.span) as u16, carried_place(l.span) as u16)),
+        (7, |l, _| l.to[0] = carried_place(l.span) as u16),
         (7, |l, _| l.last[0] = 65_535),
         (7, |l, _| l.from[0] = 0),
         (7, |l, _| l.from[1] = l.to[1] + 1),
@@ -309,6 +354,58 @@ fn refusals_alone_and_in_pairs() {
     tally.report();
 }
 
+/// Question 7 at its edges, on every span: only the last slot of a window may be the carried place.
+#[test]
+fn windows_and_stretches_at_the_end_of_the_wave() {
+    let mut tally = Tally::new("planning windows and stretches at the end of the wave", 0);
+    for span in 1..=MAX_SLOTS {
+        let (end, carried, beyond) = (span as u16, carried_place(span) as u16, carried_place(span) as u16 + 1);
+        let window = |first, last| (7, Sheet::new(span, &[(1, end), (first, last)], &[]));
+        let stretch = |from, to| (7, Sheet::new(span, &[(1, end)], &[(1, end, 0, 1), (from, to, 0, 1)]));
+        let taken = |(_, sheet)| (0, sheet);
+        for (expected, sheet) in [
+            taken(window(end, end)),
+            taken(window(1, carried)),
+            taken(window(end, carried)),
+            window(carried, carried),
+            window(1, beyond),
+            window(end, beyond),
+            window(carried, beyond),
+            taken(stretch(1, end)),
+            taken(stretch(end, end)),
+            stretch(1, carried),
+            stretch(end, carried),
+            stretch(carried, carried),
+        ] {
+            let refusal = planning_refusal(&Lists::from(&sheet), &Lengths::exact(&sheet));
+            assert_eq!(refusal, expected, "{sheet:?}");
+            hold_sheet(&mut tally, &sheet, if refusal == 0 { computed::solve(&sheet) } else { None }.as_ref());
+        }
+    }
+    tally.report();
+}
+
+/// Question 12 on every span: the table needs (span + 2)² places and the ring span + 2, and one less is refused.
+#[test]
+fn rooms_for_every_boundary() {
+    let mut tally = Tally::new("planning rooms for every boundary", 0);
+    for span in 1..=MAX_SLOTS {
+        let (table, ring) = ((span + 2) * (span + 2), span + 2);
+        // With a plan and with none.
+        for (low, high) in [(0, 0), (2, 2)] {
+            let sheet = Sheet::new(span, &[(1, carried_place(span) as u16)], &[(1, span as u16, low, high)]);
+            let solved = computed::solve(&sheet);
+            let exact = Lengths { table, ring, plan: 1, earliest: 1, latest: 1 };
+            let short = [Lengths { table: table - 1, ..exact }, Lengths { ring: ring - 1, ..exact }];
+            for (lengths, expected) in [(exact, 0), (short[0], 12), (short[1], 12)] {
+                assert_eq!(planning_refusal(&Lists::from(&sheet), &lengths), expected, "{lengths:?}");
+                hold(&mut tally, &Lists::from(&sheet), &lengths, solved.as_ref());
+            }
+        }
+    }
+    tally.report();
+}
+
 /// Equal closing slots go by line, whatever the loader numbers are: here those of the later lines are smaller.
 #[test]
 fn ties_go_by_line() {
@@ -319,6 +416,11 @@ fn ties_go_by_line() {
         assert_eq!(solved.plan, [1, 2, 3]);
         hold_sheet(&mut tally, &sheet, Some(&solved));
     }
+    // The carried place closes last, and takes those that are left by line.
+    let sheet = Sheet::new(2, &[(1, 3), (1, 3), (2, 3), (1, 2)], &[(1, 1, 0, 1), (2, 2, 0, 1)]).numbered(&[4, 3, 2, 1]);
+    let solved = enumerated::solve(&sheet).unwrap();
+    assert_eq!(solved.plan, [2, 3, 3, 1]);
+    hold_sheet(&mut tally, &sheet, Some(&solved));
     // 300 units with one window, no two of them in order of their numbers.
     let falling: Vec<u16> = (9_700..=9_999).rev().collect();
     let sheet = Sheet::new(48, &[(1, 48); 300], &[(1, 24, 0, 150)]).numbered(&falling);
@@ -390,9 +492,11 @@ fn refusals_at_random() {
         let mut lists = Lists::from(&sheet);
         let mut rooms = roomy(&mut r, &sheet);
         for _ in 0..r.between(1, 2) {
-            let value = *r.pick(&[0, 1, 5, 6, 48, 49, 299, 300, 301, 302, 9_999, 10_000, 32_767, 32_768, 65_535]);
+            let value = *r.pick(&[0, 1, 5, 6, 7, 48, 49, 50, 299, 300, 301, 302, 9_999, 10_000, 32_767, 32_768, 65_535]);
+            // The last slot, the carried place, or one too far.
+            let end = r.between(sheet.span, carried_place(sheet.span) + 1) as u16;
             let Lists { span, loader, first, last, from, to, low, high } = &mut lists;
-            match r.below(14) {
+            match r.below(16) {
                 0 => *span = *r.pick(&[0, 1, 2, 47, 48, 49, 255, 256, 65_536, usize::MAX - 1]),
                 1 => rooms.table = r.below(rooms.table + 2),
                 2 => rooms.ring = r.below(rooms.ring + 2),
@@ -428,6 +532,15 @@ fn refusals_at_random() {
                     // A number comes again, often on the last unit.
                     let at = if r.chance(50) { loader.len() - 1 } else { r.below(loader.len()) };
                     loader[at] = *r.pick(loader);
+                }
+                14 if !last.is_empty() && first.len() == last.len() => {
+                    let at = r.below(last.len());
+                    first[at] = if r.chance(50) { first[at] } else { end };
+                    last[at] = end;
+                }
+                15 if !to.is_empty() => {
+                    let at = r.below(to.len());
+                    to[at] = end;
                 }
                 k => {
                     let list = if k == 7 { r.below(2) } else { r.below(4) + 2 };

@@ -2,16 +2,17 @@
 
 use model::calls::{print, printing_fault, refused_print_fault, Printed};
 use model::questions::{planning_refusal, Lengths, Lists};
-use model::random::{any_sheet, largest_sheet, small_sheet, Random};
+use model::page::Page;
+use model::random::{any_sheet, largest_sheet, small_sheet, Random, Reach};
 use model::sheet::{Sheet, Solved};
-use model::tally::Tally;
+use model::tally::{self, Tally, CARRIES};
 use model::{cases, computed, effort, enumerated, page, seed};
 use tugrokt::entry::{self, Printing};
 
 /// Prints from some place on, counts the case, and fails where anything differs from the model.
 fn hold(tally: &mut Tally, r: &mut Random, sheet: &Sheet, solved: Option<&Solved>) {
     let case = tally.all();
-    tally.add(0, if solved.is_some() { "with a plan" } else { "with none" });
+    tally.add(0, tally::answer(sheet, solved));
     let (before, extra) = (r.below(20), r.below(20));
     if let Some(fault) = printing_fault(&Lists::from(sheet), &Lengths::exact(sheet), solved, before, extra) {
         panic!("seed {} case {case}: {sheet:?}\n{fault}", tally.seed());
@@ -28,13 +29,52 @@ fn document_cases() {
             assert_eq!(fault, None, "{}", case.name);
         }
     }
-    let printed = |i: usize| {
-        let sheet = &cases::all()[i].sheet;
-        let Printed { page, reply, .. } = print(&Lists::from(sheet), &Lengths::exact(sheet), 1_000, 0);
-        String::from_utf8_lossy(&page[..reply.place]).into_owned()
-    };
-    assert_eq!(printed(1), cases::P2_PAGE);
-    assert_eq!(printed(3), cases::P4_PAGE);
+    for (name, expected) in cases::PAGES {
+        assert_eq!(printed_page(&cases::named(name).sheet), expected, "{name}");
+    }
+}
+
+/// The page of a sheet, in rooms that are as long as is asked for.
+fn printed_page(sheet: &Sheet) -> String {
+    let Printed { page, reply, .. } = print(&Lists::from(sheet), &Lengths::exact(sheet), tugrokt::MAX_PAGE, 0);
+    assert_eq!(reply.number, 0);
+    String::from_utf8_lossy(&page[..reply.place]).into_owned()
+}
+
+/// Carried units have their line in the order of the sheet and count in no slot; narrowed windows may end, and begin, with the carried
+/// place.
+#[test]
+fn carried_units() {
+    let sheet = Sheet::new(4, &[(3, 5), (4, 4), (1, 5), (4, 5)], &[(4, 4, 0, 1), (3, 3, 0, 0)]).numbered(&[4_017, 12, 9_999, 1]);
+    let expected = "(answer plan 4)
+(unit 4017 (carried) (between 5 5))
+(unit 12 (slot 4) (between 4 4))
+(unit 9999 (slot 1) (between 1 5))
+(unit 1 (carried) (between 5 5))
+(slot 1 (count 1) (range 0 1))
+(slot 2 (count 0) (range 0 1))
+(slot 3 (count 0) (range 0 0))
+(slot 4 (count 1) (range 1 1))
+";
+    assert_eq!(printed_page(&sheet), expected);
+    // The longest span: the carried place is 49, and no line says so.
+    let sheet = Sheet::new(48, &[(48, 49), (48, 49)], &[(48, 48, 0, 1)]);
+    let Some(Page::Plan { units, slots }) = page::parse(printed_page(&sheet).as_bytes()) else { panic!("a plan") };
+    assert_eq!(units.iter().map(|u| (u.slot, u.first, u.last)).collect::<Vec<_>>(), [(Some(48), 48, 49), (None, 48, 49)]);
+    assert_eq!((slots.len(), slots[47].count), (48, 1));
+}
+
+/// A ring's lines may end with the carried place. This sheet has one ring.
+#[test]
+fn rings_reach_the_carried_place() {
+    let sheet = Sheet::new(2, &[(2, 3), (2, 3)], &[(1, 1, 1, 1)]);
+    let expected = "(answer none)
+(at-most 2 (slots 1 3))
+(at-least 2 (slots 2 3))
+(at-least 1 (slots 1 1))
+(shortfall 1)
+";
+    assert_eq!(printed_page(&sheet), expected);
 }
 
 #[test]
@@ -46,6 +86,7 @@ fn small_sheets() {
         hold(&mut tally, &mut r, &sheet, enumerated::solve(&sheet).as_ref());
     }
     tally.report();
+    assert!(10 * tally.count(CARRIES) > tally.all(), "too few carry");
 }
 
 #[test]
@@ -53,7 +94,7 @@ fn sheets_of_all_sizes() {
     let mut tally = Tally::new("printing sheets of all sizes", seed(302));
     for i in 0..effort(600) {
         let mut r = Random::of_case(seed(302), i);
-        let sheet = if i % 20 == 0 { largest_sheet(&mut r, 1, 48) } else { any_sheet(&mut r) };
+        let sheet = if i % 20 == 0 { largest_sheet(&mut r, 1, 48, Reach::PastWave) } else { any_sheet(&mut r) };
         hold(&mut tally, &mut r, &sheet, computed::solve(&sheet).as_ref());
     }
     tally.report();
@@ -84,7 +125,7 @@ fn pages_that_do_not_hold_the_answer() {
 #[test]
 fn refusals() {
     let sheet = Sheet::new(5, &[(1, 3), (2, 5)], &[(1, 2, 0, 2), (2, 4, 1, 2)]).numbered(&[4_017, 12]);
-    let changes: [(usize, fn(&mut Lists, &mut Lengths)); 20] = [
+    let changes: [(usize, fn(&mut Lists, &mut Lengths)); 22] = [
         (13, |l, _| l.last.push(1)),
         (13, |l, _| l.low.push(1)),
         (13, |l, _| l.loader.push(7)),
@@ -97,6 +138,8 @@ fn refusals() {
         }),
         (10, |l, _| l.add_rules(61)),
         (7, |l, _| l.to[0] = 6),
+        (7, |l, _| l.last[0] = 7),
+        (7, |l, _| (l.first[1], l.last[1]) = (6, 6)),
         (7, |l, _| (l.to[0], l.loader[0]) = (6, 0)),
         (16, |l, _| l.loader[0] = 0),
         (16, |l, _| l.loader[1] = 10_000),
@@ -128,7 +171,6 @@ fn refusals() {
 #[test]
 fn loader_numbers() {
     let sheet = Sheet::new(2, &[(1, 2), (1, 2), (1, 1)], &[(1, 1, 0, 2)]).numbered(&[9_999, 12, 4_017]);
-    let Printed { page, reply, .. } = print(&Lists::from(&sheet), &Lengths::exact(&sheet), 1_000, 0);
     let expected = "(answer plan 3)
 (unit 9999 (slot 1) (between 1 2))
 (unit 12 (slot 2) (between 1 2))
@@ -136,14 +178,13 @@ fn loader_numbers() {
 (slot 1 (count 2) (range 1 2))
 (slot 2 (count 1) (range 1 2))
 ";
-    assert_eq!(String::from_utf8_lossy(&page[..reply.place]), expected);
+    assert_eq!(printed_page(&sheet), expected);
     // Numbers of one to four digits, and of each length on both sides of it.
     let numbers = [1, 9, 10, 99, 100, 999, 1_000, 9_999];
     let sheet = Sheet::new(1, &[(1, 1); 8], &[]).numbered(&numbers);
-    let Printed { page, reply, .. } = print(&Lists::from(&sheet), &Lengths::exact(&sheet), 1_000, 0);
     let lines: String = numbers.iter().map(|k| format!("(unit {k} (slot 1) (between 1 1))\n")).collect();
     let expected = format!("(answer plan 8)\n{lines}(slot 1 (count 8) (range 8 8))\n");
-    assert_eq!(String::from_utf8_lossy(&page[..reply.place]), expected);
+    assert_eq!(printed_page(&sheet), expected);
 }
 
 /// Answers one after the other on one page.

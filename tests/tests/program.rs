@@ -5,9 +5,9 @@ use std::time::Duration;
 
 use model::damage::{any_text, note_of_depth, valid, with_notes};
 use model::program::{fault, output_fault, run};
-use model::random::{any_sheet, largest_sheet, small_sheet, Random};
+use model::random::{any_sheet, largest_sheet, small_sheet, Random, Reach};
 use model::reading::read;
-use model::tally::Tally;
+use model::tally::{self, Tally, CARRIES};
 use model::{cases, effort, enumerated, page, seed};
 
 /// Runs the program on a text, counts the case, and fails where anything differs from the model.
@@ -28,9 +28,9 @@ fn document_cases() {
     for case in cases::all() {
         assert_eq!(fault(&case.sheet.text()), None, "{}", case.name);
     }
-    let text = |i: usize| String::from_utf8(cases::all()[i].sheet.text()).unwrap();
-    assert_eq!(written(&text(1)), cases::P2_PAGE);
-    assert_eq!(written(&text(3)), cases::P4_PAGE);
+    for (name, page) in cases::PAGES {
+        assert_eq!(written(&String::from_utf8(cases::named(name).sheet.text()).unwrap()), page, "{name}");
+    }
 }
 
 /// The sheets that docs/RULES.md, "Sheets to try", says are only run.
@@ -49,6 +49,9 @@ fn cases_that_are_run() {
         (note(17), "(refused 11 (line 2))\n"),
         (long(16_001), "(refused 1 (line 0))\n"),
         ("(sheet 4)\n(unit 1 (window 4 3))\n".into(), "(refused 7 (line 2))\n"),
+        ("(sheet 4)\n(unit 1 (window 5 5))\n".into(), "(refused 7 (line 2))\n"),
+        ("(sheet 4)\n(unit 1 (window 4 6))\n".into(), "(refused 7 (line 2))\n"),
+        ("(sheet 4)\n(rule (slots 4 5) (count 0 1))\n".into(), "(refused 7 (line 2))\n"),
         ("(sheet 4)\n(unit 0 (window 4 3))\n".into(), "(refused 7 (line 2))\n"),
         ("(sheet 4)\n(unit 0 (window 1 4))\n".into(), "(refused 16 (line 2))\n"),
         (format!("{}(note)\n(unit 299 (window 1 4))\n", units(299)), "(refused 16 (line 302))\n"),
@@ -65,6 +68,7 @@ fn cases_that_are_run() {
     }
     let taken = [
         "(sheet 48)\n".to_string(),
+        "(sheet 48)\n(unit 1 (window 48 49))\n".into(),
         units(300),
         "(sheet 4)\n(unit 9999 (window 1 4))\n(unit 1 (window 1 4))\n".into(),
         rules(60),
@@ -110,10 +114,11 @@ fn texts_of_the_check() {
 #[test]
 fn short_reads() {
     let pause = Some(Duration::from_micros(300));
-    for i in 0..effort(40) {
+    let documented = cases::all();
+    for i in 0..effort(48) {
         let mut r = Random::of_case(seed(401), i);
         let text = match i % 4 {
-            0 => cases::all()[i / 4 % 10].sheet.text(),
+            0 => documented[i / 4 % documented.len()].sheet.text(),
             1 => any_text(&mut r),
             _ => valid(&mut r),
         };
@@ -123,7 +128,7 @@ fn short_reads() {
         let fault = output_fault(&text, &written);
         assert_eq!(fault, None, "seed {} case {i}: {:?}", seed(401), String::from_utf8_lossy(&text));
     }
-    let p1 = cases::all()[0].sheet.text();
+    let p1 = cases::named("P1").sheet.text();
     assert_eq!(output_fault(&p1, &run(&p1, &[1], pause)), None);
 }
 
@@ -146,11 +151,12 @@ fn small_sheets() {
     for i in 0..effort(4_000) {
         let sheet = small_sheet(&mut Random::of_case(seed(405), i));
         let solved = enumerated::solve(&sheet);
-        tally.add(0, if solved.is_some() { "with a plan" } else { "with none" });
+        tally.add(0, tally::answer(&sheet, solved.as_ref()));
         let page = run(&sheet.text(), &[], None);
         assert_eq!(page::fault(&sheet, solved.as_ref(), &page), None, "seed {} case {i}: {sheet:?}", seed(405));
     }
     tally.report();
+    assert!(10 * tally.count(CARRIES) > tally.all(), "too few carry");
 }
 
 #[test]
@@ -167,7 +173,8 @@ fn sheets_at_random() {
 #[test]
 fn largest_sheets() {
     for i in 0..effort(12) {
-        let sheet = largest_sheet(&mut Random::of_case(seed(403), i), i % 3, [48, 12, 4][i % 3]);
+        let reach = [Reach::InsideWave, Reach::PastWave][i % 2];
+        let sheet = largest_sheet(&mut Random::of_case(seed(403), i), i % 3, [48, 12, 4][i % 3], reach);
         assert_eq!(fault(&sheet.text()), None, "seed {} case {i}", seed(403));
     }
 }
