@@ -40,9 +40,12 @@ module _ (ks : List ℕ) (s : Sheet) (D : Weights) (S : Solved s D) where
   size : length (printedPlan s) ≡ n
   size = lawful-iff s (printedPlan s) .0 (printed .legal) .seated .size
 
+  abbrev slotOf : ℕ → ℕ
+  slotOf j = getD (printedPlan s) j 0
+
   -- the lines of the units, with their narrowed windows
   abbrev withWindows : (ℕ → ℕ) → (ℕ → ℕ) → ℕ → Said
-  withWindows = unitSaid (s .span) (λ j. getD ks j 0) (λ j. getD (printedPlan s) j 0)
+  withWindows = unitSaid (s .span) (λ j. getD ks j 0) slotOf
 
   -- with the windows' ends as the two lists have them
   abbrev listed : ℕ → Said
@@ -83,9 +86,6 @@ module _ (ks : List ℕ) (s : Sheet) (D : Weights) (S : Solved s D) where
       (List·Memᴰ·cases-cons (subst (In w) lines-are m))
 
   -- a unit's slot is one of the span, or the carried place
-  abbrev slotOf : ℕ → ℕ
-  slotOf j = getD (printedPlan s) j 0
-
   slot-within : (j : ℕ) → j < n → (1 ≤ slotOf j) × (slotOf j ≤ carriedPlace (s .span))
   unfolding top
   slot-within j h =
