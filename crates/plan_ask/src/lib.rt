@@ -167,7 +167,8 @@ pub fn ask_lists(
             line: 0,
         });
     }
-    if all_rise(0, sheet::Sheet::MAX_COUNT, sheet::Sheet::MAX_COUNT, low, high) {
+    let most = sheet::Sheet::MAX_COUNT;
+    if all_rise(0, most, most, low, high) {
         Checked::Yes
     } else {
         Checked::No(Refusal { number: 8, line: 0 })

@@ -41,7 +41,8 @@ fn is_stretch(span: usize, from: u16, to: u16) -> bool
 fn is_count(low: u16, high: u16) -> bool
     ensures { λ r. ⌜ r ≡ isCount low high ⌝ }
 {
-    sheet::rises(0, Sheet::MAX_COUNT, Sheet::MAX_COUNT, low as usize, high as usize)
+    let most = Sheet::MAX_COUNT;
+    sheet::rises(0, most, most, low as usize, high as usize)
 }
 
 // Questions 5 and 6.

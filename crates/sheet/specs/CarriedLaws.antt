@@ -45,5 +45,5 @@ module _ (s : Sheet) (ok : T (accepted s)) where
       let most : atMost s 1 (top s) ≡ n = le-antisymm (atMost-n s 1 (top s)) (atMost-ge s 1 (top s) n (omega arith) (λ r m e f. no-rule r m f)) in
       let few = howMany-most (insideOf 1 (top s)) (s .units) in
       let fewest : atLeast s 1 (top s) ≡ n =
-          omega (arith, atLeast-windows s 1 (top s), inside, atLeast-le s 1 (top s) n few (λ r m e f. no-rule r m f)) in
+      omega (arith, atLeast-windows s 1 (top s), inside, atLeast-le s 1 (top s) n few (λ r m e f. no-rule r m f)) in
       (limit-fwd s 0 (top s) some ∙ ap pos most, limit-back s (top s) 0 some ∙ ap (λ k. negℤ (pos k)) fewest)

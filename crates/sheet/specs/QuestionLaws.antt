@@ -105,7 +105,7 @@ module _ (s : Sheet) (ok : T (accepted s)) where
   unfolding stretchesFit
   accepted-stretch r m =
       let e = rising-read 1 (s .span) (s .span) (r .from) (r .to)
-          (every-in (λ q. isStretch (s .span) (q .from) (q .to)) r (s .rules) m (yes 4 tt)) in
+      (every-in (λ q. isStretch (s .span) (q .from) (q .to)) r (s .rules) m (yes 4 tt)) in
       (e .0 .0, e .1 .0, e .1 .1)
 
   pub accepted-valid : Valid s
@@ -115,7 +115,7 @@ module _ (s : Sheet) (ok : T (accepted s)) where
     windows = λ j h.
         let w = getD (s .units) j noWindow in
         let e = rising-read 1 (s .span) (carriedPlace (s .span)) (w .first) (w .last)
-            (every-at (λ v. isWindow (s .span) (v .first) (v .last)) noWindow (s .units) (yes 3 tt) j h) in
+        (every-at (λ v. isWindow (s .span) (v .first) (v .last)) noWindow (s .units) (yes 3 tt) j h) in
         (e .0 .0, e .1 .0, e .1 .1);
     stretches = λ r m. let e = accepted-stretch r m in (e .0, e .1, omega (arith, e .2));
   }
