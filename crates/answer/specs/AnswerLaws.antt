@@ -37,6 +37,8 @@ use Rattle.print_page.specs.PageBounds.{plan-short, none-short}
 use Rattle.print.specs.Printing.{planBytes, ringBytes, holds, Asked, Shown, Printing}
 use Rattle.print.specs.OwnLaws.{ownRooms, own-fit}
 use Rattle.print.specs.Reply as says
+use Rattle.answer.specs.declared.Query.{Query}
+use Rattle.answer.specs.declared.Query.the-variants.{Plan}
 use Rattle.answer.specs.Answer.{maxRefusal, ByPass, AnswerToSheet, ByReading, AnswerTo, Answered}
 use Rattle.answer.specs.Fronts.{fronts, Held}
 use Rattle.answer.specs.FrontsLaws.{held, front-loaders, front-sheet}
@@ -112,19 +114,19 @@ module _ (l : WrittenLists) (y : Listed l) (page : List ℕ) (long : maxPage ≤
       go stopped h = let f : reply ≡ says.none (length (h .0)) (0 + length (ringBytes s (h .0))) = h .2 in let z : _≡_ {A = ℕ} 0 1 = cc in omega arith
 
   -- so it says the place just past the answer
-  pub print-plan : (next : ℕ) → reply ≡ says.plan next → Answered (AnswerToSheet ks s) page left next
+  pub print-plan : (next : ℕ) → reply ≡ says.plan next → Answered (AnswerToSheet Plan ks s) page left next
   print-plan next e = go (passed s) ends
     where
-      go : (p : Passed) → Ended p → Answered (ByPass p ks s) page left next
+      go : (p : Passed) → Ended p → Answered (ByPass Plan p ks s) page left next
       go (finished t) h =
           let f : reply ≡ says.plan (0 + length (planBytes ks s)) = h .0 in
           record { bytes = planBytes ks s; answers = refl; written = record { filled = h .1; moved = cc } }
       go stopped h = let f : reply ≡ says.none (length (h .0)) (0 + length (ringBytes s (h .0))) = h .2 in let z : _≡_ {A = ℕ} 0 1 = cc in absurd (omega arith)
 
-  pub print-none : (k next : ℕ) → reply ≡ says.none k next → Answered (AnswerToSheet ks s) page left next
+  pub print-none : (k next : ℕ) → reply ≡ says.none k next → Answered (AnswerToSheet Plan ks s) page left next
   print-none k next e = go (passed s) ends
     where
-      go : (p : Passed) → Ended p → Answered (ByPass p ks s) page left next
+      go : (p : Passed) → Ended p → Answered (ByPass Plan p ks s) page left next
       go (finished t) h = let f : reply ≡ says.plan (0 + length (planBytes ks s)) = h .0 in let z : _≡_ {A = ℕ} 0 1 = cc in absurd (omega arith)
       go stopped h =
           let f : reply ≡ says.none (length (h .0)) (0 + length (ringBytes s (h .0))) = h .2 in
@@ -152,8 +154,8 @@ module _ (input : List ℕ) (m : ListRooms (List ℕ)) (sizes : sizesOf m ≡ ro
         let r = reading-refusals input number line first-no in
         (two-digits number (r .number-known), r .line-known)
 
-    pub refused-answer : AnswerTo input (refusedLine number line)
-    refused-answer = subst (λ v. ByReading v (sheetIn input) (refusedLine number line)) (sym first-no) refl
+    pub refused-answer : (query : Query) → AnswerTo query input (refusedLine number line)
+    refused-answer query = subst (λ v. ByReading query v (sheetIn input) (refusedLine number line)) (sym first-no) refl
 
   module _ (t : Read) (e : read (t .span) (t .units) (t .rules) ≡ reading input (sizesOf m)) (after : ListRooms (List ℕ)) (lists : after ≡ roomsAfter input m) where
     all-yes : verdict ≡ allYes
@@ -184,17 +186,17 @@ module _ (input : List ℕ) (m : ListRooms (List ℕ)) (sizes : sizesOf m ≡ ro
         subst (Held t) (sym left-is)
         (held (sheetIn input) t span-same units-same rules-same m (reading-accepts input roomsForAll all-yes) (reading-loaders input roomsForAll all-yes))
 
-    pub read-answered : (page left : List ℕ) (next : ℕ) → Answered (AnswerToSheet (fronts t after .loader) (givenBy (fronts t after))) page left next
-        → Answered (AnswerTo input) page left next
-    read-answered page left next a =
+    pub read-answered : (query : Query) (page left : List ℕ) (next : ℕ)
+        → Answered (AnswerToSheet query (fronts t after .loader) (givenBy (fronts t after))) page left next → Answered (AnswerTo query input) page left next
+    read-answered query page left next a =
         let w = sheetIn input in
         let sheet : givenBy (fronts t after) ≡ constraints w = ap (λ r. givenBy (fronts t r)) left-is ∙ front-sheet w t span-same units-same rules-same m in
         let numbers : fronts t after .loader ≡ loaders w =
         ap (λ r. fronts t r .loader) left-is ∙ front-loaders w t span-same units-same rules-same m in
-        let answer : AnswerToSheet (loaders w) (constraints w) (a .bytes) =
-        subst (λ k. AnswerToSheet k (constraints w) (a .bytes)) numbers
-        (subst (λ q. AnswerToSheet (fronts t after .loader) q (a .bytes)) sheet (a .answers)) in
-        record { bytes = a .bytes; answers = subst (λ v. ByReading v w (a .bytes)) (sym all-yes) answer; written = a .written }
+        let answer : AnswerToSheet query (loaders w) (constraints w) (a .bytes) =
+        subst (λ k. AnswerToSheet query k (constraints w) (a .bytes)) numbers
+        (subst (λ q. AnswerToSheet query (fronts t after .loader) q (a .bytes)) sheet (a .answers)) in
+        record { bytes = a .bytes; answers = subst (λ v. ByReading query v w (a .bytes)) (sym all-yes) answer; written = a .written }
 
 -- ---- the place just past an answer lies within the page
 pub answered-inside : (Answer : List ℕ → Type 0) (page left : List ℕ) (next : ℕ) → Answered Answer page left next → next ≤ length left

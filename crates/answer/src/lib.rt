@@ -10,6 +10,12 @@ use print_page::MAX_PAGE;
 use read_ask::Reading;
 use sheet::Sheet;
 
+// What is asked of a sheet: its plan, or only whether there is one and how many units each slot may have.
+pub enum Query {
+    Plan,
+    Fits,
+}
+
 // No line of a refusal is longer: its question has at most two digits and its line number at most five.
 const MAX_REFUSAL: usize = 26;
 
@@ -31,8 +37,8 @@ fn refuse(page: &mut [u8; MAX_PAGE], number: usize, line: usize) -> usize
     print_writer::write(page, 0, &own[..length])
 }
 
-// The answer to the sheet that reading left at the front of the lists.
-fn answer_sheet(
+// The plan of the sheet that reading left at the front of the lists, or a ring.
+fn plan_sheet(
     s: Sheet,
     loader: &[u16],
     first: &[u16],
@@ -47,7 +53,7 @@ fn answer_sheet(
     ensures { λ r.
         let l = fronts s (rooms (now (loader .entry)) (now (first .entry)) (now (last .entry))
         (now (from .entry)) (now (to .entry)) (now (low .entry)) (now (high .entry))) in
-        ⌜ Answered (AnswerToSheet (l .loader) (givenBy l)) (now (page .entry)) (now (page .exit)) r ⌝ }
+        ⌜ Answered (AnswerToSheet Query.Plan (l .loader) (givenBy l)) (now (page .entry)) (now (page .exit)) r ⌝ }
 {
     let n = s.units;
     let r = s.rules;
@@ -80,10 +86,35 @@ fn answer_sheet(
     }
 }
 
-// The answer to a text, from the first place of the page on, and the place just past it. The lists are long enough for every sheet and the page for
-// every answer, so that no text is refused by 12 or 15.
-pub fn answer(text: &[u8], page: &mut [u8; MAX_PAGE]) -> usize
-    ensures { λ r. ⌜ Answered (AnswerTo (now (text .entry))) (now (page .entry)) (now (page .exit)) r ⌝ }
+// The answer to the sheet at the front of the lists, by what is asked of it.
+fn answer_sheet(
+    query: Query,
+    s: Sheet,
+    loader: &[u16],
+    first: &[u16],
+    last: &[u16],
+    from: &[u16],
+    to: &[u16],
+    low: &[u16],
+    high: &[u16],
+    page: &mut [u8; MAX_PAGE],
+) -> usize
+    requires { ⌜ Held s (rooms (now loader) (now first) (now last) (now from) (now to) (now low) (now high)) ⌝ }
+    ensures { λ r.
+        let l = fronts s (rooms (now (loader .entry)) (now (first .entry)) (now (last .entry))
+        (now (from .entry)) (now (to .entry)) (now (low .entry)) (now (high .entry))) in
+        ⌜ Answered (AnswerToSheet query (l .loader) (givenBy l)) (now (page .entry)) (now (page .exit)) r ⌝ }
+{
+    match query {
+        Query::Plan => plan_sheet(s, loader, first, last, from, to, low, high, page),
+        Query::Fits => plan_sheet(s, loader, first, last, from, to, low, high, page),
+    }
+}
+
+// The answer to what is asked of a text, from the first place of the page on, and the place just past it. The lists are long enough for every sheet and
+// the page for every answer, so that no text is refused by 12 or 15.
+pub fn answer(query: Query, text: &[u8], page: &mut [u8; MAX_PAGE]) -> usize
+    ensures { λ r. ⌜ Answered (AnswerTo query (now (text .entry))) (now (page .entry)) (now (page .exit)) r ⌝ }
 {
     let mut loader = [0u16; Sheet::MAX_UNITS];
     let mut first = [0u16; Sheet::MAX_UNITS];
@@ -104,6 +135,17 @@ pub fn answer(text: &[u8], page: &mut [u8; MAX_PAGE]) -> usize
     );
     match reading {
         Reading::Refused(refusal) => refuse(page, refusal.number, refusal.line),
-        Reading::Sheet(s) => answer_sheet(s, &loader, &first, &last, &from, &to, &low, &high, page),
+        Reading::Sheet(s) => answer_sheet(
+            query,
+            s,
+            &loader,
+            &first,
+            &last,
+            &from,
+            &to,
+            &low,
+            &high,
+            page,
+        ),
     }
 }
