@@ -10,7 +10,7 @@ use Rattle.questions.specs.Questions.{Verdict, no, allYes, firstNo}
 use Rattle.read_ask.specs.Reading.{questions, roomsForAll, sheetIn}
 use Rattle.plan_solve.specs.Planning.{passed}
 use Rattle.print_bytes.specs.Writing.{Written, refusedLine}
-use Rattle.print.specs.Printing.{planBytes, ringBytes}
+use Rattle.pages.specs.SheetPages.{planBytes, ringBytes}
 use Rattle.answer.specs.declared.Query.{Query}
 use Rattle.answer.specs.declared.Query.the-variants.{Plan, Fits}
 

@@ -12,15 +12,13 @@ use lib.Seq.{take-at}
 use lib.IntN.{ℤ, pos, negℤ}
 use lib.Signed.{_≤ℤ_}
 use Rattle.integers.specs.Parts.{up, dn, ints, neg, nonneg}
-use Rattle.network.specs.NetworkLaws.{cycle-infeasible}
 use Rattle.network.specs.Table.{entry}
 use Rattle.network.specs.TableLaws.{row-inside}
 use Rattle.lists.specs.Values.{values-at, length-values}
 use Rattle.questions.specs.Questions.{Verdict, no, allYes}
 use Rattle.slots.specs.Slots.{Slot, Boundary, slotBefore, slotAfter}
-use Rattle.sheet.specs.Sheet.{Sheet, top, boundaries, limit, isRing, unitPlaces, lawful, fair, countIn, leastIn}
+use Rattle.sheet.specs.Sheet.{Sheet, top, boundaries, isRing, unitPlaces, lawful, fair, countIn, leastIn}
 use Rattle.sheet.specs.Sheet.{earliest, latest, earliestSlots, latestSlots, printedPlan}
-use Rattle.sheet.specs.PotentialLaws.{lawful-feasible}
 use Rattle.sheet.specs.PlanLaws.{lawful-iff, earliest-bound, earliest-attained, latest-bound, latest-attained, greatestIn-bound}
 use Rattle.plans.specs.PrintedLaws.{Printed, some-printed}
 use Rattle.plans.specs.CountLaws.{solved-plan, range, greatest-entry, least-entry}
@@ -30,11 +28,6 @@ use Rattle.plan_solve.specs.Planning.{conclusion, Settled}
 use Rattle.plan_solve.specs.Reply as says
 use Rattle.plan_solve.specs.Reply.{refusalOf}
 use Rattle.plan.specs.ConditionLaws.{Planned, Ringed, call-refused, call-answered, call-planned, call-ringed}
-
--- A ring contradicts: where the sheet's limits have one, no plan is lawful.
-pub ring-contradicts : (s : Sheet) (ring : List ℕ) → T (isRing s ring) → (x : List ℕ) → T (lawful s x) → ⊥
-unfolding isRing
-ring-contradicts s ring h x l = cycle-infeasible (limit s) (top s) (λ b. pos (countIn 1 b x)) (lawful-feasible s x l (top s)) ring h
 
 module _ (l : WrittenLists) (before : Rooms) (reply : says.Reply) (after : Rooms) (call : Settled (conclusion l before) (givenBy l) before reply after) where
   abbrev pub s : Sheet
