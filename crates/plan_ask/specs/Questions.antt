@@ -91,6 +91,10 @@ questions l rooms = listQuestions l ++ (ask 12 0 rooms ∷ [])
 unfoldable pub refusalBy : WrittenLists → Bool → Verdict
 refusalBy l rooms = firstNo (questions l rooms)
 
+-- that of a call whose rooms have these lengths
+abbrev pub refusalIn : WrittenLists → Lengths → Verdict
+refusalIn l r = refusalBy l (roomsFit (givenBy l) r)
+
 -- that of planning, whose rooms are these
 abbrev pub refusal : WrittenLists → Rooms → Verdict
-refusal l r = refusalBy l (roomsFit (givenBy l) (planLent r))
+refusal l r = refusalIn l (planLent r)

@@ -33,6 +33,9 @@ module _ (l : WrittenLists) (rooms : Bool) where
     refused-settled q n e =
         subst (λ (c : Conclusion). SettledBy planned None c before (says.refused q n) before) (sym (concludes (no q n) e)) (refl, refl)
 
-    pub solved-settled : refusalBy l rooms ≡ allYes → (reply : says.Reply) (after : R)
-        → SettledBy planned None (byPass (passed (givenBy l))) before reply after → SettledBy planned None (conclusionBy l rooms) before reply after
-    solved-settled e reply after = subst (λ (c : Conclusion). SettledBy planned None c before reply after) (sym (concludes allYes e))
+    -- what solving leaves, where the reply is what it told
+    pub solved-settled : refusalBy l rooms ≡ allYes → (reply told : says.Reply) → reply ≡ told → (after : R)
+        → SettledBy planned None (byPass (passed (givenBy l))) before told after → SettledBy planned None (conclusionBy l rooms) before reply after
+    solved-settled e reply told same after h =
+        subst (λ (c : Conclusion). SettledBy planned None c before reply after) (sym (concludes allYes e))
+        (subst (λ (r : says.Reply). SettledBy planned None (byPass (passed (givenBy l))) before r after) (sym same) h)

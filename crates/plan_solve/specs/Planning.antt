@@ -40,12 +40,12 @@ unfoldable pub conclusionBy : WrittenLists → Bool → Conclusion
 conclusionBy l rooms = concluding (refusalBy l rooms) (passed (givenBy l))
 
 -- that of a call whose rooms have these lengths
-abbrev pub conclusionOf : WrittenLists → Lengths → Conclusion
-conclusionOf l r = conclusionBy l (roomsFit (givenBy l) r)
+abbrev pub conclusionIn : WrittenLists → Lengths → Conclusion
+conclusionIn l r = conclusionBy l (roomsFit (givenBy l) r)
 
 -- that of planning, whose rooms are these
 abbrev pub conclusion : WrittenLists → Rooms → Conclusion
-conclusion l r = conclusionOf l (planLent r)
+conclusion l r = conclusionIn l (planLent r)
 
 -- ---- what a call leaves
 
