@@ -123,8 +123,8 @@ pub record RingFits (w : ℕ) (limits : List ℤ) (ring : List Boundary) : Type 
 
 -- ---- how long a page can be
 
--- the longest head, and the longest line of a unit, of a slot, of its range alone and of a step: loader numbers have at most four digits, the number of units and counts at most
--- three, slots at most two; ` (carried)` is as long as ` (slot 48)`
+-- the longest head, and the longest line of a unit, of a slot, of a slot's range alone and of a step: loader numbers have at most four digits, the number of
+-- units and counts at most three, slots at most two; ` (carried)` is as long as ` (slot 48)`
 abbrev pub maxHead : ℕ
 maxHead = 18
 
