@@ -10,7 +10,7 @@ use Rattle.questions.specs.Questions.{Verdict, no, allYes, firstNo}
 use Rattle.read_ask.specs.Reading.{questions, roomsForAll, sheetIn}
 use Rattle.plan_solve.specs.Planning.{passed}
 use Rattle.print_bytes.specs.Writing.{Written, refusedLine}
-use Rattle.pages.specs.SheetPages.{planBytes, ringBytes}
+use Rattle.pages.specs.SheetPages.{planBytes, fitsBytes, ringBytes}
 use Rattle.answer.specs.declared.Query.{Query}
 use Rattle.answer.specs.declared.Query.the-variants.{Plan, Fits}
 
@@ -21,7 +21,7 @@ maxRefusal = 26
 -- the page of a sheet that fits, by what is asked of it: its plan, with its units' loader numbers, or its slots' ranges alone
 abbrev pub pageOf : Query → List ℕ → Sheet → List ℕ
 pageOf Plan ks s = planBytes ks s
-pageOf Fits ks s = planBytes ks s
+pageOf Fits ks s = fitsBytes s
 
 -- the answer by the pass over the sheet's limits: the page of a sheet that fits, or else the page of a ring, which may be any
 abbrev pub ByPass : Query → Passed → List ℕ → Sheet → List ℕ → Type 0

@@ -10,10 +10,11 @@ use Prim.Native.Nat.{ℕ, _≤_}
 use native.Mathlib.Omega.{arith}
 use lib.Dec.{T}
 use lib.ListN.{length, length-map}
-use lib.IntN.{ℤ}
+use Rattle.network.specs.Network.{Weights}
 use Rattle.network.specs.Table.{Passed, finished, stopped, entry}
 use Rattle.sheet.specs.Sheet.{Sheet, WrittenSheet, constraints, loaders, lawful, boundaries, printedPlan}
 use Rattle.sheet.specs.QuestionLaws.{accepted-valid}
+use Rattle.sheet.specs.Solved.{Solved}
 use Rattle.read_ask.specs.Reading.{questions, roomsForAll, sheetIn}
 use Rattle.questions.specs.Questions.{Verdict, no, allYes, firstNo}
 use Rattle.read_ask.specs.AcceptedLaws.{reading-accepts, reading-loaders}
@@ -23,12 +24,12 @@ use Rattle.plan_ask.specs.SolvableLaws.{yes-asked}
 use Rattle.plan_solve.specs.Planning.{passed}
 use Rattle.plan_solve.specs.PlanningLaws.{passed-solved}
 use Rattle.pages.specs.Page.{maxPage}
-use Rattle.pages.specs.PageBounds.{plan-short, none-short}
+use Rattle.pages.specs.PageBounds.{plan-short, fits-short, none-short}
 use Rattle.pages.specs.PageLines.{Said, refused, readLines, answerOn}
 use Rattle.pages.specs.PageLinesLaws.{refused-read, answer-read}
-use Rattle.pages.specs.SheetPages.{planBytes, ringBytes}
-use Rattle.pages.specs.Pages.{PlanPage, NonePage}
-use Rattle.pages.specs.PagesLaws.{plan-page, none-page}
+use Rattle.pages.specs.SheetPages.{planBytes, fitsBytes, ringBytes}
+use Rattle.pages.specs.Pages.{PlanPage, FitsPage, NonePage}
+use Rattle.pages.specs.PagesLaws.{plan-page, fits-page, none-page}
 use Rattle.answer.specs.declared.Query.{Query}
 use Rattle.answer.specs.declared.Query.the-variants.{Plan, Fits}
 use Rattle.answer.specs.Answer.{pageOf, ByPass, ByReading, AnswerTo, Answered}
@@ -48,7 +49,7 @@ planning-accepts input e =
 
 -- ---- no answer is longer than the page that the program lends
 bytes-short : (query : Query) (input bytes : List ℕ) → AnswerTo query input bytes → length bytes ≤ maxPage
-unfolding planBytes ringBytes
+unfolding planBytes fitsBytes ringBytes
 bytes-short query input bytes = by-reading (verdict input) refl
   where
     w : WrittenSheet
@@ -56,7 +57,7 @@ bytes-short query input bytes = by-reading (verdict input) refl
 
     by-query : (q : Query) → verdict input ≡ allYes → length (pageOf q (loaders w) (constraints w)) ≤ maxPage
     by-query Plan e = plan-short (constraints w) (reading-accepts input roomsForAll e) (loaders w) (reading-loaders input roomsForAll e)
-    by-query Fits e = plan-short (constraints w) (reading-accepts input roomsForAll e) (loaders w) (reading-loaders input roomsForAll e)
+    by-query Fits e = fits-short (constraints w) (reading-accepts input roomsForAll e)
 
     by-pass : (p : Passed) → verdict input ≡ allYes → ByPass query p (loaders w) (constraints w) bytes → length bytes ≤ maxPage
     by-pass (finished t) e a = omega (arith, ap length a, by-query query e)
@@ -97,29 +98,27 @@ module _ (query : Query) (input page left : List ℕ) (next : ℕ) (call : Answe
   -- ---- how a text that is not refused is answered: by what was asked of a sheet that fits, or by a ring
   abbrev pub FitPage : Query → Type 0
   FitPage Plan = PlanPage ks s (printedPlan s) lines
-  FitPage Fits = PlanPage ks s (printedPlan s) lines
+  FitPage Fits = FitsPage s lines
 
   data Way : Type 0 where
     fits : FitPage query → Way
     none : (ring : List ℕ) → NonePage s ring lines → Way
 
   module _ (all-yes : verdict input ≡ allYes) where
-    -- the table of a finished pass says what the page is to say
-    fit-page : (t : List ℤ) → passed s ≡ finished t → (q : Query) → readLines (pageOf q ks s) ≡ lines → FitPage q
-    fit-page t f Plan e =
+    fit-page : (D : Weights) → Solved s D → (q : Query) → readLines (pageOf q ks s) ≡ lines → FitPage q
+    fit-page D solved Plan e =
         subst (PlanPage ks s (printedPlan s)) e
-        (plan-page ks s (entry (boundaries s) t) (passed-solved s (accepted-valid s (reading-accepts input roomsForAll all-yes)) t f)
+        (plan-page ks s D solved
         (reading-loaders input roomsForAll all-yes) (length-map (w .units) (λ u. u .loader) ∙ sym (length-map (w .units) (λ u. u .window))))
-    fit-page t f Fits e =
-        subst (PlanPage ks s (printedPlan s)) e
-        (plan-page ks s (entry (boundaries s) t) (passed-solved s (accepted-valid s (reading-accepts input roomsForAll all-yes)) t f)
-        (reading-loaders input roomsForAll all-yes) (length-map (w .units) (λ u. u .loader) ∙ sym (length-map (w .units) (λ u. u .window))))
+    fit-page D solved Fits e = subst (FitsPage s) e (fits-page s D solved)
 
     way : Way
     way = go (passed s) refl (subst (λ v. ByReading query v w (call .bytes)) all-yes (call .answers))
       where
         go : (p : Passed) → passed s ≡ p → ByPass query p ks s (call .bytes) → Way
-        go (finished t) f b = fits (fit-page t f query (ap readLines (sym b) ∙ lines-are))
+        go (finished t) f b =
+            let solved = passed-solved s (accepted-valid s (reading-accepts input roomsForAll all-yes)) t f in
+            fits (fit-page (entry (boundaries s) t) solved query (ap readLines (sym b) ∙ lines-are))
         go stopped f b = none (b .0) (subst (NonePage s (b .0)) (ap readLines (sym (b .2)) ∙ lines-are) (none-page s (b .0) (b .1)))
 
   -- No text is refused by 12, and none by 15: a refusal is by a question that is asked of every text.
@@ -163,7 +162,7 @@ module _ (query : Query) (input page left : List ℕ) (next : ℕ) (call : Answe
       where
         by-query : (k : Query) → FitPage k → ⊥
         by-query Plan p = unlawful (printedPlan s) (p .legal)
-        by-query Fits p = unlawful (printedPlan s) (p .legal)
+        by-query Fits p = unlawful (p .some .0) (p .some .1)
 
         go : Way → (ring : List ℕ) × NonePage s ring lines
         go (fits p) = absurd (by-query query p)
@@ -177,3 +176,10 @@ pub plan-exactly-when-lawful : (input page left : List ℕ) (next : ℕ) → Ans
     ((x : List ℕ) × PlanPage (loaders w) (constraints w) x (answerOn left 0 next)) ↔ ((x : List ℕ) × T (lawful (constraints w) x))
 plan-exactly-when-lawful input page left next call size all-yes =
     (λ p. (p .0, p .1 .legal), λ x. (printedPlan (constraints (sheetIn input)), page-if-lawful Plan input page left next call size all-yes (x .0) (x .1)))
+
+-- Asked only whether it fits, it gets the page that says so exactly then. What that page says, whole, is `FitsPage`: the number of the sheet's units and each
+-- slot's range.
+pub fits-exactly-when-lawful : (input page left : List ℕ) (next : ℕ) → Answered (AnswerTo Fits input) page left next → length page ≡ maxPage
+    → verdict input ≡ allYes → let s = constraints (sheetIn input) in FitsPage s (answerOn left 0 next) ↔ ((x : List ℕ) × T (lawful s x))
+fits-exactly-when-lawful input page left next call size all-yes =
+    (λ p. p .some, λ x. page-if-lawful Fits input page left next call size all-yes (x .0) (x .1))

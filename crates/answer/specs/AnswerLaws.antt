@@ -1,6 +1,5 @@
--- From what reading and printing leave to the answer.
--- Key idea: every room is long enough for a sheet that reading accepts, and the page for every answer, so that reading's first no and the pass over the
--- sheet's limits alone decide.
+-- From what reading leaves to the answer.
+-- Key idea: every list is long enough for a sheet that reading accepts, so that reading's first no decides, or the sheet at the lists' fronts is the text's.
 use mathlib.Core.Path.{_≡_, refl, sym, ap, ap₂, _∙_, subst}
 use mathlib.Core.Logic.{_⊎_, inl, inr, ⊎-elim}
 use mathlib.Core.Bool.{Bool, true, false, _||_}
@@ -8,13 +7,10 @@ use mathlib.Core.List.{List, [], _∷_}
 use Prim.Native.Nat.{ℕ, _+_, _≤_, _<_}
 use native.Mathlib.Omega.{arith}
 use lib.Dec.{T, eqb, eqb→eq}
-use lib.ListN.{length, take, drop, length-append}
-use lib.Seq.{take-at}
-use borrow.Author.Tests.{le-leb}
+use lib.ListN.{length, drop, length-append}
 use Rattle.lists.specs.Lists.{within}
 use Rattle.lists.specs.Members.{within-iff}
-use Rattle.network.specs.Table.{Passed, finished, stopped}
-use Rattle.sheet.specs.Sheet.{Sheet, constraints, loaders, isRing}
+use Rattle.sheet.specs.Sheet.{constraints, loaders}
 use Rattle.sheet.specs.declared.Sheet.{Sheet as Read}
 use Rattle.questions.specs.Questions.{Verdict, no, allYes, firstNo}
 use Rattle.sheet.specs.Sizes.{maxBytes}
@@ -22,25 +18,13 @@ use Rattle.read_ask.specs.Reading.{ListRooms, roomsForAll, refused, read, readi
 use Rattle.read_ask.specs.AcceptedLaws.{reading-accepts, reading-loaders}
 use Rattle.read_ask.specs.RefusalLaws.{asksText, reading-refusals}
 use Rattle.read.specs.Rooms.{sizesOf, leaves, roomsAfter}
-use Rattle.sheet.specs.Lists.{WrittenLists, givenBy}
-use Rattle.plan_ask.specs.Questions.{Rooms as Lent, fitsRooms}
-use Rattle.plan_solve.specs.Planning.{passed, byPass, Settled}
-use Rattle.plan_ask.specs.Asking.{Listed}
-use Rattle.plan_solve.specs.ConclusionLaws.{concludes-solvable}
-use Rattle.plan_solve.specs.Reply as planning
+use Rattle.sheet.specs.Lists.{givenBy}
 use Rattle.forms.specs.Words.{text}
 use Rattle.forms.specs.Forms.{refusedForm}
 use Rattle.forms.specs.DecimalLaws.{line-short}
 use Rattle.print_bytes.specs.Writing.{withBytes, refusedLine}
-use Rattle.pages.specs.Page.{maxPage}
-use Rattle.pages.specs.PageBounds.{plan-short, none-short}
-use Rattle.pages.specs.SheetPages.{planBytes, ringBytes}
-use Rattle.print.specs.Printing.{holds, Asked, Shown, Printing}
-use Rattle.print.specs.OwnLaws.{ownRooms, own-fit}
-use Rattle.print.specs.Reply as says
 use Rattle.answer.specs.declared.Query.{Query}
-use Rattle.answer.specs.declared.Query.the-variants.{Plan}
-use Rattle.answer.specs.Answer.{maxRefusal, ByPass, AnswerToSheet, ByReading, AnswerTo, Answered}
+use Rattle.answer.specs.Answer.{maxRefusal, AnswerToSheet, ByReading, AnswerTo, Answered}
 use Rattle.answer.specs.Fronts.{fronts, Held}
 use Rattle.answer.specs.FrontsLaws.{held, front-loaders, front-sheet}
 
@@ -84,7 +68,8 @@ module _ (input : List ℕ) (m : ListRooms (List ℕ)) (sizes : sizesOf m ≡ ro
     pub refused-answer : (query : Query) → AnswerTo query input (refusedLine number line)
     refused-answer query = subst (λ v. ByReading query v (sheetIn input) (refusedLine number line)) (sym first-no) refl
 
-  module _ (t : Read) (e : read (t .span) (t .units) (t .rules) ≡ reading input (sizesOf m)) (after : ListRooms (List ℕ)) (lists : after ≡ roomsAfter input m) where
+  module _ (t : Read) (e : read (t .span) (t .units) (t .rules) ≡ reading input (sizesOf m))
+      (after : ListRooms (List ℕ)) (lists : after ≡ roomsAfter input m) where
     all-yes : verdict ≡ allYes
     all-yes = go verdict (e ∙ decided)
       where

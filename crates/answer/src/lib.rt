@@ -266,7 +266,7 @@ pub fn answer(query: Query, text: &[u8], page: &mut [u8; MAX_PAGE]) -> usize
     );
     match reading {
         Reading::Refused(refusal) => refuse(page, refusal.number, refusal.line),
-        Reading::Sheet(s) => answer_sheet(
+        Reading::Sheet(s) => answer_fronts(
             query,
             s,
             &loader,

@@ -53,23 +53,24 @@ refuse-requires c κs =
     let r = refused-small (input (refused-call (c .before .before))) empty sizes _ _ (refused-told (c .before .before)) in
     (omega (arith, r .0), omega (arith, r .1))
 
-answer-sheet-requires : tie.Need-answer-sheet-requires
-answer-sheet-requires c κs =
+answer-fronts-requires : tie.Need-answer-fronts-requires
+answer-fronts-requires c κs =
     let d = c .before .before .before .before .before .before .before .before .before in
     read-held (input (sheet-call d)) empty sizes _ (read-told d) _ (sheet-call d .read .ensures .1)
 
 returns : tie.Need-returns
 returns c =
     let d = c .before .before .before in
-    record { bytes = _; answers = refused-answer (input (refused-call d)) empty sizes _ _ (refused-told d) (asked (refused-call d)); written = c .refuse .ensures }
+    let p = refused-call d in
+    record { bytes = _; answers = refused-answer (input p) empty sizes _ _ (refused-told d) (asked p); written = c .refuse .ensures }
 
 returns-2 : tie.Need-returns-2
 returns-2 c =
     let d = c .before .before .before .before .before .before .before .before .before .before in
     read-answered (input (sheet-call d)) empty sizes _ (read-told d) _ (sheet-call d .read .ensures .1)
-    (asked (sheet-call d)) _ _ _ (c .answer-sheet .ensures)
+    (asked (sheet-call d)) _ _ _ (c .answer-fronts .ensures)
 
 pub answer-spec : {M : Type 1} → statement M
 answer-spec = tie.close (tie.spec (λ c. search needs) (λ c. search needs) (λ c. search needs) (λ c. search needs) (λ c. search needs) (λ c. search needs)
     (λ c. search needs) (λ c κs. search needs) (λ c. search needs) refuse-requires (λ c. search needs) (λ c. search needs) (λ c. search needs)
-    (λ c. search needs) (λ c. search needs) (λ c. search needs) (λ c. search needs) (λ c. search needs) answer-sheet-requires returns returns-2)
+    (λ c. search needs) (λ c. search needs) (λ c. search needs) (λ c. search needs) (λ c. search needs) answer-fronts-requires returns returns-2)

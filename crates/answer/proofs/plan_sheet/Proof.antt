@@ -1,99 +1,142 @@
--- The lists and rooms answer every question with yes and the page holds every answer, so what is printed is the answer and nothing refuses it.
-use mathlib.Core.Path.{_≡_, sym, ap}
+-- The sheet is planned in arrays of the call's own; how that ended decides what is written.
+-- Key idea: every need past the call of solve goes back to that call (`where-plan`, `where-ring`), and what planning left there answers it.
+use mathlib.Core.Path.{_≡_, sym, ap, _∙_}
+use mathlib.Core.Bool.{true}
+use mathlib.Core.List.{List}
+use Prim.Native.Nat.{ℕ, _≤_}
 use native.Mathlib.Omega.{arith}
 use denote.Ref.{now}
+use lib.Dec.{T}
+use lib.ListN.{length, take, length-replicate}
 use lib.Seq.{length-take-le}
-use Rattle.read_ask.specs.Reading.{ListRooms, rooms}
-use Prim.Native.Nat.{ℕ}
-use mathlib.Core.List.{List}
-use Rattle.sheet.specs.Lists.{WrittenLists, givenBy}
+use lib.IntN.{ℤ, pos}
+use Rattle.network.specs.Table.{finished, stopped}
+use Rattle.sheet.specs.Sizes.{maxCells, boundariesOf}
+use Rattle.sheet.specs.Sheet.{isRing}
+use Rattle.sheet.specs.Lists.{Lists, listed, given}
+use Rattle.plan_ask.specs.Questions.{Rooms, lent}
+use Rattle.plan_ask.specs.Asking.{Solvable}
+use Rattle.plan_ask.specs.AskingLaws.{span-bound}
+use Rattle.plan_solve.specs.Planning.{passed}
+use Rattle.plan_solve.specs.Reply.{fitReply}
+use Rattle.print.specs.OwnLaws.{ownRooms, own-solvable, cells-few, PlanFronts, plan-own}
 use Rattle.answer.specs.declared.Query.the-variants.{Plan}
-use Rattle.answer.specs.Answer.{AnswerToSheet, Answered}
-use Rattle.print.specs.Reply as says
-use Rattle.answer.specs.Fronts.{fronts}
-use Rattle.answer.specs.AnswerLaws.{print-refused, print-plan, print-none}
+use Rattle.answer.specs.SheetLaws.{own-fillable, plan-none, plan-asks, plan-written, fit-answered, ring-answered}
 use borrow.Author.Needs.{needs}
 use Rattle.answer.proofs.plan_sheet.Statement.{statement}
 use Rattle.answer.proofs.plan_sheet.Tie as tie
 
--- the lists at the call's start
-abbrev lists : tie.Start → ListRooms (List ℕ)
-lists c = let a = c .args in rooms (now (a .loader)) (now (a .first)) (now (a .last)) (now (a .from)) (now (a .to)) (now (a .low)) (now (a .high))
+abbrev start : tie.After-solve → tie.Start
+start c = c .before .before .before .before .before .before .before .before .before .before .before .before .before
 
--- from the first argument of print, and from its return, back to the start
-abbrev start : tie.After-print-arg → tie.Start
-start c = c .before .before .before .before .before .before .before .before
+abbrev listsOf : tie.Start → Lists
+listsOf c =
+    let a = c .args in
+    listed (a .span) (now (a .first)) (now (a .last)) (now (a .from)) (now (a .to)) (now (a .low)) (now (a .high))
 
-abbrev called : tie.After-print → tie.Start
-called c = start (c .before .before .before .before .before .before .before .before .before .before .before .before .before)
+abbrev lists : tie.After-solve → Lists
+lists c = listsOf (start c)
 
--- what the call of print comes to, by its reply
-module _ (c : tie.After-print) where
-  abbrev begun : tie.Start
-  begun = called c
+-- every question that solving rests on is answered yes
+solvable : (c : tie.Start) → Solvable (listsOf c) true
+solvable c = record { lists = c .pre .lists; sheet = c .pre .sheet; rooms = tt }
 
-  abbrev front : WrittenLists
-  front = fronts (begun .args .s) (lists begun)
+-- the call's own arrays after planning
+abbrev after : tie.After-solve → Rooms
+after c =
+    let r = c .solve .last .1 .1 .1 .1 .1 .1 .1 in
+    lent (r .0) (r .1 .0) (r .1 .1 .0) (r .1 .1 .1 .0) (r .1 .1 .1 .1 .0)
 
-  abbrev left : List ℕ
-  left = c .print .last .1 .1 .1 .1 .1 .1 .1 .1 .1 .1 .1 .1 .1 .0
+own-cells : (c : tie.After-solve) → length (after c .table) ≡ maxCells
+own-cells c = c .solve .kept .1 .1 .1 .1 .1 .1 .1 .0 ∙ length-replicate maxCells (pos 0)
 
-  abbrev said : says.Reply
-  said = says.replyOf (c .print .result)
+-- ---- a plan was found
+abbrev where-plan : tie.After-enum-told → tie.After-solve
+where-plan c = c .before .before .before .before .before .before .before .before
 
-  not-refused : (q n : ℕ) → said ≡ says.refused q n → ⊥
-  not-refused =
-      print-refused front (begun .pre .passes) (now (begun .args .page))
-      (omega (arith, c .before .print-arg8 .given .0 .1)) said _ left (c .print .ensures)
+-- the number of boundaries, as the code has it
+abbrev plan-w : tie.After-enum-told → ℕ
+plan-w c = c .before .before .boundaries .result
 
-  plan-is : (next : ℕ) → said ≡ says.plan next → Answered (AnswerToSheet Plan (front .loader) (givenBy front)) (now (begun .args .page)) left next
-  plan-is =
-      print-plan front (begun .pre .passes) (now (begun .args .page))
-      (omega (arith, c .before .print-arg8 .given .0 .1)) said _ left (c .print .ensures)
+plan-w-is : (c : tie.After-enum-told) → plan-w c ≡ boundariesOf (start (where-plan c) .args .span)
+plan-w-is c = c .before .before .boundaries .ensures
 
-  none-is : (k next : ℕ) → said ≡ says.none k next → Answered (AnswerToSheet Plan (front .loader) (givenBy front)) (now (begun .args .page)) left next
-  none-is =
-      print-none front (begun .pre .passes) (now (begun .args .page))
-      (omega (arith, c .before .print-arg8 .given .0 .1)) said _ left (c .print .ensures)
+plan-found : (c : tie.After-enum-told) → let p = where-plan c in
+    let s = given (lists p) in (t : List ℤ) × (passed s ≡ finished t) × PlanFronts s (plan-w c) (length (lists p .first)) t (after p)
+plan-found c =
+    let p = where-plan c in
+    plan-own (lists p) ownRooms (own-solvable (lists p) true (solvable (start p))) (plan-w c) (plan-w-is c) ownRooms (after p) _ (p .solve .ensures)
+    (ap fitReply (c .enum-told .given .1))
 
-slice-aggregate-print : tie.Need-slice-aggregate-print
-slice-aggregate-print c = sym (length-take-le _ _ (start c .pre .in-loader))
+-- ---- none, and a ring
+abbrev where-ring : tie.After-fit → tie.After-solve
+where-ring c = c .before .before .before .before .before .before .before .before
 
-slice-aggregate-print-2 : tie.Need-slice-aggregate-print-2
-slice-aggregate-print-2 c = sym (length-take-le _ _ (start (c .before) .pre .in-first))
+-- the ring's length, as the reply has it
+abbrev steps : tie.After-fit → ℕ
+steps c = c .fit .given .0 .0
 
-slice-aggregate-print-3 : tie.Need-slice-aggregate-print-3
-slice-aggregate-print-3 c = sym (length-take-le _ _ (start (c .before .before) .pre .in-last))
+ring-found : (c : tie.After-fit) → let p = where-ring c in
+    let s = given (lists p) in T (isRing s (take (steps c) (after p .ring))) × (passed s ≡ stopped) × (steps c ≤ length (after p .ring))
+ring-found c =
+    let p = where-ring c in
+    plan-none (lists p) _ (c .before .before .boundaries .ensures) (solvable (start p)) (after p) _ (p .solve .ensures) (steps c) (ap fitReply (c .fit .given .1))
 
-slice-aggregate-print-4 : tie.Need-slice-aggregate-print-4
-slice-aggregate-print-4 c = sym (length-take-le _ _ (start (c .before .before .before) .pre .in-from))
+-- ---- the needs, in order
 
-slice-aggregate-print-5 : tie.Need-slice-aggregate-print-5
-slice-aggregate-print-5 c = sym (length-take-le _ _ (start (c .before .before .before .before) .pre .in-to))
+solve-requires : tie.Need-solve-requires
+solve-requires c κs =
+    let s : tie.Start = c .before .before .before .before .before .before .before .before .before .before .before .before in
+    own-solvable (listsOf s) true (solvable s)
 
-slice-aggregate-print-6 : tie.Need-slice-aggregate-print-6
-slice-aggregate-print-6 c = sym (length-take-le _ _ (start (c .before .before .before .before .before) .pre .in-low))
+boundaries-requires : tie.Need-boundaries-requires
+boundaries-requires c κs = let p = c .before .before .before .before .before in span-bound (lists p) (start p .pre .sheet)
 
-slice-aggregate-print-7 : tie.Need-slice-aggregate-print-7
-slice-aggregate-print-7 c = sym (length-take-le _ _ (start (c .before .before .before .before .before .before) .pre .in-high))
+mul-cells : tie.Need-mul-cells
+mul-cells c =
+    let p = c .before .before .before .before .before .before in
+    omega (arith, cells-few (lists p) ownRooms (own-solvable (lists p) true (solvable (start p))) (c .boundaries .result) (c .boundaries .ensures))
 
-refuse-requires : tie.Need-refuse-requires
-refuse-requires c κs =
-    let told = c .before .before .printed .given in
-    absurd (not-refused (c .before .before .before .before .before .before .before .before .before) _ _ (ap says.replyOf (told .1)))
+put-plan-requires : tie.Need-put-plan-requires
+put-plan-requires c κs =
+    let told : tie.After-enum-told = c .before .before .before .before .before in
+    let p = where-plan told in
+    let y = start p .pre in
+    let f = plan-found told in
+    plan-asks (lists p) (plan-w told) (plan-w-is told) (solvable (start p)) (now (start p .args .loader)) (y .loaders) (y .as-many) (after p)
+    (f .0) (f .1) (f .2) _ (c .before .before .before .before .put-plan-arg .given .0 .1)
+
+put-ring-requires : tie.Need-put-ring-requires
+put-ring-requires c κs =
+    let told : tie.After-fit = c .before .before .before .before in
+    let p = where-ring told in
+    (own-fillable (lists p) _ (told .before .before .boundaries .ensures) (solvable (start p)) (after p .table) (own-cells p), ring-found told .0)
 
 returns : tie.Need-returns
 returns c =
-    let told = c .before .before .before .printed .given in
-    absurd (not-refused (c .before .before .before .before .before .before .before .before .before .before) _ _ (ap says.replyOf (told .1)))
+    let told : tie.After-enum-told = c .before .before .before .before .before .before in
+    let p = where-plan told in
+    let y = start p .pre in
+    let ks = now (start p .args .loader) in
+    let f = plan-found told in
+    fit-answered Plan ks (given (lists p)) _ _ _ (f .0) (f .1)
+    (plan-written (lists p) (plan-w told) (plan-w-is told) (solvable (start p)) ks (y .loaders) (y .as-many) (after p)
+    (f .0) (f .1) (f .2) _ _ _ (c .put-plan .ensures))
 
 returns-2 : tie.Need-returns-2
-returns-2 c = plan-is (c .before .before .before .before .before .before .before .before) _ (ap says.replyOf (c .before .printed2 .given .1))
-
-returns-3 : tie.Need-returns-3
-returns-3 c = none-is (c .before .before .before .before .before .before .before .before) _ _ (ap says.replyOf (c .before .printed3 .given .1))
+returns-2 c =
+    let told : tie.After-fit = c .before .before .before .before .before .before in
+    let f = ring-found told in
+    ring-answered Plan _ (given (lists (where-ring told))) _ _ _ _ (f .0) (f .1) (c .before .put-ring .ensures)
 
 pub plan-sheet-spec : {M : Type 1} → statement M
-plan-sheet-spec = tie.close (tie.spec slice-aggregate-print slice-aggregate-print-2 slice-aggregate-print-3 slice-aggregate-print-4
-    slice-aggregate-print-5 slice-aggregate-print-6 slice-aggregate-print-7 (λ c. search needs) (λ c. search needs) (λ c. search needs) (λ c. search needs)
-    (λ c. search needs) (λ c κs. search needs) (λ c. search needs) refuse-requires (λ c. search needs) (λ c. search needs) returns returns-2 returns-3)
+plan-sheet-spec = tie.close (tie.spec (λ c. search needs) (λ c. search needs) (λ c. search needs) (λ c. search needs) (λ c. search needs)
+    solve-requires boundaries-requires mul-cells (λ c. search needs)
+    (λ c. plan-found (c .before) .2 .seats .long) (λ c. sym (length-take-le _ _ (plan-found (c .before .before) .2 .seats .long)))
+    (λ c. plan-found (c .before .before) .2 .firsts .long) (λ c. sym (length-take-le _ _ (plan-found (c .before .before .before) .2 .firsts .long)))
+    (λ c. plan-found (c .before .before .before) .2 .lasts .long)
+    (λ c. sym (length-take-le _ _ (plan-found (c .before .before .before .before) .2 .lasts .long)))
+    (λ c. plan-found (c .before .before .before .before) .2 .closed .long)
+    (λ c. sym (length-take-le _ _ (plan-found (c .before .before .before .before .before) .2 .closed .long))) put-plan-requires (λ c. search needs)
+    (λ c. search needs) (λ c. ring-found (c .before .before) .2) (λ c. sym (length-take-le _ _ (ring-found (c .before .before .before) .2)))
+    put-ring-requires returns returns-2)

@@ -1,11 +1,9 @@
 -- The words in the code are the queries' own.
 use borrow.Author.Needs.{needs}
-use mathlib.Core.Path.{_≡_, sym, subst}
-use mathlib.Core.Bool.{Bool, true, false}
+use mathlib.Core.Path.{sym, subst}
 use lib.Dec.{T}
 use Rattle.forms.specs.Words.{text}
 use Rattle.answer.specs.declared.Query.the-variants.{Plan, Fits}
-use Rattle.wave_pipe.specs.Words.{wordOf}
 use Rattle.wave_pipe.proofs.words.query_of.Statement.{statement}
 use Rattle.wave_pipe.proofs.words.query_of.Tie as tie
 

@@ -37,5 +37,6 @@ returns-3 : tie.Need-returns-3 Inv-loop μ-loop
 returns-3 c = let l = c .before .loop in (λ _. same-all _ _ (l .i) (omega arith) (l .inv .1) (l .inv .2), λ _. tt)
 
 pub same-spec : {M : Type 1} → statement M
-same-spec = tie.close (tie.spec Inv-loop μ-loop (λ c. (λ h. absurd h, λ e. absurd (c .if1 .taken (ap length e)))) (λ c. (omega arith, c .if1 .left, refl)) (λ c. search needs) (λ c. omega arith) returns-2 (λ c. search needs)
+same-spec = tie.close (tie.spec Inv-loop μ-loop (λ c. (λ h. absurd h, λ e. absurd (c .if1 .taken (ap length e))))
+    (λ c. (omega arith, c .if1 .left, refl)) (λ c. search needs) (λ c. omega arith) returns-2 (λ c. search needs)
     (λ c. search needs) loop-again returns-3)
