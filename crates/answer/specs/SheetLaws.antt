@@ -21,7 +21,7 @@ use Rattle.plan_ask.specs.Questions.{Rooms, lent, DecideRooms, decideRooms, pla
 use Rattle.plan_ask.specs.Asking.{Solvable}
 use Rattle.plan_ask.specs.RoomsLaws.{decide-hold, decision-for-all}
 use Rattle.plan_solve.specs.Planning.{passed, byPass, Settled, DecideSettled}
-use Rattle.plan_solve.specs.SolvingLaws.{decided-fits, decided-none}
+use Rattle.plan_solve.specs.SolvingLaws.{limits-asked, decided-fits, decided-none}
 use Rattle.plan_solve.specs.Reply as says
 use Rattle.print_bytes.specs.Writing.{Room, Written}
 use Rattle.pages.specs.Page.{maxPage, Printable, tablePage, fitsPage, leastFrom, greatestFrom, RingFits, nonePage}
@@ -34,9 +34,9 @@ use Rattle.answer.specs.Answer.{pageOf, ByPass, AnswerToSheet, Answered}
 
 -- ---- how the pass ended decides what answers the query
 module _ (query : Query) (ks : List ℕ) (s : Sheet) (page left : List ℕ) (next : ℕ) where
-  pub fit-answered : (t : List ℤ) → passed s ≡ finished t → Written page 0 (pageOf query ks s) left next → Answered (AnswerToSheet query ks s) page left next
-  fit-answered t halts w =
-      record { bytes = pageOf query ks s; answers = subst (λ p. ByPass query p ks s (pageOf query ks s)) (sym halts) refl; written = w }
+  pub fit-answered : (t : List ℤ) → passed s ≡ finished t → (bytes : List ℕ) → bytes ≡ pageOf query ks s → Written page 0 bytes left next
+      → Answered (AnswerToSheet query ks s) page left next
+  fit-answered t halts bytes e w = record { bytes = bytes; answers = subst (λ p. ByPass query p ks s bytes) (sym halts) e; written = w }
 
   pub ring-answered : (ring : List ℕ) → T (isRing s ring) → passed s ≡ stopped → Written page 0 (ringBytes s ring) left next
       → Answered (AnswerToSheet query ks s) page left next
@@ -56,8 +56,8 @@ module _ (l : Lists) (w : ℕ) (w-is : w ≡ boundariesOf (l .span)) where
   -- ---- a ring, and the limits filled into a room
   module _ (room : List ℤ) (fill : Fillable (l .span) (l .first) (l .last) (l .from) (l .to) (l .low) (l .high) (length room))
       (ring : List ℕ) (h : T (isRing s ring)) (filled : List ℤ) (e : filled ≡ limitTable s room) where
-    ring-page : nonePage (entry w filled) ring ≡ ringBytes s ring
-    ring-page = rw (e, w-of) (ring-bytes s (fill .ok) ring h room (fill .fits))
+    ring-is : nonePage (entry w filled) ring ≡ ringBytes s ring
+    ring-is = rw (e, w-of) (ring-bytes s (fill .ok) ring h room (fill .fits))
 
     pub ring-asked : (page : List ℕ) → length page ≡ maxPage → RingFits w filled ring × Room page 0 (nonePage (entry w filled) ring)
     ring-asked page long = (
@@ -66,7 +66,7 @@ module _ (l : Lists) (w : ℕ) (w-is : w ≡ boundariesOf (l .span)) where
     )
 
     pub ring-written : (page left : List ℕ) (next : ℕ) → Written page 0 (nonePage (entry w filled) ring) left next → Written page 0 (ringBytes s ring) left next
-    ring-written page left next = subst (λ b. Written page 0 b left next) ring-page
+    ring-written page left next = subst (λ b. Written page 0 b left next) ring-is
 
   -- ---- planning or deciding a sheet that is accepted, in arrays of the call's own
   module _ (S : Solvable l true) where
@@ -78,11 +78,7 @@ module _ (l : Lists) (w : ℕ) (w-is : w ≡ boundariesOf (l .span)) where
 
     pub own-fillable : (room : List ℤ) → length room ≡ maxCells
         → Fillable (l .span) (l .first) (l .last) (l .from) (l .to) (l .low) (l .high) (length room)
-    own-fillable room long = record {
-      agree = S .lists;
-      ok = S .sheet;
-      fits = omega (arith, long, decide-hold s maxCells maxBoundaries (decision-for-all s (S .sheet)) .0);
-    }
+    own-fillable room long = limits-asked l true S room (omega (arith, long, decide-hold s maxCells maxBoundaries (decision-for-all s (S .sheet)) .0))
 
     -- a ring that is the front of a room
     abbrev RingFront : ℕ → List ℕ → Type 0
@@ -116,13 +112,9 @@ module _ (l : Lists) (w : ℕ) (w-is : w ≡ boundariesOf (l .span)) where
           let a = plan-asked l ownRooms plans w w-is ks fit long after t halts f in
           (a .0, record { fits = omega (arith, a .1 .1) })
 
-      plan-page : tablePage (l .span) ks seated early late planTable ≡ planBytes ks s
+      pub plan-is : tablePage (l .span) ks seated early late planTable ≡ planBytes ks s
       unfolding sheetOf
-      plan-page = rw (f .closed .part, f .seats .part, f .firsts .part, f .lasts .part) (plan-bytes s (S .sheet) t halts ks)
-
-      pub plan-written : (page left : List ℕ) (next : ℕ) → Written page 0 (tablePage (l .span) ks seated early late planTable) left next
-          → Written page 0 (planBytes ks s) left next
-      plan-written page left next = subst (λ b. Written page 0 b left next) plan-page
+      plan-is = rw (f .closed .part, f .seats .part, f .firsts .part, f .lasts .part) (plan-bytes s (S .sheet) t halts ks)
 
     -- ---- deciding: none
     abbrev own : DecideRooms
@@ -155,9 +147,9 @@ module _ (l : Lists) (w : ℕ) (w-is : w ≡ boundariesOf (l .span)) where
       abbrev rangesPage : List ℕ
       rangesPage = fitsPage (l .span) (length (l .first)) (leastFrom (boundariesOf (l .span)) closed) (greatestFrom (boundariesOf (l .span)) closed)
 
-      ranges-page : rangesPage ≡ fitsBytes s
+      pub fits-is : rangesPage ≡ fitsBytes s
       unfolding sheetOf
-      ranges-page = rw (f .part, sym units) (fits-bytes s (S .sheet) t halts)
+      fits-is = rw (f .part, sym units) (fits-bytes s (S .sheet) t halts)
 
       short : length (fitsBytes s) ≤ maxPage
       unfolding fitsBytes
@@ -170,8 +162,5 @@ module _ (l : Lists) (w : ℕ) (w-is : w ≡ boundariesOf (l .span)) where
           let sized = accepted-sized s (S .sheet) in
           let cells = length-take-le (w * w) table (f .long) in (
             (sized .slots .1, omega (arith, sized .units, units), subst (λ k. k * k ≤ length closed) w-is (omega (arith, cells))),
-            record { fits = omega (arith, ap length ranges-page, short) },
+            record { fits = omega (arith, ap length fits-is, short) },
           )
-
-      pub fits-written : (page left : List ℕ) (next : ℕ) → Written page 0 rangesPage left next → Written page 0 (fitsBytes s) left next
-      fits-written page left next = subst (λ b. Written page 0 b left next) ranges-page

@@ -19,7 +19,7 @@ use Rattle.plan_solve.specs.Planning.{passed}
 use Rattle.plan_solve.specs.Reply.{fitReply}
 use Rattle.print.specs.OwnLaws.{ownRooms, own-solvable, cells-few, Front}
 use Rattle.answer.specs.declared.Query.the-variants.{Fits}
-use Rattle.answer.specs.SheetLaws.{own-decides, own-fillable, decide-fits, decide-none, fits-asks, fits-written, fit-answered, ring-answered}
+use Rattle.answer.specs.SheetLaws.{own-decides, own-fillable, decide-fits, decide-none, fits-asks, fits-is, fit-answered, ring-answered}
 use borrow.Author.Needs.{needs}
 use Rattle.answer.proofs.fits_sheet.Statement.{statement}
 use Rattle.answer.proofs.fits_sheet.Tie as tie
@@ -109,8 +109,8 @@ returns c ks =
     let told : tie.After-enum-told = c .before .before .before in
     let p = where-fits told in
     let f = fits-found told in
-    fit-answered Fits ks (given (lists p)) _ _ _ (f .0) (f .1)
-    (fits-written (lists p) (fits-w told) (fits-w-is told) (start p .pre) (table p) (f .0) (f .1) (f .2) _ _ _ (c .put-fits .ensures))
+    fit-answered Fits ks (given (lists p)) _ _ _ (f .0) (f .1) _
+    (fits-is (lists p) (fits-w told) (fits-w-is told) (start p .pre) (table p) (f .0) (f .1) (f .2)) (c .put-fits .ensures)
 
 returns-2 : tie.Need-returns-2
 returns-2 c ks =

@@ -21,7 +21,7 @@ use Rattle.plan_solve.specs.Planning.{passed}
 use Rattle.plan_solve.specs.Reply.{fitReply}
 use Rattle.print.specs.OwnLaws.{ownRooms, own-solvable, cells-few, PlanFronts, plan-own}
 use Rattle.answer.specs.declared.Query.the-variants.{Plan}
-use Rattle.answer.specs.SheetLaws.{own-fillable, plan-none, plan-asks, plan-written, fit-answered, ring-answered}
+use Rattle.answer.specs.SheetLaws.{own-fillable, plan-none, plan-asks, plan-is, fit-answered, ring-answered}
 use borrow.Author.Needs.{needs}
 use Rattle.answer.proofs.plan_sheet.Statement.{statement}
 use Rattle.answer.proofs.plan_sheet.Tie as tie
@@ -119,9 +119,8 @@ returns c =
     let y = start p .pre in
     let ks = now (start p .args .loader) in
     let f = plan-found told in
-    fit-answered Plan ks (given (lists p)) _ _ _ (f .0) (f .1)
-    (plan-written (lists p) (plan-w told) (plan-w-is told) (solvable (start p)) ks (y .loaders) (y .as-many) (after p)
-    (f .0) (f .1) (f .2) _ _ _ (c .put-plan .ensures))
+    fit-answered Plan ks (given (lists p)) _ _ _ (f .0) (f .1) _
+    (plan-is (lists p) (plan-w told) (plan-w-is told) (solvable (start p)) ks (y .loaders) (y .as-many) (after p) (f .0) (f .1) (f .2)) (c .put-plan .ensures)
 
 returns-2 : tie.Need-returns-2
 returns-2 c =
