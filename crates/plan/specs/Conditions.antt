@@ -54,7 +54,8 @@ module _ (l : WrittenLists) (before : Rooms) (reply : says.Reply) (after : Rooms
   -- else it says none, and a ring of the sheet's own limits stands at the front of its room.
   pub ring-at : (k : ℕ) → reply ≡ says.none k → T (isRing s (take k (after .ring)))
   ring-at k f =
-      all.ring-at s (ringed s) (λ r. r .ring) (λ c r. refl) before reply after (laws.call-unplanned (planned s) None l rooms before reply after call said k f .left) k f
+      all.ring-at s (ringed s) (λ r. r .ring) (λ c r. refl) before reply after
+      (laws.call-unplanned (planned s) None l rooms before reply after call said k f .left) k f
 
   pub ring-otherwise : refusal l before ≡ allYes → ((x : List ℕ) → T (lawful s x) → ⊥)
       → (k : ℕ) × (reply ≡ says.none k) × T (isRing s (take k (after .ring)))

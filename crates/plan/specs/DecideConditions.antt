@@ -23,7 +23,8 @@ use Rattle.plan.specs.ConditionLaws as laws
 use Rattle.plan.specs.ConditionLaws.{Planned}
 use Rattle.plan.specs.SharedConditions as all
 
-module _ (l : WrittenLists) (before : DecideRooms) (reply : says.Reply) (after : DecideRooms) (call : DecideSettled (conclusionIn l (decideLent before)) (givenBy l) before reply after) where
+module _ (l : WrittenLists) (before : DecideRooms) (reply : says.Reply) (after : DecideRooms)
+    (call : DecideSettled (conclusionIn l (decideLent before)) (givenBy l) before reply after) where
   abbrev pub s : Sheet
   s = givenBy l
 
@@ -54,7 +55,8 @@ module _ (l : WrittenLists) (before : DecideRooms) (reply : says.Reply) (after :
   -- else it says none, and a ring of the sheet's own limits stands at the front of its room.
   pub ring-at : (k : ℕ) → reply ≡ says.none k → T (isRing s (take k (after .ring)))
   ring-at k f =
-      all.ring-at s (contradicted s) (λ r. r .ring) (λ c r. refl) before reply after (laws.call-unplanned (decided s) None l rooms before reply after call said k f .left) k f
+      all.ring-at s (contradicted s) (λ r. r .ring) (λ c r. refl) before reply after
+      (laws.call-unplanned (decided s) None l rooms before reply after call said k f .left) k f
 
   pub ring-otherwise : refusalIn l (decideLent before) ≡ allYes → ((x : List ℕ) → T (lawful s x) → ⊥)
       → (k : ℕ) × (reply ≡ says.none k) × T (isRing s (take k (after .ring)))

@@ -5,7 +5,6 @@ use mathlib.Core.Path.{_≡_, sym, ap, _∙_}
 use mathlib.Core.Logic.{_↔_}
 use mathlib.Core.List.{List}
 use Prim.Native.Nat.{ℕ}
-use native.Mathlib.Omega.{arith}
 use lib.ListN.{length, take}
 use lib.IntN.{ℤ}
 use Rattle.network.specs.Table.{Passed, finished, entry}
@@ -13,7 +12,7 @@ use Rattle.questions.specs.Questions.{allYes}
 use Rattle.sheet.specs.Sheet.{Sheet, boundaries}
 use Rattle.sheet.specs.Lists.{WrittenLists, givenBy}
 use Rattle.plan_ask.specs.Questions.{Rooms, DecideRooms, SeatRooms, decideLent, seatLent, places, refusal, refusalIn}
-use Rattle.plan_solve.specs.Planning.{conclusion, conclusionIn, Settled, DecideSettled, SeatSettled, planned, decided, seated}
+use Rattle.plan_solve.specs.Planning.{conclusion, conclusionIn, Settled, DecideSettled, SeatSettled, planned, seated}
 use Rattle.plan_solve.specs.Reply as says
 use Rattle.plan.specs.ConditionLaws.{Planned}
 use Rattle.plan.specs.SharedConditions as all
@@ -25,8 +24,8 @@ same-table : (p : Passed) (t u : List ℤ) → p ≡ finished t → p ≡ finish
 same-table p t u e f = cc
 
 module _ (l : WrittenLists)
-    (before : Rooms) (reply : says.Reply) (after : Rooms) (call : Settled (conclusion l before) (givenBy l) before reply after) (asked : refusal l before ≡ allYes)
-    where
+    (before : Rooms) (reply : says.Reply) (after : Rooms) (call : Settled (conclusion l before) (givenBy l) before reply after)
+    (asked : refusal l before ≡ allYes) where
   abbrev pub s : Sheet
   s = givenBy l
 

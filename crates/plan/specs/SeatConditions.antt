@@ -23,7 +23,8 @@ use Rattle.plan.specs.ConditionLaws as laws
 use Rattle.plan.specs.ConditionLaws.{Planned}
 use Rattle.plan.specs.SharedConditions as all
 
-module _ (l : WrittenLists) (before : SeatRooms) (reply : says.Reply) (after : SeatRooms) (call : SeatSettled (conclusionIn l (seatLent before)) (givenBy l) before reply after) where
+module _ (l : WrittenLists) (before : SeatRooms) (reply : says.Reply) (after : SeatRooms)
+    (call : SeatSettled (conclusionIn l (seatLent before)) (givenBy l) before reply after) where
   abbrev pub s : Sheet
   s = givenBy l
 

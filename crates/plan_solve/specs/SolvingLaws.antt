@@ -121,7 +121,8 @@ module _ (l : Lists) (fit : Bool) (S : Solvable l fit) (room : List ℤ) (big : 
       pub none-seated : (plan earliest latest : List ℕ)
           → SeatSettled (byPass (passed s)) s (seatRooms room plan earliest latest) (says.none 0) (seatRooms table plan earliest latest)
       none-seated plan earliest latest =
-          subst (λ (p : Passed). SeatSettled (byPass p) s (seatRooms room plan earliest latest) (says.none 0) (seatRooms table plan earliest latest)) (sym halted)
+          subst (λ (p : Passed). SeatSettled (byPass p) s (seatRooms room plan earliest latest) (says.none 0) (seatRooms table plan earliest latest))
+          (sym halted)
           (refl, ap (λ (x : List ℤ). seatRooms x plan earliest latest) table-cleared)
 
     module _ (e : r ≡ Finished) where

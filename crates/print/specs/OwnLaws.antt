@@ -1,22 +1,20 @@
 -- Planning in arrays of the call's own, part by part: what each function of the call is asked, and what the call leaves.
 -- Key idea: the arrays hold every accepted sheet, and the front of each is exactly what the sheet's definitions name.
 use mathlib.Core.Path.{_≡_, sym, ap, _∙_, subst}
-use mathlib.Core.Bool.{Bool, _&&_}
+use mathlib.Core.Bool.{Bool}
 use mathlib.Core.List.{List, [], _++_}
 use Prim.Native.Nat.{ℕ, _+_, _*_, _≤_}
 use native.Mathlib.Omega.{arith}
 use native.Mathlib.Nat.{mul-le-mul}
-use lib.Dec.{T, leb, le→leb}
+use lib.Dec.{T}
 use lib.ListN.{length, take, drop, replicate, length-append, length-take}
 use lib.Seq.{take-at}
 use lib.IntN.{ℤ, pos}
-use Rattle.lists.specs.Members.{both}
 use Rattle.network.specs.Table.{finished, stopped, cleared, entry, maxBoundaries}
 use Rattle.sheet.specs.Sizes.{maxUnits, maxCells, boundariesOf}
-use Rattle.sheet.specs.Sheet.{Sheet, top, boundaries, printedPlan, earliestSlots, latestSlots, isRing}
+use Rattle.sheet.specs.Sheet.{Sheet, boundaries, printedPlan, earliestSlots, latestSlots, isRing}
 use Rattle.limits.specs.LimitTable.{limitTable, Fillable}
-use Rattle.sheet.specs.Questions.{accepted, sheetOf, loadersFit}
-use Rattle.sheet.specs.QuestionLaws.{accepted-sized}
+use Rattle.sheet.specs.Questions.{sheetOf, loadersFit}
 use Rattle.sheet.specs.Lists.{Lists, given}
 use Rattle.plan_ask.specs.Questions.{Rooms, lent, seatLengths, planLent, places, roomsFit}
 use Rattle.plan_solve.specs.Planning.{passed, byPass, Settled}

@@ -74,7 +74,8 @@ ring-found : (c : tie.After-fit) → let p = where-ring c in
     T (isRing (given (lists p)) (take (steps c) (ring p))) × (passed (given (lists p)) ≡ stopped) × (steps c ≤ length (ring p))
 ring-found c =
     let p = where-ring c in
-    decide-none (lists p) _ (c .before .before .boundaries .ensures) (start p .pre) (table p) (ring p) _ (p .decide .ensures) (steps c) (ap fitReply (c .fit .given .1))
+    decide-none (lists p) _ (c .before .before .boundaries .ensures) (start p .pre) (table p) (ring p) _ (p .decide .ensures)
+    (steps c) (ap fitReply (c .fit .given .1))
 
 -- ---- the needs, in order
 

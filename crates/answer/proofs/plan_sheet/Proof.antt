@@ -80,7 +80,8 @@ ring-found : (c : tie.After-fit) → let p = where-ring c in
     let s = given (lists p) in T (isRing s (take (steps c) (after p .ring))) × (passed s ≡ stopped) × (steps c ≤ length (after p .ring))
 ring-found c =
     let p = where-ring c in
-    plan-none (lists p) _ (c .before .before .boundaries .ensures) (solvable (start p)) (after p) _ (p .solve .ensures) (steps c) (ap fitReply (c .fit .given .1))
+    plan-none (lists p) _ (c .before .before .boundaries .ensures) (solvable (start p)) (after p) _ (p .solve .ensures)
+    (steps c) (ap fitReply (c .fit .given .1))
 
 -- ---- the needs, in order
 

@@ -3,7 +3,7 @@ use borrow.Author.Needs.{needs}
 use mathlib.Core.Path.{_≡_, ap}
 use Rattle.questions.specs.Questions.{Verdict, allYes, verdictOf}
 use Rattle.sheet.specs.Lists.{WrittenLists, writtenLists, givenBy}
-use Rattle.plan_ask.specs.Questions.{SeatRooms, seatRooms, seatLent, roomsFit, refusalIn}
+use Rattle.plan_ask.specs.Questions.{SeatRooms, seatRooms, seatLent, refusalIn}
 use Rattle.plan_ask.specs.SolvableLaws.{asked-yes, asked-of}
 use Rattle.plan_solve.specs.Planning.{seated, SeatNone}
 use Rattle.plan_solve.specs.ConclusionLaws.{refused-settled, solved-settled}
@@ -42,7 +42,8 @@ returns c =
     let d : tie.After-ask = c .before .before .before in
     let f = c .before .asked .given in
     let l = lists (start d) in
-    refused-settled l _ (seated (givenBy l)) (SeatNone (givenBy l)) (before (start d)) (f .0 .0 .number) (f .0 .0 .line) (verdict d _ (ap verdictOf (f .1)))
+    refused-settled l _ (seated (givenBy l)) (SeatNone (givenBy l)) (before (start d))
+    (f .0 .0 .number) (f .0 .0 .line) (verdict d _ (ap verdictOf (f .1)))
 
 returns-2 : tie.Need-returns-2
 returns-2 c =

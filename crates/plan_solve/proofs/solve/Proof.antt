@@ -37,7 +37,7 @@ ring c = c .args .ring .now
 abbrev seats : tie.Start → Seats
 seats c = seatLengths (c .args .plan .now) (c .args .earliest .now) (c .args .latest .now)
 
-holds : (c : tie.Start) → (places (given (lists c)) ≤ length (room c)) × SeatsHold (given (lists c)) (seats c) × (boundaries (given (lists c)) ≤ length (ring c))
+holds : (c : tie.Start) → let s = given (lists c) in (places s ≤ length (room c)) × SeatsHold s (seats c) × (boundaries s ≤ length (ring c))
 holds c = plan-holds (given (lists c)) (length (room c)) (seats c) (length (ring c)) (c .pre .rooms)
 
 abbrev table : tie.After-decide → List ℤ
