@@ -54,8 +54,8 @@ fn small_sheets_against_all_plans() {
         hold(&mut tally, &Lists::from(&sheet), &roomy(&mut r, &sheet), solved.as_ref());
     }
     tally.report();
-    for answer in [PLAN, CARRIES, NONE] {
-        assert!(10 * tally.count(answer) > tally.all(), "too few {answer}");
+    for (answer, share) in [(PLAN, 4), (NONE, 4), (CARRIES, 10)] {
+        assert!(share * tally.count(answer) > tally.all(), "too few {answer}");
     }
 }
 
