@@ -10,7 +10,7 @@ use Rattle.questions.specs.Questions.{Verdict, no, allYes, firstNo}
 use Rattle.read_ask.specs.Reading.{questions, roomsForAll, sheetIn}
 use Rattle.plan_solve.specs.Planning.{passed}
 use Rattle.print_bytes.specs.Writing.{Written, refusedLine}
-use Rattle.print.specs.Printing.{planBytes, ringBytes}
+use Rattle.pages.specs.SheetPages.{planBytes, ringBytes}
 
 -- the longest line of a refusal: its question has at most two digits and its line number at most five
 abbrev pub maxRefusal : ℕ

@@ -21,13 +21,13 @@ use Rattle.plan_ask.specs.Questions.{refusalBy}
 use Rattle.plan_ask.specs.SolvableLaws.{yes-asked}
 use Rattle.plan_solve.specs.Planning.{passed}
 use Rattle.plan_solve.specs.PlanningLaws.{passed-solved}
-use Rattle.print_page.specs.Page.{maxPage}
-use Rattle.print_page.specs.PageBounds.{plan-short, none-short}
-use Rattle.print_page.specs.PageLines.{Said, refused, readLines, answerOn}
-use Rattle.print_page.specs.PageLinesLaws.{refused-read, answer-read}
-use Rattle.print.specs.Printing.{planBytes, ringBytes}
-use Rattle.print.specs.Pages.{PlanPage, NonePage}
-use Rattle.print.specs.PagesLaws.{plan-page, none-page}
+use Rattle.pages.specs.Page.{maxPage}
+use Rattle.pages.specs.PageBounds.{plan-short, none-short}
+use Rattle.pages.specs.PageLines.{Said, refused, readLines, answerOn}
+use Rattle.pages.specs.PageLinesLaws.{refused-read, answer-read}
+use Rattle.pages.specs.SheetPages.{planBytes, ringBytes}
+use Rattle.pages.specs.Pages.{PlanPage, NonePage}
+use Rattle.pages.specs.PagesLaws.{plan-page, none-page}
 use Rattle.answer.specs.Answer.{ByPass, ByReading, AnswerTo, Answered}
 use Rattle.answer.specs.FrontsLaws.{listsOf, passes-back}
 use Rattle.answer.specs.AnswerLaws.{refused-short, two-digits}

@@ -32,9 +32,10 @@ use Rattle.forms.specs.Words.{text}
 use Rattle.forms.specs.Forms.{refusedForm}
 use Rattle.forms.specs.DecimalLaws.{line-short}
 use Rattle.print_bytes.specs.Writing.{withBytes, refusedLine}
-use Rattle.print_page.specs.Page.{maxPage}
-use Rattle.print_page.specs.PageBounds.{plan-short, none-short}
-use Rattle.print.specs.Printing.{planBytes, ringBytes, holds, Asked, Shown, Printing}
+use Rattle.pages.specs.Page.{maxPage}
+use Rattle.pages.specs.PageBounds.{plan-short, none-short}
+use Rattle.pages.specs.SheetPages.{planBytes, ringBytes}
+use Rattle.print.specs.Printing.{holds, Asked, Shown, Printing}
 use Rattle.print.specs.OwnLaws.{ownRooms, own-fit}
 use Rattle.print.specs.Reply as says
 use Rattle.answer.specs.Answer.{maxRefusal, ByPass, AnswerToSheet, ByReading, AnswerTo, Answered}

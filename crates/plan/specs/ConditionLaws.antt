@@ -1,8 +1,9 @@
--- What a call's conclusion says of its reply and its rooms, ready to be read as the user's conditions.
+-- What a call's conclusion says of its reply and its rooms, ready to be read as the user's conditions, whatever rooms the call has.
 -- Key idea: the pass over the limits either finishes, and the table it leaves is solved, or stops, and no plan is lawful.
 -- There is no third way.
 use mathlib.Core.Path.{_≡_, refl, ap, subst}
 use mathlib.Core.Logic.{_⊎_, inl, inr, ⊎-elim}
+use mathlib.Core.Bool.{Bool}
 use mathlib.Core.List.{List}
 use Prim.Native.Nat.{ℕ}
 use native.Mathlib.Omega.{arith}
@@ -11,72 +12,75 @@ use lib.ListN.{length}
 use lib.IntN.{ℤ}
 use Rattle.network.specs.Table.{Passed, finished, stopped, entry}
 use Rattle.questions.specs.Questions.{Verdict, no, allYes}
-use Rattle.sheet.specs.Sheet.{Sheet, boundaries, lawful, isRing}
+use Rattle.sheet.specs.Sheet.{Sheet, boundaries, lawful}
 use Rattle.sheet.specs.Solved.{Solved}
 use Rattle.sheet.specs.QuestionLaws.{accepted-valid}
 use Rattle.sheet.specs.Lists.{WrittenLists, givenBy}
-use Rattle.plan_ask.specs.Questions.{Rooms, places, fitsRooms, refusal}
+use Rattle.plan_ask.specs.Questions.{places, refusalBy}
 use Rattle.plan_ask.specs.SolvableLaws.{asked-yes}
-use Rattle.plan_solve.specs.Planning.{passed, planned, ringed, byPass, conclusion, Settled}
+use Rattle.plan_solve.specs.Planning.{passed, byPass, conclusionBy, SettledBy}
 use Rattle.plan_solve.specs.ConclusionLaws.{by-verdict}
 use Rattle.plan_solve.specs.PlanningLaws.{passed-size, passed-solved, stopped-unlawful}
 use Rattle.plan_solve.specs.Reply as says
 use Rattle.plan_solve.specs.Reply.{refusalOf}
 
--- the call left a plan
-pub record Planned (s : Sheet) (before : Rooms) (reply : says.Reply) (after : Rooms) : Type 0 where
+-- the call found a plan: the finished table is solved, and the rooms are left by it
+pub record Planned {R : Type 0} (planned : List ℤ → R → R) (s : Sheet) (before : R) (reply : says.Reply) (after : R) : Type 0 where
   pub table : List ℤ
+  pub finished : passed s ≡ finished table
   pub size : length table ≡ places s
   pub solved : Solved s (entry (boundaries s) table)
   pub is : reply ≡ says.plan
-  pub left : after ≡ planned s table before
+  pub left : after ≡ planned table before
 
--- the call left a ring
-pub record Ringed (s : Sheet) (before : Rooms) (reply : says.Reply) (after : Rooms) : Type 0 where
+-- it found none
+pub record Unplanned {R : Type 0} (None : R → says.Reply → R → Type 0) (s : Sheet) (before : R) (reply : says.Reply) (after : R) : Type 0 where
   pub unlawful : (x : List ℕ) → T (lawful s x) → ⊥
-  pub ring : List ℕ
-  pub closed : T (isRing s ring)
-  pub is : reply ≡ says.none (length ring)
-  pub left : after ≡ ringed s ring before
+  pub left : None before reply after
 
-module _ (l : WrittenLists) (before : Rooms) (reply : says.Reply) (after : Rooms) (call : Settled (conclusion l before) (givenBy l) before reply after) where
+module _ {R : Type 0} (planned : List ℤ → R → R) (None : R → says.Reply → R → Type 0) (l : WrittenLists) (rooms : Bool)
+    (before : R) (reply : says.Reply) (after : R) (call : SettledBy planned None (conclusionBy l rooms) before reply after) where
+  abbrev s : Sheet
+  s = givenBy l
+
   -- ---- refused
-  pub call-refused : (q n : ℕ) → refusal l before ≡ no q n → (reply ≡ says.refused q n) × (after ≡ before)
-  call-refused q n e = by-verdict l before (no q n) e reply after call
+  pub call-refused : (q n : ℕ) → refusalBy l rooms ≡ no q n → (reply ≡ says.refused q n) × (after ≡ before)
+  call-refused q n e = by-verdict l rooms planned None before (no q n) e reply after call
 
   -- ---- not refused
-  module _ (asked : refusal l before ≡ allYes) where
-    left-by : (p : Passed) → passed (givenBy l) ≡ p → Settled (byPass p) (givenBy l) before reply after
-    left-by p e = subst (λ (x : Passed). Settled (byPass x) (givenBy l) before reply after) e (by-verdict l before allYes asked reply after call)
+  module _ (asked : refusalBy l rooms ≡ allYes) where
+    left-by : (p : Passed) → passed s ≡ p → SettledBy planned None (byPass p) before reply after
+    left-by p e =
+        subst (λ (x : Passed). SettledBy planned None (byPass x) before reply after) e (by-verdict l rooms planned None before allYes asked reply after call)
 
-    by-pass : (p : Passed) → passed (givenBy l) ≡ p → Planned (givenBy l) before reply after ⊎ Ringed (givenBy l) before reply after
+    by-pass : (p : Passed) → passed s ≡ p → Planned planned s before reply after ⊎ Unplanned None s before reply after
     by-pass (finished t) e =
         let q = left-by (finished t) e in
-        let ok = accepted-valid (givenBy l) (asked-yes l (fitsRooms (givenBy l) before) asked .sheet) in
-        inl (record { table = t; size = passed-size (givenBy l) t e; solved = passed-solved (givenBy l) ok t e; is = q .0; left = q .1 })
-    by-pass stopped e =
-        let q = left-by stopped e in
-        inr (record { unlawful = stopped-unlawful (givenBy l) e; ring = q .0; closed = q .1; is = q .2; left = q .3 })
+        let ok = accepted-valid s (asked-yes l rooms asked .sheet) in
+        inl (record { table = t; finished = e; size = passed-size s t e; solved = passed-solved s ok t e; is = q .0; left = q .1 })
+    by-pass stopped e = inr (record { unlawful = stopped-unlawful s e; left = left-by stopped e })
 
-    pub call-answered : Planned (givenBy l) before reply after ⊎ Ringed (givenBy l) before reply after
-    call-answered = by-pass (passed (givenBy l)) refl
+    pub call-answered : Planned planned s before reply after ⊎ Unplanned None s before reply after
+    call-answered = by-pass (passed s) refl
 
   -- ---- the reply is a plan, or none
-  not-refused : refusalOf reply ≡ allYes → refusal l before ≡ allYes
-  not-refused f = go (refusal l before) refl
+  not-refused : refusalOf reply ≡ allYes → refusalBy l rooms ≡ allYes
+  not-refused f = go (refusalBy l rooms) refl
     where
-      go : (v : Verdict) → refusal l before ≡ v → refusal l before ≡ allYes
+      go : (v : Verdict) → refusalBy l rooms ≡ v → refusalBy l rooms ≡ allYes
       go (no q n) e = let r = ap refusalOf (call-refused q n e .0) in let z : _≡_ {A = ℕ} 0 1 = cc in absurd (omega arith)
       go allYes e = e
 
-  pub call-planned : reply ≡ says.plan → Planned (givenBy l) before reply after
-  call-planned f =
-      ⊎-elim (λ (p : Planned (givenBy l) before reply after). p)
-      (λ (r : Ringed (givenBy l) before reply after). let e = r .is in let z : _≡_ {A = ℕ} 0 1 = cc in absurd (omega arith))
-      (call-answered (not-refused (ap refusalOf f)))
+  -- none has a reply of its own
+  module _ (said : None before reply after → (k : ℕ) × (reply ≡ says.none k)) where
+    pub call-planned : reply ≡ says.plan → Planned planned s before reply after
+    call-planned f =
+        ⊎-elim (λ (p : Planned planned s before reply after). p)
+        (λ (r : Unplanned None s before reply after). let e = said (r .left) .1 in let z : _≡_ {A = ℕ} 0 1 = cc in absurd (omega arith))
+        (call-answered (not-refused (ap refusalOf f)))
 
-  pub call-ringed : (k : ℕ) → reply ≡ says.none k → Ringed (givenBy l) before reply after
-  call-ringed k f =
-      ⊎-elim (λ (p : Planned (givenBy l) before reply after). let e = p .is in let z : _≡_ {A = ℕ} 0 1 = cc in absurd (omega arith))
-      (λ (r : Ringed (givenBy l) before reply after). r)
-      (call-answered (not-refused (ap refusalOf f)))
+    pub call-unplanned : (k : ℕ) → reply ≡ says.none k → Unplanned None s before reply after
+    call-unplanned k f =
+        ⊎-elim (λ (p : Planned planned s before reply after). let e = p .is in let z : _≡_ {A = ℕ} 0 1 = cc in absurd (omega arith))
+        (λ (r : Unplanned None s before reply after). r)
+        (call-answered (not-refused (ap refusalOf f)))

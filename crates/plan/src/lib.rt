@@ -1,10 +1,12 @@
 ghost use mathlib.Core.Path.{_≡_};
 ghost use Rattle.sheet.specs.Lists.{writtenLists, givenBy};
-ghost use Rattle.plan_ask.specs.Questions.{lent};
-ghost use Rattle.plan_solve.specs.Planning.{conclusion, Settled};
-ghost use Rattle.plan_solve.specs.Reply.{replyOf, fitReply};
+ghost use Rattle.plan_ask.specs.Questions.{lent, decideRooms, seatRooms, decideLent, seatLent};
+ghost use Rattle.plan_solve.specs.Planning.{conclusion, conclusionIn, Settled, DecideSettled, SeatSettled};
+ghost use Rattle.plan_solve.specs.Reply.{replyOf, decisionReply, seatReply, fitReply, seatedReply};
 use plan_solve::Answer;
+use plan_solve::Decision;
 use plan_solve::Fit;
+use plan_solve::SeatAnswer;
 use questions::Checked;
 
 // What solving gives, as an answer.
@@ -14,6 +16,26 @@ fn answered(fit: Fit) -> Answer
     match fit {
         Fit::Fits => Answer::Plan,
         Fit::None(k) => Answer::None(k),
+    }
+}
+
+fn decision_of(fit: Fit) -> Decision
+    ensures { λ r. ⌜ decisionReply r ≡ fitReply fit ⌝ }
+{
+    match fit {
+        Fit::Fits => Decision::Fits,
+        Fit::None(k) => Decision::None(k),
+    }
+}
+
+// Whether there is a plan, as seating's answer.
+fn seat_answer(seated: bool) -> SeatAnswer
+    ensures { λ r. ⌜ seatReply r ≡ seatedReply seated ⌝ }
+{
+    if seated {
+        SeatAnswer::Plan
+    } else {
+        SeatAnswer::None
     }
 }
 
@@ -40,7 +62,7 @@ pub fn plan(
         ⌜ Settled (conclusion l before) (givenBy l) before (replyOf r)
         (lent (now (table .exit)) (now (plan .exit)) (now (earliest .exit)) (now (latest .exit)) (now (ring .exit))) ⌝ }
 {
-    let rooms = plan_ask::lengths_of(table, plan, earliest, latest, ring);
+    let rooms = plan_ask::for_plan(table, plan, earliest, latest, ring);
     let asked = plan_ask::ask(span, loader, first, last, from, to, low, high, rooms);
     match asked {
         Checked::No(refusal) => Answer::Refused(refusal),
@@ -57,6 +79,86 @@ pub fn plan(
             earliest,
             latest,
             ring,
+        )),
+    }
+}
+
+// Decides from lists whether the sheet fits. The questions come first, of the table's and the ring's room alone; no unit is seated.
+pub fn decide(
+    span: usize,
+    loader: &[u16],
+    first: &[u16],
+    last: &[u16],
+    from: &[u16],
+    to: &[u16],
+    low: &[u16],
+    high: &[u16],
+    table: &mut [i16],
+    ring: &mut [u16],
+) -> Decision
+    ensures { λ r.
+        let l = writtenLists span (now (loader .entry)) (now (first .entry)) (now (last .entry))
+        (now (from .entry)) (now (to .entry)) (now (low .entry)) (now (high .entry)) in
+        let before = decideRooms (now (table .entry)) (now (ring .entry)) in
+        ⌜ DecideSettled (conclusionIn l (decideLent before)) (givenBy l) before (decisionReply r) (decideRooms (now (table .exit)) (now (ring .exit))) ⌝ }
+{
+    let rooms = plan_ask::for_decision(table, ring);
+    let asked = plan_ask::ask(span, loader, first, last, from, to, low, high, rooms);
+    match asked {
+        Checked::No(refusal) => Decision::Refused(refusal),
+        Checked::Yes => decision_of(plan_solve::decide(
+            span,
+            first,
+            last,
+            from,
+            to,
+            low,
+            high,
+            table,
+            ring,
+        )),
+    }
+}
+
+// Seats the units of a sheet in lists and narrows their windows. The questions come first, of these rooms alone. The table is worked out from the lists: what
+// its room holds before the call is not looked at.
+pub fn seat(
+    span: usize,
+    loader: &[u16],
+    first: &[u16],
+    last: &[u16],
+    from: &[u16],
+    to: &[u16],
+    low: &[u16],
+    high: &[u16],
+    table: &mut [i16],
+    plan: &mut [u16],
+    earliest: &mut [u16],
+    latest: &mut [u16],
+) -> SeatAnswer
+    ensures { λ r.
+        let l = writtenLists span (now (loader .entry)) (now (first .entry)) (now (last .entry))
+        (now (from .entry)) (now (to .entry)) (now (low .entry)) (now (high .entry)) in
+        let before = seatRooms (now (table .entry)) (now (plan .entry)) (now (earliest .entry)) (now (latest .entry)) in
+        ⌜ SeatSettled (conclusionIn l (seatLent before)) (givenBy l) before (seatReply r)
+        (seatRooms (now (table .exit)) (now (plan .exit)) (now (earliest .exit)) (now (latest .exit))) ⌝ }
+{
+    let rooms = plan_ask::for_seats(table, plan, earliest, latest);
+    let asked = plan_ask::ask(span, loader, first, last, from, to, low, high, rooms);
+    match asked {
+        Checked::No(refusal) => SeatAnswer::Refused(refusal),
+        Checked::Yes => seat_answer(plan_solve::seat(
+            span,
+            first,
+            last,
+            from,
+            to,
+            low,
+            high,
+            table,
+            plan,
+            earliest,
+            latest,
         )),
     }
 }

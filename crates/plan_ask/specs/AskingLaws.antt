@@ -17,8 +17,8 @@ use Rattle.sheet.specs.Sheet.{Window, top, noWindow}
 use Rattle.sheet.specs.Questions.{windowsOf, rulesOf, sheetOf, isSpan, rising, spanFits, unitsFit, rulesFit, windowsFit, stretchesFit, countsFit, accepted}
 use Rattle.sheet.specs.Lists.{Lists, given, agree, WrittenLists, allAgree}
 use Rattle.sheet.specs.QuestionLaws.{Agree, listsAgree-read, windowsOf-length, windowsOf-at, rulesOf-length, accepted-sized}
-use Rattle.plan_ask.specs.Asking.{fitLengths, allRising, lengthsFit}
-use Rattle.plan_ask.specs.Questions.{roomsFit}
+use Rattle.plan_ask.specs.Asking.{allRising}
+use Rattle.plan_ask.specs.Questions.{lengthsFit, roomsFit}
 use Rattle.plan_ask.specs.declared.Lengths.{Lengths}
 
 -- ---- the loop over two lists: what is left to ask gives the whole answer
@@ -127,7 +127,6 @@ module _ (l : Lists) where
     unfolding countsFit sheetOf allRising
     asks-counts = counts-as-windows (rising 0 maxCount maxCount) (l .from) (l .to) (l .low) (l .high) (a .stretches) (a .lows) (a .highs)
 
-    pub asks-rooms : (r : Lengths)
-        → fitLengths (given l) r ≡ lengthsFit (boundariesOf (l .span)) (length (l .first)) r
-    unfolding roomsFit lengthsFit sheetOf top
+    pub asks-rooms : (r : Lengths) → roomsFit (given l) r ≡ lengthsFit (boundariesOf (l .span)) (length (l .first)) r
+    unfolding roomsFit sheetOf top
     asks-rooms r = ap₂ (λ w n. lengthsFit w n r) (omega arith) units-length

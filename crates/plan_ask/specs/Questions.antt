@@ -10,10 +10,13 @@ use Rattle.slots.specs.Slots.{Slot}
 use Rattle.sheet.specs.Sheet.{Sheet, boundaries}
 use Rattle.sheet.specs.Lists.{WrittenLists, givenBy, allAgree}
 use Rattle.sheet.specs.Questions.{loadersFit, slotQuestions, countQuestions}
+use Rattle.plan_ask.specs.declared.Seats.{Seats}
+use Rattle.plan_ask.specs.declared.Lengths.{Lengths}
+use Rattle.plan_ask.specs.declared.Lengths.the-variants.{ForPlan, ForDecision, ForSeats}
 
--- ---- the rooms of a call
+-- ---- the rooms of a call: what it lends, before it or after it
 
--- what a call lends: before it, or after it
+-- of planning
 pub record Rooms : Type 0 where
   pub table : List ℤ
   pub plan : List Slot
@@ -24,17 +27,55 @@ pub record Rooms : Type 0 where
 abbrev pub lent : List ℤ → List Slot → List Slot → List Slot → List ℕ → Rooms
 lent t p e l r = record { table = t; plan = p; earliest = e; latest = l; ring = r }
 
+-- of deciding
+pub record DecideRooms : Type 0 where
+  pub table : List ℤ
+  pub ring : List ℕ
+
+abbrev pub decideRooms : List ℤ → List ℕ → DecideRooms
+decideRooms t r = record { table = t; ring = r }
+
+-- of seating
+pub record SeatRooms : Type 0 where
+  pub table : List ℤ
+  pub plan : List Slot
+  pub earliest : List Slot
+  pub latest : List Slot
+
+abbrev pub seatRooms : List ℤ → List Slot → List Slot → List Slot → SeatRooms
+seatRooms t p e l = record { table = t; plan = p; earliest = e; latest = l }
+
+-- ---- their lengths
+
+abbrev pub seatLengths : List Slot → List Slot → List Slot → Seats
+seatLengths p e l = record { plan = length p; earliest = length e; latest = length l }
+
+abbrev pub planLent : Rooms → Lengths
+planLent r = ForPlan (length (r .table)) (seatLengths (r .plan) (r .earliest) (r .latest)) (length (r .ring))
+
+abbrev pub decideLent : DecideRooms → Lengths
+decideLent r = ForDecision (length (r .table)) (length (r .ring))
+
+abbrev pub seatLent : SeatRooms → Lengths
+seatLent r = ForSeats (length (r .table)) (seatLengths (r .plan) (r .earliest) (r .latest))
+
+-- ---- 12: is every room that the call asks for long enough?
+
 abbrev pub places : Sheet → ℕ
 places s = boundaries s * boundaries s
 
--- 12: is every lent room long enough? By the rooms' lengths.
-unfoldable pub roomsFit : Sheet → ℕ → ℕ → ℕ → ℕ → ℕ → Bool
-roomsFit s table plan earliest latest ring =
-    let n = length (s .units) in
-    leb (places s) table && (leb n plan && (leb n earliest && (leb n latest && leb (boundaries s) ring)))
+-- the rooms for the seats and the narrowed windows of so many units
+abbrev pub seatsFit : ℕ → Seats → Bool
+seatsFit n r = leb n (r .plan) && (leb n (r .earliest) && leb n (r .latest))
 
-abbrev pub fitsRooms : Sheet → Rooms → Bool
-fitsRooms s r = roomsFit s (length (r .table)) (length (r .plan)) (length (r .earliest)) (length (r .latest)) (length (r .ring))
+-- of so many boundaries and units
+abbrev pub lengthsFit : ℕ → ℕ → Lengths → Bool
+lengthsFit w n (ForPlan table seats ring) = leb (w * w) table && (seatsFit n seats && leb w ring)
+lengthsFit w n (ForDecision table ring) = leb (w * w) table && leb w ring
+lengthsFit w n (ForSeats table seats) = leb (w * w) table && seatsFit n seats
+
+unfoldable pub roomsFit : Sheet → Lengths → Bool
+roomsFit s r = lengthsFit (boundaries s) (length (s .units)) r
 
 -- ---- the questions, in their order; none is asked of a line
 
@@ -50,6 +91,10 @@ questions l rooms = listQuestions l ++ (ask 12 0 rooms ∷ [])
 unfoldable pub refusalBy : WrittenLists → Bool → Verdict
 refusalBy l rooms = firstNo (questions l rooms)
 
+-- that of a call whose rooms have these lengths
+abbrev pub refusalIn : WrittenLists → Lengths → Verdict
+refusalIn l r = refusalBy l (roomsFit (givenBy l) r)
+
 -- that of planning, whose rooms are these
 abbrev pub refusal : WrittenLists → Rooms → Verdict
-refusal l r = refusalBy l (fitsRooms (givenBy l) r)
+refusal l r = refusalIn l (planLent r)

@@ -1,6 +1,6 @@
 -- A call is not refused exactly when its lists make a sheet that is accepted, its loader numbers fit and its rooms are long enough, whatever rooms it asks for.
 -- Key idea: no question is the first no exactly when every answer is yes; and the lists' verdict goes on to that of the rooms.
-use mathlib.Core.Path.{_≡_}
+use mathlib.Core.Path.{_≡_, sym, ap, _∙_}
 use mathlib.Core.Bool.{Bool, true, cond}
 use mathlib.Core.List.{List, [], _∷_, _++_}
 use lib.Dec.{T}
@@ -10,9 +10,10 @@ use Rattle.questions.specs.FirstNoLaws.{first-then, yes-every, every-yes, yes-f
 use Rattle.sheet.specs.Sheet.{Sheet}
 use Rattle.sheet.specs.Questions.{loadersFit, slotQuestions, countQuestions, accepted}
 use Rattle.sheet.specs.Lists.{WrittenLists, givenBy, allAgree}
-use Rattle.plan_ask.specs.Questions.{listQuestions, questions, refusalBy}
+use Rattle.plan_ask.specs.Questions.{listQuestions, questions, refusalBy, refusalIn}
 use Rattle.plan_ask.specs.Asking.{Listed, Solvable}
 use Rattle.plan_ask.specs.AskingLaws.{all-agree-read, read-all-agree}
+use Rattle.plan_ask.specs.declared.Lengths.{Lengths}
 
 module _ (l : WrittenLists) where
   abbrev s : Sheet
@@ -65,3 +66,7 @@ module _ (l : WrittenLists) where
     pub yes-asked : Listed l → T rooms → refusalBy l rooms ≡ allYes
     unfolding refusalBy
     yes-asked y fit = every-yes (questions l rooms) (every-both (λ q. q .yes) (listQuestions l) last (yes-lists y) (both rooms true fit tt))
+
+-- the questions' verdict, asked of these lengths, is that of the rooms whose lengths they are
+pub asked-of : (l : WrittenLists) (asked rooms : Lengths) (told v : Verdict) → told ≡ refusalIn l asked → asked ≡ rooms → told ≡ v → refusalIn l rooms ≡ v
+asked-of l asked rooms told v verdict is e = ap (refusalIn l) (sym is) ∙ sym verdict ∙ e

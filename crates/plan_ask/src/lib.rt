@@ -1,41 +1,69 @@
 ghost use mathlib.Core.Path.{_≡_};
-ghost use Prim.Native.Nat.{_≤_};
+ghost use Prim.Native.Nat.{_≤_, _*_};
+ghost use lib.Dec.{leb};
 ghost use lib.ListN.{length};
 ghost use Rattle.questions.specs.Questions.{firstNo, verdictOf};
 ghost use Rattle.network.specs.Table.{maxBoundaries};
 ghost use Rattle.sheet.specs.Questions.{listsAgree};
 ghost use Rattle.sheet.specs.Lists.{writtenLists, givenBy, allAgree};
-ghost use Rattle.plan_ask.specs.Questions.{lent, listQuestions, refusalBy};
-ghost use Rattle.plan_ask.specs.Asking.{lengthsOf, allRising, lengthsFit, fitLengths};
+ghost use Rattle.plan_ask.specs.Questions.{lent, decideRooms, seatRooms, seatLengths, planLent, decideLent, seatLent};
+ghost use Rattle.plan_ask.specs.Questions.{seatsFit, lengthsFit, roomsFit, listQuestions, refusalBy};
+ghost use Rattle.plan_ask.specs.Asking.{allRising};
 use questions::Checked;
 use questions::Refusal;
 
-// The lengths of the rooms that a call lends.
-pub struct Lengths {
-    pub table: usize,
+// The lengths of the rooms for seats and narrowed windows.
+pub struct Seats {
     pub plan: usize,
     pub earliest: usize,
     pub latest: usize,
-    pub ring: usize,
 }
 
-// Those of these rooms.
-pub fn lengths_of(
+// The lengths of the rooms that a call lends: the table's, those for seats, the ring's.
+pub enum Lengths {
+    ForPlan(usize, Seats, usize),
+    ForDecision(usize, usize),
+    ForSeats(usize, Seats),
+}
+
+// Those of these rooms for seats.
+fn seats_of(plan: &[u16], earliest: &[u16], latest: &[u16]) -> Seats
+    ensures { λ r. ⌜ r ≡ seatLengths (now (plan .entry)) (now (earliest .entry)) (now (latest .entry)) ⌝ }
+{
+    Seats {
+        plan: plan.len(),
+        earliest: earliest.len(),
+        latest: latest.len(),
+    }
+}
+
+// Those of planning's rooms.
+pub fn for_plan(
     table: &[i16],
     plan: &[u16],
     earliest: &[u16],
     latest: &[u16],
     ring: &[u16],
 ) -> Lengths
-    ensures { λ r. ⌜ r ≡ lengthsOf (lent (now (table .entry)) (now (plan .entry)) (now (earliest .entry)) (now (latest .entry)) (now (ring .entry))) ⌝ }
+    ensures { λ r. ⌜ r ≡ planLent (lent (now (table .entry)) (now (plan .entry)) (now (earliest .entry)) (now (latest .entry)) (now (ring .entry))) ⌝ }
 {
-    Lengths {
-        table: table.len(),
-        plan: plan.len(),
-        earliest: earliest.len(),
-        latest: latest.len(),
-        ring: ring.len(),
-    }
+    let seats = seats_of(plan, earliest, latest);
+    Lengths::ForPlan(table.len(), seats, ring.len())
+}
+
+// Those of deciding's rooms.
+pub fn for_decision(table: &[i16], ring: &[u16]) -> Lengths
+    ensures { λ r. ⌜ r ≡ decideLent (decideRooms (now (table .entry)) (now (ring .entry))) ⌝ }
+{
+    Lengths::ForDecision(table.len(), ring.len())
+}
+
+// Those of seating's rooms.
+pub fn for_seats(table: &[i16], plan: &[u16], earliest: &[u16], latest: &[u16]) -> Lengths
+    ensures { λ r. ⌜ r ≡ seatLent (seatRooms (now (table .entry)) (now (plan .entry)) (now (earliest .entry)) (now (latest .entry))) ⌝ }
+{
+    let seats = seats_of(plan, earliest, latest);
+    Lengths::ForSeats(table.len(), seats)
 }
 
 // Question 13, of the windows and the rules.
@@ -96,29 +124,58 @@ fn all_rise(least: usize, start: usize, most: usize, first: &[u16], last: &[u16]
     true
 }
 
-// Question 12.
-fn rooms_fit(w: usize, units: usize, rooms: Lengths) -> bool
-    requires { ⌜ w ≤ maxBoundaries ⌝ }
-    ensures { λ r. ⌜ r ≡ lengthsFit w units rooms ⌝ }
+// Question 12, of the rooms for seats.
+fn seats_fit(units: usize, rooms: Seats) -> bool
+    ensures { λ r. ⌜ r ≡ seatsFit units rooms ⌝ }
 {
-    let table = rooms.table;
     let plan = rooms.plan;
     let earliest = rooms.earliest;
     let latest = rooms.latest;
-    let ring = rooms.ring;
-    if table < w * w {
-        return false;
-    }
     if plan < units {
         return false;
     }
     if earliest < units {
         return false;
     }
-    if latest < units {
-        return false;
+    units <= latest
+}
+
+// Question 12, of the table's room.
+fn table_fits(w: usize, table: usize) -> bool
+    requires { ⌜ w ≤ maxBoundaries ⌝ }
+    ensures { λ r. ⌜ r ≡ leb (w * w) table ⌝ }
+{
+    w * w <= table
+}
+
+// Question 12, of the rooms that the call lends.
+fn rooms_fit(w: usize, units: usize, rooms: Lengths) -> bool
+    requires { ⌜ w ≤ maxBoundaries ⌝ }
+    ensures { λ r. ⌜ r ≡ lengthsFit w units rooms ⌝ }
+{
+    match rooms {
+        Lengths::ForPlan(table, seats, ring) => {
+            if table_fits(w, table) {} else {
+                return false;
+            }
+            if seats_fit(units, seats) {} else {
+                return false;
+            }
+            w <= ring
+        }
+        Lengths::ForDecision(table, ring) => {
+            if table_fits(w, table) {} else {
+                return false;
+            }
+            w <= ring
+        }
+        Lengths::ForSeats(table, seats) => {
+            if table_fits(w, table) {} else {
+                return false;
+            }
+            seats_fit(units, seats)
+        }
     }
-    w <= ring
 }
 
 // What is asked of the lists, in its order: the first no, or none. No line is to blame. Every call asks this, and then for rooms of its own.
@@ -175,7 +232,7 @@ pub fn ask_lists(
     }
 }
 
-// What planning asks: the lists first, and then for the rooms that it lends.
+// What a call asks: the lists first, and then for the rooms that it lends.
 pub fn ask(
     span: usize,
     loader: &[u16],
@@ -190,7 +247,7 @@ pub fn ask(
     ensures { λ r.
         let l = writtenLists span (now (loader .entry)) (now (first .entry)) (now (last .entry))
         (now (from .entry)) (now (to .entry)) (now (low .entry)) (now (high .entry)) in
-        ⌜ verdictOf r ≡ refusalBy l (fitLengths (givenBy l) rooms) ⌝ }
+        ⌜ verdictOf r ≡ refusalBy l (roomsFit (givenBy l) rooms) ⌝ }
 {
     let asked = ask_lists(span, loader, first, last, from, to, low, high);
     match asked {

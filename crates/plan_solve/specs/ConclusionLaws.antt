@@ -2,17 +2,19 @@
 -- Key idea: the conclusion is made of the verdict alone and the pass, so it is that of whatever the verdict is known to be.
 use mathlib.Core.Path.{_≡_, refl, sym, ap, subst}
 use mathlib.Core.Bool.{Bool}
+use mathlib.Core.List.{List}
 use Prim.Native.Nat.{ℕ}
 use lib.Dec.{T}
+use lib.IntN.{ℤ}
 use Rattle.questions.specs.Questions.{Verdict, no, allYes}
 use Rattle.sheet.specs.Lists.{WrittenLists, givenBy}
-use Rattle.plan_ask.specs.Questions.{Rooms, fitsRooms, refusalBy, refusal}
+use Rattle.plan_ask.specs.Questions.{refusalBy}
 use Rattle.plan_ask.specs.Asking.{Listed}
 use Rattle.plan_ask.specs.SolvableLaws.{yes-asked}
-use Rattle.plan_solve.specs.Planning.{Conclusion, passed, byPass, concluding, conclusionBy, conclusion, Settled}
+use Rattle.plan_solve.specs.Planning.{Conclusion, passed, byPass, concluding, conclusionBy, SettledBy}
 use Rattle.plan_solve.specs.Reply as says
 
--- ---- whatever rooms the call asks for
+-- whatever rooms the call asks for
 module _ (l : WrittenLists) (rooms : Bool) where
   pub concludes : (v : Verdict) → refusalBy l rooms ≡ v → conclusionBy l rooms ≡ concluding v (passed (givenBy l))
   unfolding conclusionBy
@@ -21,18 +23,19 @@ module _ (l : WrittenLists) (rooms : Bool) where
   pub concludes-solvable : Listed l → T rooms → conclusionBy l rooms ≡ byPass (passed (givenBy l))
   concludes-solvable y fit = concludes allYes (yes-asked l rooms y fit)
 
--- ---- planning's own rooms
-module _ (l : WrittenLists) (before : Rooms) where
-  pub by-verdict : (v : Verdict) → refusal l before ≡ v → (reply : says.Reply) (after : Rooms)
-      → Settled (conclusion l before) (givenBy l) before reply after → Settled (concluding v (passed (givenBy l))) (givenBy l) before reply after
-  by-verdict v e reply after = subst (λ (c : Conclusion). Settled c (givenBy l) before reply after) (concludes l (fitsRooms (givenBy l) before) v e)
+  -- and whatever it leaves in them
+  module _ {R : Type 0} (planned : List ℤ → R → R) (None : R → says.Reply → R → Type 0) (before : R) where
+    pub by-verdict : (v : Verdict) → refusalBy l rooms ≡ v → (reply : says.Reply) (after : R)
+        → SettledBy planned None (conclusionBy l rooms) before reply after → SettledBy planned None (concluding v (passed (givenBy l))) before reply after
+    by-verdict v e reply after = subst (λ (c : Conclusion). SettledBy planned None c before reply after) (concludes v e)
 
-  pub refused-settled : (q n : ℕ) → refusal l before ≡ no q n → Settled (conclusion l before) (givenBy l) before (says.refused q n) before
-  refused-settled q n e =
-      subst (λ (c : Conclusion). Settled c (givenBy l) before (says.refused q n) before)
-      (sym (concludes l (fitsRooms (givenBy l) before) (no q n) e)) (refl, refl)
+    pub refused-settled : (q n : ℕ) → refusalBy l rooms ≡ no q n → SettledBy planned None (conclusionBy l rooms) before (says.refused q n) before
+    refused-settled q n e =
+        subst (λ (c : Conclusion). SettledBy planned None c before (says.refused q n) before) (sym (concludes (no q n) e)) (refl, refl)
 
-  pub solved-settled : refusal l before ≡ allYes → (reply : says.Reply) (after : Rooms) → Settled (byPass (passed (givenBy l))) (givenBy l) before reply after
-      → Settled (conclusion l before) (givenBy l) before reply after
-  solved-settled e reply after =
-      subst (λ (c : Conclusion). Settled c (givenBy l) before reply after) (sym (concludes l (fitsRooms (givenBy l) before) allYes e))
+    -- what solving leaves, where the reply is what it told
+    pub solved-settled : refusalBy l rooms ≡ allYes → (reply told : says.Reply) → reply ≡ told → (after : R)
+        → SettledBy planned None (byPass (passed (givenBy l))) before told after → SettledBy planned None (conclusionBy l rooms) before reply after
+    solved-settled e reply told same after h =
+        subst (λ (c : Conclusion). SettledBy planned None c before reply after) (sym (concludes allYes e))
+        (subst (λ (r : says.Reply). SettledBy planned None (byPass (passed (givenBy l))) before r after) (sym same) h)

@@ -2,8 +2,8 @@ pub mod Reply
 pub mod Planning
 pub mod ConclusionLaws
 pub mod PlanningLaws
-pub mod Deciding
-pub mod DecidingLaws
+pub mod Closing
+pub mod ClosingLaws
 pub mod Filling
 pub mod FillingLaws
 pub mod RingLaws

@@ -1,9 +1,14 @@
--- What planning replies, case by case of the enums that the code answers with: the rules' number and line of a refusal, a plan, or none with the ring's
--- length. Promises speak of these. Definitions only.
+-- What a call replies, case by case of the enums that the code answers with: the rules' number and line of a refusal, that there is a plan, or none with the
+-- length of the ring that was written. Promises speak of these. Definitions only.
+use mathlib.Core.Bool.{Bool, true, false}
 use Prim.Native.Nat.{ℕ}
 use Rattle.questions.specs.Questions.{Verdict, no, allYes}
 use Rattle.plan_solve.specs.declared.Answer.{Answer}
 use Rattle.plan_solve.specs.declared.Answer.the-variants.{Refused, Plan, None}
+use Rattle.plan_solve.specs.declared.Decision.{Decision}
+use Rattle.plan_solve.specs.declared.Decision.the-variants as decision
+use Rattle.plan_solve.specs.declared.SeatAnswer.{SeatAnswer}
+use Rattle.plan_solve.specs.declared.SeatAnswer.the-variants as seats
 use Rattle.plan_solve.specs.declared.Fit.{Fit}
 use Rattle.plan_solve.specs.declared.Fit.the-variants as fit
 
@@ -12,15 +17,33 @@ pub data Reply : Type 0 where
   plan : Reply
   none : (length : ℕ) → Reply
 
+-- planning
 abbrev pub replyOf : Answer → Reply
 replyOf (Refused f) = refused (f .number) (f .line)
 replyOf Plan = plan
 replyOf (None k) = none k
 
+-- deciding: a sheet fits where it has a plan
+abbrev pub decisionReply : Decision → Reply
+decisionReply (decision.Refused f) = refused (f .number) (f .line)
+decisionReply decision.Fits = plan
+decisionReply (decision.None k) = none k
+
+-- seating, which writes no ring
+abbrev pub seatReply : SeatAnswer → Reply
+seatReply (seats.Refused f) = refused (f .number) (f .line)
+seatReply seats.Plan = plan
+seatReply seats.None = none 0
+
 -- what solving gives, as the reply that it comes to
 abbrev pub fitReply : Fit → Reply
 fitReply fit.Fits = plan
 fitReply (fit.None k) = none k
+
+-- and seating, by whether there is a plan
+abbrev pub seatedReply : Bool → Reply
+seatedReply true = plan
+seatedReply false = none 0
 
 -- the question that refused, by number and line, or that every answer was yes
 abbrev pub refusalOf : Reply → Verdict

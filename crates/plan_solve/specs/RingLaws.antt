@@ -23,8 +23,8 @@ use Rattle.sheet.specs.Questions.{accepted}
 use Rattle.plan_ask.specs.Questions.{places}
 use Rattle.plan_solve.specs.Planning.{passed}
 use Rattle.plan_solve.specs.PlanningLaws.{stopped-no-potential}
-use Rattle.plan_solve.specs.Deciding.{RingFound}
-use Rattle.plan_solve.specs.DecidingLaws.{filled-room, filled-limited, cleared-limits}
+use Rattle.plan_solve.specs.Closing.{RingFound}
+use Rattle.plan_solve.specs.ClosingLaws.{filled-room, filled-limited, cleared-limits}
 
 -- ---- two weights that agree up to the top boundary
 cycle-same : (top : ℕ) (d e : Weights) → ((a b : ℕ) → a ≤ top → b ≤ top → d a b ≡ e a b)

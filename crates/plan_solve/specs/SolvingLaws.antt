@@ -1,7 +1,8 @@
--- From the pass's outcome to what the call leaves: no plan and a ring, or a plan.
--- Key idea: the outcome says which pass it was, and so which conclusion the rooms are left by.
+-- From the pass's outcome to what a call leaves: none, with a ring or without, or a plan.
+-- Key idea: the outcome says which pass it was, and so which conclusion the rooms are left by; deciding comes first, and what it leaves is all that seats
+-- are filled in by.
 use mathlib.Core.Path.{_≡_, refl, sym, ap, ap₂, _∙_, subst}
-use mathlib.Core.Bool.{_&&_}
+use mathlib.Core.Bool.{Bool, _&&_}
 use mathlib.Core.List.{List, _++_}
 use Prim.Native.Nat.{ℕ, _*_, _≤_}
 use native.Mathlib.Omega.{arith}
@@ -9,28 +10,87 @@ use lib.Dec.{T, leb, leb→le}
 use lib.ListN.{length, drop, replicate, length-append, length-drop, length-replicate}
 use lib.Seq.{drop-at}
 use lib.IntN.{ℤ, pos}
-use Rattle.lists.specs.Members.{left, right}
+use Rattle.lists.specs.Members.{both, left, right}
 use Rattle.network.specs.Table.{Passed, finished, stopped, entry, outcomeOf, cleared}
 use Rattle.network.specs.declared.Outcome.{Outcome}
 use Rattle.network.specs.declared.Outcome.the-variants.{Finished, Stopped}
 use Rattle.sheet.specs.Sizes.{boundariesOf}
-use Rattle.sheet.specs.Sheet.{Sheet, printedPlan, earliestSlots, latestSlots, isRing, boundaries}
+use Rattle.sheet.specs.Sheet.{Sheet, boundaries}
 use Rattle.limits.specs.LimitTable.{Fillable}
 use Rattle.limits.specs.LentTableLaws.{cleared-length}
-use Rattle.sheet.specs.Questions.{accepted, windowsOf, sheetOf}
+use Rattle.sheet.specs.Questions.{windowsOf, sheetOf}
 use Rattle.sheet.specs.QuestionLaws.{Agree, windowsOf-length, accepted-valid}
 use Rattle.sheet.specs.Solved.{Solved}
 use Rattle.sheet.specs.Lists.{Lists, given}
-use Rattle.plan_ask.specs.Questions.{Rooms, lent, fitsRooms, roomsFit, places}
-use Rattle.plan_solve.specs.Planning.{passed, ringed, byPass, Settled}
-use Rattle.plan_solve.specs.PlanningLaws.{passed-size, passed-solved}
-use Rattle.plan_solve.specs.Deciding.{tableLeft, Decided, RingFound}
-use Rattle.plan_solve.specs.DecidingLaws.{boundaries-counted}
+use Rattle.plan_ask.specs.Questions.{lent, decideRooms, seatRooms, seatsFit, roomsFit, places}
 use Rattle.plan_ask.specs.Asking.{Solvable}
 use Rattle.plan_ask.specs.AskingLaws.{lists-read}
+use Rattle.plan_ask.specs.declared.Seats.{Seats}
+use Rattle.plan_ask.specs.declared.Lengths.the-variants.{ForPlan, ForDecision, ForSeats}
+use Rattle.plan_solve.specs.Planning.{passed, byPass, tableIn, Settled, DecideSettled, SeatSettled}
+use Rattle.plan_solve.specs.PlanningLaws.{passed-size, passed-solved}
+use Rattle.plan_solve.specs.Closing.{tableLeft, Closed, RingFound}
+use Rattle.plan_solve.specs.ClosingLaws.{boundaries-counted}
 use Rattle.plan_solve.specs.Filling.{Ready, PlanFilled}
 use Rattle.plan_solve.specs.FillingLaws.{solved-front}
 use Rattle.plan_solve.specs.Reply as says
+use Rattle.plan_solve.specs.Reply.{fitReply}
+use Rattle.plan_solve.specs.declared.Fit.{Fit}
+use Rattle.plan_solve.specs.declared.Fit.the-variants.{Fits, None}
+
+-- ---- rooms that are long enough
+
+pub record SeatsHold (s : Sheet) (r : Seats) : Type 0 where
+  pub plan : length (s .units) ≤ r .plan
+  pub earliest : length (s .units) ≤ r .earliest
+  pub latest : length (s .units) ≤ r .latest
+
+module _ (s : Sheet) where
+  seats-hold : (r : Seats) → T (seatsFit (length (s .units)) r) → SeatsHold s r
+  seats-hold r h =
+      let n = length (s .units) in
+      let b = leb n (r .plan) in
+      let c = leb n (r .earliest) in
+      let d = leb n (r .latest) in
+      let h₁ = right b (c && d) h in
+      record {
+        plan = leb→le n (r .plan) (left b (c && d) h);
+        earliest = leb→le n (r .earliest) (left c d h₁);
+        latest = leb→le n (r .latest) (right c d h₁);
+      }
+
+  pub decide-hold : (table ring : ℕ) → T (roomsFit s (ForDecision table ring)) → (places s ≤ table) × (boundaries s ≤ ring)
+  unfolding roomsFit
+  decide-hold table ring h =
+      let a = leb (places s) table in
+      let b = leb (boundaries s) ring in
+      (leb→le (places s) table (left a b h), leb→le (boundaries s) ring (right a b h))
+
+  pub seat-hold : (table : ℕ) (r : Seats) → T (roomsFit s (ForSeats table r)) → (places s ≤ table) × SeatsHold s r
+  unfolding roomsFit
+  seat-hold table r h =
+      let a = leb (places s) table in
+      let b = seatsFit (length (s .units)) r in
+      (leb→le (places s) table (left a b h), seats-hold r (right a b h))
+
+  -- planning's rooms are deciding's and seating's
+  module _ (table : ℕ) (r : Seats) (ring : ℕ) (h : T (roomsFit s (ForPlan table r ring))) where
+    pub plan-holds : (places s ≤ table) × SeatsHold s r × (boundaries s ≤ ring)
+    unfolding roomsFit
+    plan-holds =
+        let a = leb (places s) table in
+        let b = seatsFit (length (s .units)) r in
+        let c = leb (boundaries s) ring in
+        let k = right a (b && c) h in
+        (leb→le (places s) table (left a (b && c) h), seats-hold r (left b c k), leb→le (boundaries s) ring (right b c k))
+
+    pub plan-decides : T (roomsFit s (ForDecision table ring))
+    unfolding roomsFit
+    plan-decides =
+        let a = leb (places s) table in
+        let b = seatsFit (length (s .units)) r in
+        let c = leb (boundaries s) ring in
+        both a c (left a (b && c) h) (right b c (right a (b && c) h))
 
 -- ---- which pass had the outcome
 is-finished : (p : Passed) → Finished ≡ outcomeOf p → (t : List ℤ) × (p ≡ finished t)
@@ -41,151 +101,112 @@ is-stopped : (p : Passed) → Stopped ≡ outcomeOf p → p ≡ stopped
 is-stopped (finished t) e = let z : _≡_ {A = ℕ} 0 1 = cc in absurd (omega arith)
 is-stopped stopped e = refl
 
-rooms-same : (t t′ : List ℤ) (p p′ e e′ l l′ r : List ℕ) → t ≡ t′ → p ≡ p′ → e ≡ e′ → l ≡ l′
-    → lent t p e l r ≡ lent t′ p′ e′ l′ r
-rooms-same t t′ p p′ e e′ l l′ r a b c d = rw (a, b, c, d)
-
-module _ (s : Sheet) (before : Rooms) (table : List ℤ) where
-  -- a ring at the front of its room, and the table cleared
-  left-ring : Decided s (before .table) Stopped table → (c : List ℕ) → T (isRing s c) → (after : Rooms) → after ≡ ringed s c before
-      → Settled (byPass (passed s)) s before (says.none (length c)) after
-  left-ring d c h after e =
-      subst (λ (p : Passed). Settled (byPass p) s before (says.none (length c)) after) (sym (is-stopped (passed s) (d .outcome))) (c, h, refl, e)
-
-  module _ (ok : T (accepted s)) (d : Decided s (before .table) Finished table) (room : places s ≤ length (before .table)) where
-    t : List ℤ
-    t = is-finished (passed s) (d .outcome) .0
-
-    is-t : passed s ≡ finished t
-    unfolding t
-    is-t = is-finished (passed s) (d .outcome) .1
-
-    size : length t ≡ places s
-    size = passed-size s t is-t
-
-    table-is : table ≡ t ++ drop (places s) (before .table)
-    table-is = d .table ∙ ap (λ (p : Passed). tableLeft s p (before .table)) is-t
-
-    ready : (first last : List ℕ) (w : ℕ) → boundaries s ≡ w → s .units ≡ windowsOf first last → length last ≡ length first → Ready s w first last table
-    ready first last w e units lists =
-        let big : w * w ≤ length table = omega (
-          arith,
-          ap (λ (n : ℕ). n * n) e,
-          ap length table-is,
-          length-append t (drop (places s) (before .table)),
-          length-drop (places s) (before .table),
-          size,
-          room,
-        ) in
-        let S = solved-front s t (drop (places s) (before .table)) size (passed-solved s (accepted-valid s ok) t is-t) in
-        record {
-          sheet = ok;
-          units = units;
-          lists = lists;
-          size = e;
-          room = big;
-          solved = subst (λ (n : ℕ). Solved s (entry n table)) e (subst (λ (x : List ℤ). Solved s (entry (boundaries s) x)) (sym table-is) S);
-        }
-
-    left-plan : (plan earliest latest : List ℕ)
-        → plan ≡ printedPlan s ++ drop (length (s .units)) (before .plan)
-        → earliest ≡ earliestSlots s ++ drop (length (s .units)) (before .earliest)
-        → latest ≡ latestSlots s ++ drop (length (s .units)) (before .latest)
-        → Settled (byPass (passed s)) s before says.plan (lent table plan earliest latest (before .ring))
-    left-plan plan earliest latest p e l =
-        subst (λ (x : Passed). Settled (byPass x) s before says.plan (lent table plan earliest latest (before .ring))) (sym is-t)
-        (refl, rooms-same table _ plan _ earliest _ latest _ (before .ring) table-is p e l)
-
--- ---- the same, of a call's lists and rooms
-
-pub record RoomsHold (s : Sheet) (r : Rooms) : Type 0 where
-  pub table : places s ≤ length (r .table)
-  pub plan : length (s .units) ≤ length (r .plan)
-  pub earliest : length (s .units) ≤ length (r .earliest)
-  pub latest : length (s .units) ≤ length (r .latest)
-  pub ring : boundaries s ≤ length (r .ring)
-
-pub rooms-hold : (s : Sheet) (r : Rooms) → T (fitsRooms s r) → RoomsHold s r
-unfolding roomsFit
-rooms-hold s r h =
-    let n = length (s .units) in
-    let a = leb (places s) (length (r .table)) in
-    let b = leb n (length (r .plan)) in
-    let c = leb n (length (r .earliest)) in
-    let d = leb n (length (r .latest)) in
-    let e = leb (boundaries s) (length (r .ring)) in
-    let h₁ = right a (b && (c && (d && e))) h in
-    let h₂ = right b (c && (d && e)) h₁ in
-    let h₃ = right c (d && e) h₂ in
-    record {
-      table = leb→le (places s) (length (r .table)) (left a (b && (c && (d && e))) h);
-      plan = leb→le n (length (r .plan)) (left b (c && (d && e)) h₁);
-      earliest = leb→le n (length (r .earliest)) (left c (d && e) h₂);
-      latest = leb→le n (length (r .latest)) (left d e h₃);
-      ring = leb→le (boundaries s) (length (r .ring)) (right d e h₃);
-    }
-
 cleared-twice : (n : ℕ) (t : List ℤ) → cleared n (cleared n t) ≡ cleared n t
 cleared-twice n t = ap (λ (r : List ℤ). replicate n (pos 0) ++ r) (drop-at (replicate n (pos 0)) (drop n t) n (length-replicate n (pos 0)))
 
-module _ (l : Lists) (before : Rooms) (S : Solvable l (fitsRooms (given l) before)) where
-  holds : RoomsHold (given l) before
-  holds = rooms-hold (given l) before (S .rooms)
+-- ---- a sheet in lists whose questions are answered yes, and a room that holds its table
+module _ (l : Lists) (fit : Bool) (S : Solvable l fit) (room : List ℤ) (big : places (given l) ≤ length room) where
+  abbrev s : Sheet
+  s = given l
 
   lists : Agree (l .first) (l .last) (l .from) (l .to) (l .low) (l .high)
   lists = lists-read l (S .lists)
 
-  units-are : given l .units ≡ windowsOf (l .first) (l .last)
+  units-are : s .units ≡ windowsOf (l .first) (l .last)
   unfolding sheetOf
   units-are = refl
 
-  units-length : length (given l .units) ≡ length (l .first)
+  units-length : length (s .units) ≡ length (l .first)
   units-length = ap length units-are ∙ windowsOf-length (l .first) (l .last) (lists .windows)
 
-  pub limits-asked : Fillable (l .span) (l .first) (l .last) (l .from) (l .to) (l .low) (l .high) (length (before .table))
-  limits-asked = record { agree = S .lists; ok = S .sheet; fits = holds .table }
+  pub limits-asked : Fillable (l .span) (l .first) (l .last) (l .from) (l .to) (l .low) (l .high) (length room)
+  limits-asked = record { agree = S .lists; ok = S .sheet; fits = big }
 
-  module _ (r : Outcome) (table : List ℤ) (d : Decided (given l) (before .table) r table) where
+  -- rooms for seats, by the units' list
+  pub seats-asked : (r : Seats) → SeatsHold s r → (length (l .first) ≤ r .plan) × (length (l .first) ≤ r .earliest) × (length (l .first) ≤ r .latest)
+  seats-asked r h = (omega (arith, units-length, h .plan), omega (arith, units-length, h .earliest), omega (arith, units-length, h .latest))
+
+  -- the finished pass at the front of the room: seats can be filled in by it
+  module _ (t : List ℤ) (e : passed s ≡ finished t) (table : List ℤ) (is : table ≡ tableIn s t room) where
+    pub ready : (w : ℕ) → w ≡ boundariesOf (l .span) → Ready s w (l .first) (l .last) table
+    ready w k =
+        let count = boundaries-counted l (S .sheet) w k .0 in
+        let size = passed-size s t e in
+        let rest = drop (places s) room in
+        let front = solved-front s t rest size (passed-solved s (accepted-valid s (S .sheet)) t e) in
+        record {
+          sheet = S .sheet;
+          units = units-are;
+          lists = lists .windows;
+          size = count;
+          room = omega (arith, ap (λ (n : ℕ). n * n) count, ap length is, length-append t rest, length-drop (places s) room, size, big);
+          solved = subst (λ (n : ℕ). Solved s (entry n table)) count (subst (λ (x : List ℤ). Solved s (entry (boundaries s) x)) (sym is) front);
+        }
+
+    module _ (plan earliest latest plan′ earliest′ latest′ : List ℕ) (f : PlanFilled s plan earliest latest plan′ earliest′ latest′) where
+      pub plan-left : (ring ring′ : List ℕ) → ring′ ≡ ring
+          → Settled (byPass (passed s)) s (lent room plan earliest latest ring) says.plan (lent table plan′ earliest′ latest′ ring′)
+      plan-left ring ring′ same =
+          subst (λ (p : Passed). Settled (byPass p) s (lent room plan earliest latest ring) says.plan (lent table plan′ earliest′ latest′ ring′)) (sym e)
+          (refl, rw (is, f .seats, f .early, f .late, same))
+
+      pub seats-left : SeatSettled (byPass (passed s)) s (seatRooms room plan earliest latest) says.plan (seatRooms table plan′ earliest′ latest′)
+      seats-left =
+          subst (λ (p : Passed). SeatSettled (byPass p) s (seatRooms room plan earliest latest) says.plan (seatRooms table plan′ earliest′ latest′)) (sym e)
+          (refl, rw (is, f .seats, f .early, f .late))
+
+  -- ---- the pass, closed
+  module _ (r : Outcome) (table : List ℤ) (d : Closed s room r table) where
     module _ (e : r ≡ Stopped) where
-      D : Decided (given l) (before .table) Stopped table
-      D = subst (λ (o : Outcome). Decided (given l) (before .table) o table) e d
+      pub halted : passed s ≡ stopped
+      halted = is-stopped (passed s) (sym e ∙ d .outcome)
 
-      halted : passed (given l) ≡ stopped
-      halted = is-stopped (passed (given l)) (D .outcome)
+      table-cleared : table ≡ cleared (places s) room
+      table-cleared = d .table ∙ ap (λ (p : Passed). tableLeft s p room) halted
 
-      table-cleared : table ≡ cleared (places (given l)) (before .table)
-      table-cleared = D .table ∙ ap (λ (p : Passed). tableLeft (given l) p (before .table)) halted
+      pub ring-asked : (n : ℕ) → boundaries s ≤ n → Fillable (l .span) (l .first) (l .last) (l .from) (l .to) (l .low) (l .high) (length table)
+          × (boundaries s ≤ n) × (passed s ≡ stopped)
+      ring-asked n long =
+          let k = cleared-length (places s) room big in
+          (record { agree = S .lists; ok = S .sheet; fits = omega (arith, big, k, ap length table-cleared) }, long, halted)
 
-      pub ring-asked : Fillable (l .span) (l .first) (l .last) (l .from) (l .to) (l .low) (l .high) (length table)
-          × (boundaries (given l) ≤ length (before .ring)) × (passed (given l) ≡ stopped)
-      ring-asked =
-          let n = cleared-length (places (given l)) (before .table) (holds .table) in
-          (record { agree = S .lists; ok = S .sheet; fits = omega (arith, holds .table, n, ap length table-cleared) }, holds .ring, halted)
+      pub ring-left : (ring : List ℕ) (k : ℕ) (zeros : List ℤ) (ring′ : List ℕ) → RingFound s table ring k zeros ring′
+          → DecideSettled (byPass (passed s)) s (decideRooms room ring) (says.none k) (decideRooms zeros ring′)
+      ring-left ring k zeros ring′ R =
+          let z : zeros ≡ cleared (places s) room = R .zeros ∙ ap (cleared (places s)) table-cleared ∙ cleared-twice (places s) room in
+          subst (λ (p : Passed). DecideSettled (byPass p) s (decideRooms room ring) (says.none k) (decideRooms zeros ring′)) (sym halted)
+          (R .ring, R .closed, ap says.none (R .size), ap₂ decideRooms z (R .front))
 
-      pub ring-left : (k : ℕ) (zeros : List ℤ) (ring : List ℕ) → RingFound (given l) table (before .ring) k zeros ring
-          → Settled (byPass (passed (given l))) (given l) before (says.none k) (lent zeros (before .plan) (before .earliest) (before .latest) ring)
-      ring-left k zeros ring R =
-          let n = places (given l) in
-          let z : zeros ≡ cleared n (before .table) = R .zeros ∙ ap (cleared n) table-cleared ∙ cleared-twice n (before .table) in
-          let after = lent zeros (before .plan) (before .earliest) (before .latest) ring in
-          subst (λ (n : ℕ). Settled (byPass (passed (given l))) (given l) before (says.none n) after) (sym (R .size))
-          (left-ring (given l) before table D (R .ring) (R .closed) after
-          (ap₂ (λ (t : List ℤ) (c : List ℕ). lent t (before .plan) (before .earliest) (before .latest) c) z (R .front)))
+      pub none-seated : (plan earliest latest : List ℕ)
+          → SeatSettled (byPass (passed s)) s (seatRooms room plan earliest latest) (says.none 0) (seatRooms table plan earliest latest)
+      none-seated plan earliest latest =
+          subst (λ (p : Passed). SeatSettled (byPass p) s (seatRooms room plan earliest latest) (says.none 0) (seatRooms table plan earliest latest)) (sym halted)
+          (refl, ap (λ (x : List ℤ). seatRooms x plan earliest latest) table-cleared)
 
     module _ (e : r ≡ Finished) where
-      F : Decided (given l) (before .table) Finished table
-      F = subst (λ (o : Outcome). Decided (given l) (before .table) o table) e d
+      pub closed-table : (t : List ℤ) × (passed s ≡ finished t) × (table ≡ tableIn s t room)
+      closed-table =
+          let f = is-finished (passed s) (sym e ∙ d .outcome) in
+          (f .0, f .1, d .table ∙ ap (λ (p : Passed). tableLeft s p room) (f .1))
 
-      pub plan-asked : (w : ℕ) → w ≡ boundariesOf (l .span) → Ready (given l) w (l .first) (l .last) table
-      plan-asked w k =
-          ready (given l) before table (S .sheet) F (holds .table) (l .first) (l .last) w
-          (boundaries-counted l (S .sheet) w k .0) units-are (lists .windows)
+      pub fits-left : (ring : List ℕ) → DecideSettled (byPass (passed s)) s (decideRooms room ring) says.plan (decideRooms table ring)
+      fits-left ring =
+          let f = closed-table in
+          subst (λ (p : Passed). DecideSettled (byPass p) s (decideRooms room ring) says.plan (decideRooms table ring)) (sym (f .1))
+          (refl, ap (λ (x : List ℤ). decideRooms x ring) (f .2))
 
-      pub plan-rooms : (length (l .first) ≤ length (before .plan)) × (length (l .first) ≤ length (before .earliest))
-          × (length (l .first) ≤ length (before .latest))
-      plan-rooms = (omega (arith, units-length, holds .plan), omega (arith, units-length, holds .earliest), omega (arith, units-length, holds .latest))
+-- ---- what deciding left, by its reply
+module _ (s : Sheet) (room : List ℤ) (ring : List ℕ) (table : List ℤ) (ring′ : List ℕ) where
+  abbrev Left : Passed → says.Reply → Type 0
+  Left p reply = DecideSettled (byPass p) s (decideRooms room ring) reply (decideRooms table ring′)
 
-      pub plan-left : (plan earliest latest : List ℕ) → PlanFilled (given l) (before .plan) (before .earliest) (before .latest) plan earliest latest
-          → Settled (byPass (passed (given l))) (given l) before says.plan (lent table plan earliest latest (before .ring))
-      plan-left plan earliest latest f =
-          left-plan (given l) before table (S .sheet) F (holds .table) plan earliest latest (f .seats) (f .early) (f .late)
+  -- it fits: the finished table, and the ring room as it was
+  pub decided-fits : (p : Passed) → Left p says.plan → (t : List ℤ) × (p ≡ finished t) × (table ≡ tableIn s t room) × (ring′ ≡ ring)
+  decided-fits (finished t) d = (t, refl, ap (λ r. r .table) (d .1), ap (λ r. r .ring) (d .1))
+  decided-fits stopped d = let e = d .2 in let z : _≡_ {A = ℕ} 0 1 = cc in absurd (omega arith)
+
+  -- it does not: what planning leaves, whose other rooms are as they were
+  pub decided-none : (plan earliest latest : List ℕ) (k : ℕ) (p : Passed) → Left p (says.none k)
+      → Settled (byPass p) s (lent room plan earliest latest ring) (says.none k) (lent table plan earliest latest ring′)
+  decided-none plan earliest latest k (finished t) d = let e = d .0 in let z : _≡_ {A = ℕ} 0 1 = cc in absurd (omega arith)
+  decided-none plan earliest latest k stopped d = (d .0, d .1, d .2, ap (λ r. lent (r .table) plan earliest latest (r .ring)) (d .3))

@@ -7,19 +7,33 @@ ghost use Rattle.sheet.specs.Sheet.{Sheet, printedPlan, boundaries};
 ghost use Rattle.sheet.specs.Questions.{sheetOf};
 ghost use Rattle.limits.specs.LimitTable.{Fillable};
 ghost use Rattle.sheet.specs.Lists.{listed, given};
-ghost use Rattle.plan_ask.specs.Questions.{lent, fitsRooms};
+ghost use Rattle.plan_ask.specs.Questions.{lent, decideRooms, seatRooms, planLent, decideLent, seatLent, roomsFit};
 ghost use Rattle.plan_ask.specs.Asking.{Solvable};
-ghost use Rattle.plan_solve.specs.Planning.{passed, byPass, Settled};
-ghost use Rattle.plan_solve.specs.Reply.{fitReply};
-ghost use Rattle.plan_solve.specs.Deciding.{Decided, RingFound};
+ghost use Rattle.plan_solve.specs.Planning.{passed, byPass, Settled, DecideSettled, SeatSettled};
+ghost use Rattle.plan_solve.specs.Reply.{fitReply, seatedReply};
+ghost use Rattle.plan_solve.specs.Closing.{Closed, RingFound};
 ghost use Rattle.plan_solve.specs.Filling.{Ready, PlanFilled};
 use questions::Refusal;
 
-// What a call answers: a refusal, a plan in the rooms, or none with the length of the ring.
+// What planning answers: a refusal, a plan in the rooms, or none with the length of the ring.
 pub enum Answer {
     Refused(Refusal),
     Plan,
     None(usize),
+}
+
+// What deciding answers: a refusal, that the sheet fits, or none with the length of the ring.
+pub enum Decision {
+    Refused(Refusal),
+    Fits,
+    None(usize),
+}
+
+// What seating answers: a refusal, a plan in the rooms, or none.
+pub enum SeatAnswer {
+    Refused(Refusal),
+    Plan,
+    None,
 }
 
 // What solving a sheet of which every question is answered yes gives: it cannot refuse.
@@ -29,7 +43,7 @@ pub enum Fit {
 }
 
 // The limits of all steps, and the pass over them.
-fn decide(
+fn close_limits(
     span: usize,
     first: &[u16],
     last: &[u16],
@@ -42,7 +56,7 @@ fn decide(
     requires { ⌜ Fillable span (now first) (now last) (now from) (now to) (now low) (now high) (length (now table)) ⌝ }
     ensures { λ r.
         let s = sheetOf span (now (first .entry)) (now (last .entry)) (now (from .entry)) (now (to .entry)) (now (low .entry)) (now (high .entry)) in
-        ⌜ Decided s (now (table .entry)) r (now (table .exit)) ⌝ }
+        ⌜ Closed s (now (table .entry)) r (now (table .exit)) ⌝ }
 {
     limits::fill::fill_limits(span, first, last, from, to, low, high, table);
     network::pass(table, sheet::boundaries(span))
@@ -102,7 +116,69 @@ fn fill_plan(
     plan_windows::narrow(first, last, plan, table, w, earliest, latest);
 }
 
-// A sheet of which every question is answered yes: a plan in the rooms, or none and a ring.
+// Whether a sheet of which every question is answered yes fits: the finished table, or none and a ring.
+pub fn decide(
+    span: usize,
+    first: &[u16],
+    last: &[u16],
+    from: &[u16],
+    to: &[u16],
+    low: &[u16],
+    high: &[u16],
+    table: &mut [i16],
+    ring: &mut [u16],
+) -> Fit
+    requires { let l = listed span (now first) (now last) (now from) (now to) (now low) (now high) in
+        ⌜ Solvable l (roomsFit (given l) (decideLent (decideRooms (now table) (now ring)))) ⌝ }
+    ensures { λ r.
+        let s = sheetOf span (now (first .entry)) (now (last .entry)) (now (from .entry)) (now (to .entry)) (now (low .entry)) (now (high .entry)) in
+        ⌜ DecideSettled (byPass (passed s)) s (decideRooms (now (table .entry)) (now (ring .entry))) (fitReply r)
+        (decideRooms (now (table .exit)) (now (ring .exit))) ⌝ }
+{
+    let outcome = close_limits(span, first, last, from, to, low, high, table);
+    match outcome {
+        network::Outcome::Stopped => {
+            let n = find_ring(span, first, last, from, to, low, high, table, ring);
+            Fit::None(n)
+        }
+        network::Outcome::Finished => Fit::Fits,
+    }
+}
+
+// The seats of a sheet of which every question is answered yes, and its narrowed windows: is there a plan? The table is worked out from the lists, whatever
+// its room held.
+pub fn seat(
+    span: usize,
+    first: &[u16],
+    last: &[u16],
+    from: &[u16],
+    to: &[u16],
+    low: &[u16],
+    high: &[u16],
+    table: &mut [i16],
+    plan: &mut [u16],
+    earliest: &mut [u16],
+    latest: &mut [u16],
+) -> bool
+    requires { let l = listed span (now first) (now last) (now from) (now to) (now low) (now high) in
+        ⌜ Solvable l (roomsFit (given l) (seatLent (seatRooms (now table) (now plan) (now earliest) (now latest)))) ⌝ }
+    ensures { λ r.
+        let s = sheetOf span (now (first .entry)) (now (last .entry)) (now (from .entry)) (now (to .entry)) (now (low .entry)) (now (high .entry)) in
+        ⌜ SeatSettled (byPass (passed s)) s (seatRooms (now (table .entry)) (now (plan .entry)) (now (earliest .entry)) (now (latest .entry))) (seatedReply r)
+        (seatRooms (now (table .exit)) (now (plan .exit)) (now (earliest .exit)) (now (latest .exit))) ⌝ }
+{
+    let outcome = close_limits(span, first, last, from, to, low, high, table);
+    match outcome {
+        network::Outcome::Stopped => false,
+        network::Outcome::Finished => {
+            let w = sheet::boundaries(span);
+            fill_plan(w, first, last, table, plan, earliest, latest);
+            true
+        }
+    }
+}
+
+// A plan in the rooms for a sheet of which every question is answered yes, or none and a ring.
 pub fn solve(
     span: usize,
     first: &[u16],
@@ -118,20 +194,17 @@ pub fn solve(
     ring: &mut [u16],
 ) -> Fit
     requires { let l = listed span (now first) (now last) (now from) (now to) (now low) (now high) in
-        ⌜ Solvable l (fitsRooms (given l) (lent (now table) (now plan) (now earliest) (now latest) (now ring))) ⌝ }
+        ⌜ Solvable l (roomsFit (given l) (planLent (lent (now table) (now plan) (now earliest) (now latest) (now ring)))) ⌝ }
     ensures { λ r.
         let s = sheetOf span (now (first .entry)) (now (last .entry)) (now (from .entry)) (now (to .entry)) (now (low .entry)) (now (high .entry)) in
         ⌜ Settled (byPass (passed s)) s
         (lent (now (table .entry)) (now (plan .entry)) (now (earliest .entry)) (now (latest .entry)) (now (ring .entry))) (fitReply r)
         (lent (now (table .exit)) (now (plan .exit)) (now (earliest .exit)) (now (latest .exit)) (now (ring .exit))) ⌝ }
 {
-    let outcome = decide(span, first, last, from, to, low, high, table);
-    match outcome {
-        network::Outcome::Stopped => {
-            let n = find_ring(span, first, last, from, to, low, high, table, ring);
-            Fit::None(n)
-        }
-        network::Outcome::Finished => {
+    let fit = decide(span, first, last, from, to, low, high, table, ring);
+    match fit {
+        Fit::None(n) => Fit::None(n),
+        Fit::Fits => {
             let w = sheet::boundaries(span);
             fill_plan(w, first, last, table, plan, earliest, latest);
             Fit::Fits

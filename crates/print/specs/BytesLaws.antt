@@ -28,10 +28,10 @@ use Rattle.plans.specs.CountLaws.{greatest-entry, least-entry}
 use Rattle.plan_ask.specs.Questions.{places}
 use Rattle.plan_solve.specs.Planning.{passed}
 use Rattle.plan_solve.specs.PlanningLaws.{passed-solved}
-use Rattle.print_page.specs.Page.{Printable, tablePage, leastFrom, greatestFrom, RingFits, nonePage, maxPage, maxRingPage}
-use Rattle.print_page.specs.PageLaws.{SameSlots, planPage-same, nonePage-same}
-use Rattle.print_page.specs.PageBounds.{RingRead, ring-read, plan-short, none-fits}
-use Rattle.print.specs.Printing.{planBytes, ringBytes}
+use Rattle.pages.specs.Page.{Printable, tablePage, leastFrom, greatestFrom, RingFits, nonePage, maxPage, maxRingPage}
+use Rattle.pages.specs.PageLaws.{SameSlots, planPage-same, nonePage-same}
+use Rattle.pages.specs.PageBounds.{RingRead, ring-read, plan-short, none-fits}
+use Rattle.pages.specs.SheetPages.{planBytes, ringBytes}
 
 module _ (s : Sheet) (ok : T (accepted s)) where
   pub boundaries-span : boundaries s ≡ boundariesOf (s .span)

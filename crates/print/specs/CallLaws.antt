@@ -20,8 +20,9 @@ use Rattle.plan_ask.specs.Questions.{Rooms, lent, places, refusal}
 use Rattle.plan_solve.specs.Planning.{passed, planned, ringed, byPass, Settled}
 use Rattle.plan_solve.specs.ConclusionLaws.{refused-settled, solved-settled}
 use Rattle.plan_solve.specs.Reply as planning
-use Rattle.print_page.specs.Page.{tablePage, nonePage}
-use Rattle.print.specs.Printing.{ringBytes, holds, Asked, PrintingOf, Printing}
+use Rattle.pages.specs.Page.{tablePage, nonePage}
+use Rattle.pages.specs.SheetPages.{ringBytes}
+use Rattle.print.specs.Printing.{holds, Asked, PrintingOf, Printing}
 use Rattle.lists.specs.Lists.{onFront}
 use Rattle.print.specs.BytesLaws.{boundaries-span, table-size, seats-size, firsts-size, lasts-size, plan-bytes, ring-bytes}
 use Rattle.print.specs.Reply as says

@@ -4,6 +4,4 @@ pub mod PrintingLaws
 pub mod BytesLaws
 pub mod CallLaws
 pub mod OwnLaws
-pub mod Pages
-pub mod PagesLaws
 pub mod PageConditions

@@ -24,8 +24,8 @@ use Rattle.plan_ask.specs.Asking.{Solvable}
 use Rattle.plan_ask.specs.AskingLaws.{lists-read, span-bound, units-length}
 use Rattle.plan_solve.specs.SolvingLaws.{RoomsHold, rooms-hold}
 use Rattle.plan_solve.specs.Reply as planning
-use Rattle.print_page.specs.PageBounds.{ring-read}
-use Rattle.print_page.specs.Page.{Printable, tablePage, RingFits, nonePage, maxPage, maxRingPage}
+use Rattle.pages.specs.PageBounds.{ring-read}
+use Rattle.pages.specs.Page.{Printable, tablePage, RingFits, nonePage, maxPage, maxRingPage}
 use Rattle.print.specs.Printing.{holds, Asked, PrintingOf}
 use Rattle.lists.specs.Lists.{onFront}
 use Rattle.print.specs.BytesLaws.{places-span, table-size, seats-size, firsts-size, lasts-size, plan-printable, plan-fits, ring-printable, ring-fits}

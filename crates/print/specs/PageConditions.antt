@@ -26,13 +26,14 @@ use Rattle.plan_solve.specs.Reply as planning
 use Rattle.plan.specs.ConditionLaws.{call-planned}
 use Rattle.plan.specs.Conditions as plans
 use Rattle.print_bytes.specs.Writing.{Room, Written}
-use Rattle.print_page.specs.Page.{maxPage}
-use Rattle.print_page.specs.PageBounds.{plan-short, none-short}
-use Rattle.print_page.specs.PageLines.{readLines, answerOn}
-use Rattle.print_page.specs.PageLinesLaws.{answer-read}
-use Rattle.print.specs.Printing.{planBytes, ringBytes, holds, Asked, Shown, Printing}
-use Rattle.print.specs.Pages.{PlanPage, NonePage}
-use Rattle.print.specs.PagesLaws.{plan-page, none-page}
+use Rattle.pages.specs.Page.{maxPage}
+use Rattle.pages.specs.PageBounds.{plan-short, none-short}
+use Rattle.pages.specs.PageLines.{readLines, answerOn}
+use Rattle.pages.specs.PageLinesLaws.{answer-read}
+use Rattle.pages.specs.SheetPages.{planBytes, ringBytes}
+use Rattle.print.specs.Printing.{holds, Asked, Shown, Printing}
+use Rattle.pages.specs.Pages.{PlanPage, NonePage}
+use Rattle.pages.specs.PagesLaws.{plan-page, none-page}
 use Rattle.print.specs.Reply as says
 use Rattle.print.specs.Reply.{refusalOf}
 

@@ -6,22 +6,14 @@ use mathlib.Core.List.{List}
 use Prim.Native.Nat.{ℕ, _+_}
 use lib.Dec.{leb}
 use lib.ListN.{length, take}
-use Rattle.sheet.specs.Sheet.{Sheet, limit, leastIn, greatestIn, printedPlan, earliestSlots, latestSlots}
+use Rattle.sheet.specs.Sheet.{Sheet}
 use Rattle.sheet.specs.Lists.{WrittenLists, givenBy}
 use Rattle.plan_ask.specs.Questions.{Rooms}
 use Rattle.plan_solve.specs.Planning.{Conclusion, conclusion, Settled}
 use Rattle.plan_solve.specs.Reply as planning
 use Rattle.print_bytes.specs.Writing.{withBytes}
-use Rattle.print_page.specs.Page.{planPage, nonePage}
+use Rattle.pages.specs.SheetPages.{planBytes, ringBytes}
 use Rattle.print.specs.Reply as says
-
--- the page of the sheet's printed plan: its units' loader numbers, its narrowed windows, and the least and greatest count of each slot over lawful plans
-unfoldable pub planBytes : List ℕ → Sheet → List ℕ
-planBytes ks s = planPage (s .span) ks (printedPlan s) (earliestSlots s) (latestSlots s) (λ t. leastIn s t t) (λ t. greatestIn s t t)
-
--- the page of a ring: the sheet's own limits
-unfoldable pub ringBytes : Sheet → List ℕ → List ℕ
-ringBytes s ring = nonePage (limit s) ring
 
 -- 15: does the page, from its running place on, hold the whole answer?
 abbrev pub holds : List ℕ → ℕ → List ℕ → Bool

@@ -9,7 +9,7 @@ ghost use Rattle.sheet.specs.Lists.{listed, writtenLists, given};
 ghost use Rattle.plan_ask.specs.Questions.{lent, fitsRooms};
 ghost use Rattle.plan_ask.specs.Asking.{Solvable};
 ghost use Rattle.plan_solve.specs.Planning.{passed, byPass};
-ghost use Rattle.print_page.specs.Page.{Printable, tablePage, RingFits, nonePage, maxPage, maxRingPage};
+ghost use Rattle.pages.specs.Page.{Printable, tablePage, RingFits, nonePage, maxPage, maxRingPage};
 ghost use Rattle.print.specs.Printing.{holds as holdsAnswer, Asked, PrintingOf, Printing};
 ghost use Rattle.print.specs.Reply as says;
 ghost use Rattle.lists.specs.Lists.{onFront};

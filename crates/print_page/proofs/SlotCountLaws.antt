@@ -14,8 +14,8 @@ use borrow.Author.Tests.{eq-eqb, ne-eqb}
 use Rattle.lists.specs.Lists.{howMany, oneIf}
 use Rattle.lists.specs.Counts.{howMany-count, count-most}
 use Rattle.network.specs.Table.{maxBoundaries}
-use Rattle.print_page.specs.Page.{unitsAt, slotCounts}
-use Rattle.print_page.specs.PageLaws.{counts-at, counts-length}
+use Rattle.pages.specs.Page.{unitsAt, slotCounts}
+use Rattle.pages.specs.PageLaws.{counts-at, counts-length}
 
 howMany-last : (t : ℕ → Bool) (xs : List ℕ) (x : ℕ) → howMany t (xs ++ (x ∷ [])) ≡ howMany t xs + oneIf (t x)
 howMany-last t [] x = omega arith

@@ -11,10 +11,11 @@ use lib.ListN.{length, getD}
 use lib.IntN.{pos}
 use Rattle.integers.specs.Parts.{ints, sum, neg}
 use Rattle.network.specs.Network.{Feasible}
+use Rattle.network.specs.NetworkLaws.{cycle-infeasible}
 use Rattle.lists.specs.Lists.{within, every}
 use Rattle.lists.specs.Counts.{howMany-most}
 use Rattle.lists.specs.Members.{In, left, right, within-iff, every-in}
-use Rattle.sheet.specs.Sheet.{Rule, Sheet, noWindow, top, countIn, inWindows, obeys, lawful, atMost, atLeast, limit}
+use Rattle.sheet.specs.Sheet.{Rule, Sheet, noWindow, top, countIn, inWindows, obeys, lawful, atMost, atLeast, limit, isRing}
 use Rattle.sheet.specs.PlanLaws.{inWindows-seated}
 use Rattle.sheet.specs.LimitLaws.{countIn-split, inside-count, limit-fwd, limit-back, limit-same, atMost-ge, atLeast-le}
 
@@ -55,3 +56,8 @@ module _ (s : Sheet) (x : List ℕ) (l : T (lawful s x)) where
             (λ (g : w < v). omega (ints, sum (pos cv) (limit s v w), limit-back s v w g, neg (pos (atLeast s (suc w) v)), fewest w v, countIn-split w v h x))
             (eq-or-lt-of-le h)
       ]
+
+-- A ring contradicts: where the sheet's limits have one, no plan is lawful.
+pub ring-contradicts : (s : Sheet) (ring : List ℕ) → T (isRing s ring) → (x : List ℕ) → T (lawful s x) → ⊥
+unfolding isRing
+ring-contradicts s ring h x l = cycle-infeasible (limit s) (top s) (λ b. pos (countIn 1 b x)) (lawful-feasible s x l (top s)) ring h

@@ -7,8 +7,8 @@ use native.Mathlib.Omega.{arith}
 use lib.ListN.{length}
 use Rattle.questions.specs.Questions.{Verdict, no, allYes, andThen, verdictOf}
 use Rattle.sheet.specs.Lists.{WrittenLists, writtenLists, givenBy}
-use Rattle.plan_ask.specs.Questions.{refusalBy}
-use Rattle.plan_ask.specs.Asking.{lengthsFit, fitLengths, Listed}
+use Rattle.plan_ask.specs.Questions.{lengthsFit, roomsFit, refusalBy}
+use Rattle.plan_ask.specs.Asking.{Listed}
 use Rattle.plan_ask.specs.AskingLaws.{lists-read, span-bound, asks-rooms}
 use Rattle.plan_ask.specs.SolvableLaws.{lists-yes, refusal-then}
 use Rattle.plan_ask.proofs.ask.Statement.{statement}
@@ -24,7 +24,7 @@ lists c =
     writtenLists (a .span) (a .loader .now) (a .first .now) (a .last .now) (a .from .now) (a .to .now) (a .low .now) (a .high .now)
 
 abbrev rooms : tie.After-ask-lists → Bool
-rooms c = fitLengths (givenBy (lists c)) (start c .args .rooms)
+rooms c = roomsFit (givenBy (lists c)) (start c .args .rooms)
 
 -- the lists' verdict, and then the rooms'
 verdict-then : (c : tie.After-ask-lists) (v : Verdict) → verdictOf (c .ask-lists .result) ≡ v

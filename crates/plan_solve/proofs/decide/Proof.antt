@@ -1,39 +1,64 @@
--- The table holds the limits, which are limited weights, so the pass over it is the pass of the sheet.
+-- The pass's outcome decides: where it stopped a ring is found, where it finished its table stands.
 use borrow.Author.Needs.{needs}
-use native.Mathlib.Omega.{arith}
+use mathlib.Core.List.{List}
+use Prim.Native.Nat.{ℕ, _≤_}
+use lib.ListN.{length}
+use lib.IntN.{ℤ}
+use Rattle.sheet.specs.Sheet.{boundaries}
 use Rattle.sheet.specs.Lists.{Lists, listed, given}
-use Rattle.plan_ask.specs.AskingLaws.{span-bound}
-use Rattle.plan_solve.specs.DecidingLaws.{boundaries-counted, filled-room, filled-limited, decided}
+use Rattle.plan_ask.specs.Questions.{places}
+use Rattle.plan_solve.specs.SolvingLaws.{decide-hold, limits-asked, ring-asked, ring-left, fits-left}
 use Rattle.plan_solve.proofs.decide.Statement.{statement}
 use Rattle.plan_solve.proofs.decide.Tie as tie
 
--- the place where the table is filled, and the function's start
-abbrev filled : tie.After-boundaries → tie.After-fill-limits
-filled c = c .before .before .before
-
-abbrev start : tie.After-fill-limits → tie.Start
-start c = c .before .before .before .before .before .before .before .before
+-- the call's lists, its rooms, and the table that the pass leaves
+abbrev start : tie.After-close-limits → tie.Start
+start c = c .before .before .before .before .before .before .before .before .before
 
 abbrev lists : tie.Start → Lists
 lists c =
     let a = c .args in
     listed (a .span) (a .first .now) (a .last .now) (a .from .now) (a .to .now) (a .low .now) (a .high .now)
 
-pass-requires : tie.Need-pass-requires
-pass-requires c κs =
-    let st = start (filled c) in
-    let n = boundaries-counted (lists st) (st .pre .ok) _ (c .boundaries .ensures) in
-    let room = filled-room (given (lists st)) (st .args .table .now) _ _ (n .0) (st .pre .fits) (filled c .fill-limits .ensures) in
-    let L = filled-limited (given (lists st)) (st .pre .ok) (st .args .table .now) _ _ (n .0) (filled c .fill-limits .ensures) in
-    (omega (arith, n .0), n .1, room, L)
+abbrev room : tie.Start → List ℤ
+room c = c .args .table .now
+
+abbrev ring : tie.Start → List ℕ
+ring c = c .args .ring .now
+
+holds : (c : tie.Start) → (places (given (lists c)) ≤ length (room c)) × (boundaries (given (lists c)) ≤ length (ring c))
+holds c = decide-hold (given (lists c)) (length (room c)) (length (ring c)) (c .pre .rooms)
+
+abbrev table : tie.After-close-limits → List ℤ
+table c = c .close-limits .last .1 .1 .1 .1 .1 .1 .1 .0
+
+close-limits-requires : tie.Need-close-limits-requires
+close-limits-requires c κs =
+    let st = c .before .before .before .before .before .before .before .before in
+    limits-asked (lists st) _ (st .pre) (room st) (holds st .0)
+
+find-ring-requires : tie.Need-find-ring-requires
+find-ring-requires c κs =
+    let d = c .before .before .before .before .before in
+    let st = start d in
+    ring-asked (lists st) _ (st .pre) (room st) (holds st .0) (d .close-limits .result) (table d) (d .close-limits .ensures)
+    (c .before .before .enum-told .given .1) (length (ring st)) (holds st .1)
 
 returns : tie.Need-returns
 returns c =
-    let b = c .before .before in
-    let st = start (filled b) in
-    decided (given (lists st)) (st .args .table .now) _ (c .before .pass .result) (c .before .pass .last .0) _
-    (boundaries-counted (lists st) (st .pre .ok) _ (b .boundaries .ensures) .0) (filled b .fill-limits .ensures) (c .before .pass .ensures)
+    let f = c .before .before .before in
+    let d = f .before .before .before .before .before .before in
+    let st = start d in
+    ring-left (lists st) _ (st .pre) (room st) (holds st .0) (d .close-limits .result) (table d) (d .close-limits .ensures)
+    (f .before .before .before .enum-told .given .1) (ring st)
+    (f .find-ring .result) (f .find-ring .last .1 .1 .1 .1 .1 .1 .1 .0) (f .find-ring .last .1 .1 .1 .1 .1 .1 .1 .1 .0) (f .find-ring .ensures)
+
+returns-2 : tie.Need-returns-2
+returns-2 c =
+    let d = c .before .before .before in
+    let st = start d in
+    fits-left (lists st) _ (st .pre) (room st) (holds st .0) (d .close-limits .result) (table d) (d .close-limits .ensures) (c .enum-told2 .given .1) (ring st)
 
 pub decide-spec : {M : Type 1} → statement M
-decide-spec = tie.close (tie.spec (λ c κs. search needs) (λ c κs. let st = start (c .before .before) in span-bound (lists st) (st .pre .ok))
-    pass-requires (λ c. search needs) returns)
+decide-spec = tie.close (tie.spec close-limits-requires (λ c. search needs) find-ring-requires (λ c. search needs)
+    (λ c. search needs) (λ c. search needs) returns (λ c. search needs) returns-2)

@@ -9,7 +9,7 @@ use Rattle.sheet.specs.Sizes.{maxCells}
 use Rattle.sheet.specs.Sheet.{boundaries}
 use Rattle.sheet.specs.Lists.{Lists, listed, given}
 use Rattle.plan_ask.specs.AskingLaws.{span-bound}
-use Rattle.plan_solve.specs.DecidingLaws.{boundaries-counted, filled-room}
+use Rattle.plan_solve.specs.ClosingLaws.{boundaries-counted, filled-room}
 use Rattle.plan_solve.specs.RingLaws.{weighed, no-potential, ring-found}
 use Rattle.plan_solve.proofs.find_ring.Statement.{statement}
 use Rattle.plan_solve.proofs.find_ring.Tie as tie

@@ -6,7 +6,7 @@ use borrow.Author.Needs.{needs}
 use denote.Ref.{now}
 use lib.ListN.{length, take}
 use lib.Seq.{length-take-le}
-use Rattle.print_page.specs.Page.{tablePage, maxPage}
+use Rattle.pages.specs.Page.{tablePage, maxPage}
 use Rattle.print.specs.PrintingLaws.{own-room, own-part, own-size, own-long, room, asked-yes, asked-no}
 use Rattle.print.proofs.print_plan.Statement.{statement}
 use Rattle.print.proofs.print_plan.Tie as tie

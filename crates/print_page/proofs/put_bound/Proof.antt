@@ -8,7 +8,7 @@ use denote.Ref.{now}
 use Rattle.forms.specs.Words.{text}
 use Rattle.forms.specs.Decimal.{formLine}
 use Rattle.print_bytes.specs.WritingLaws.{Pending, pieces, line-pieces, pending-whole, pending-room, pending-after, pending-nothing}
-use Rattle.print_page.specs.Page.{boundForm}
+use Rattle.pages.specs.Page.{boundForm}
 use Rattle.print_page.proofs.put_bound.Statement.{statement}
 use Rattle.print_page.proofs.put_bound.Tie as tie
 

@@ -6,8 +6,8 @@ use native.Mathlib.Omega.{arith}
 use borrow.Author.Needs.{needs}
 use denote.Ref.{now}
 use Rattle.print_bytes.specs.Writing.{Room, Written, unitLine, carriedLine}
-use Rattle.print_page.specs.Page.{placedLine}
-use Rattle.print_page.specs.PageLaws.{placed-inside, placed-past}
+use Rattle.pages.specs.Page.{placedLine}
+use Rattle.pages.specs.PageLaws.{placed-inside, placed-past}
 use Rattle.print_page.proofs.put_placed.Statement.{statement}
 use Rattle.print_page.proofs.put_placed.Tie as tie
 

@@ -8,8 +8,8 @@ use Rattle.sheet.specs.Sizes.{boundariesOf}
 use Rattle.forms.specs.Words.{text}
 use Rattle.print_bytes.specs.Writing.{planHead}
 use Rattle.print_bytes.specs.WritingLaws.{Pending, pending-whole, pending-room, pending-after, pending-nothing}
-use Rattle.print_page.specs.Page.{unitLines, slotLines, leastFrom, greatestFrom, tablePage}
-use Rattle.print_page.specs.PageLaws.{page-counted, counts-length}
+use Rattle.pages.specs.Page.{unitLines, slotLines, leastFrom, greatestFrom, tablePage}
+use Rattle.pages.specs.PageLaws.{page-counted, counts-length}
 use Rattle.print_page.proofs.put_plan.Statement.{statement}
 use Rattle.print_page.proofs.put_plan.Tie as tie
 

@@ -8,7 +8,7 @@ use lib.ListN.{getD}
 use Rattle.lists.specs.Lists.{run, fromTo}
 use Rattle.sheet.specs.Sizes.{boundariesOf}
 use Rattle.print_bytes.specs.Writing.{Room, Written, slotLine}
-use Rattle.print_page.specs.Page.{slotLineAt, slotLines, leastFrom, greatestFrom}
+use Rattle.pages.specs.Page.{slotLineAt, slotLines, leastFrom, greatestFrom}
 use Rattle.print_bytes.specs.WritingLaws.{Pending, pending-whole, pending-room, pending-after, lines-next, lines-end}
 use Rattle.print_page.proofs.put_slots.Statement.{statement}
 use Rattle.print_page.proofs.put_slots.Tie as tie

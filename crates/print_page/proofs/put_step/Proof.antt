@@ -13,8 +13,8 @@ use Rattle.network.specs.Table.{entry}
 use Rattle.limits.specs.LentTableLaws.{place-inside}
 use Rattle.forms.specs.Words.{text}
 use Rattle.print_bytes.specs.Writing.{Room, Written, atMostLine, atLeastLine}
-use Rattle.print_page.specs.Page.{stepLine}
-use Rattle.print_page.specs.PageLaws.{step-forward, step-backward}
+use Rattle.pages.specs.Page.{stepLine}
+use Rattle.pages.specs.PageLaws.{step-forward, step-backward}
 use Rattle.print_page.proofs.put_step.Statement.{statement}
 use Rattle.print_page.proofs.put_step.Tie as tie
 

@@ -8,9 +8,9 @@ use lib.ListN.{length, getD, drop}
 use Rattle.lists.specs.Lists.{joined}
 use Rattle.network.specs.Network.{Weights}
 use Rattle.network.specs.Table.{entry}
-use Rattle.print_page.specs.Page.{ringLines, stepLines, stepLine}
+use Rattle.pages.specs.Page.{ringLines, stepLines, stepLine}
 use Rattle.print_bytes.specs.WritingLaws.{Pending, pending-whole, pending-room, pending-after, pending-nothing}
-use Rattle.print_page.specs.PageLaws.{ring-start, ring-next, ring-end}
+use Rattle.pages.specs.PageLaws.{ring-start, ring-next, ring-end}
 use Rattle.print_page.proofs.put_steps.Statement.{statement}
 use Rattle.print_page.proofs.put_steps.Tie as tie
 

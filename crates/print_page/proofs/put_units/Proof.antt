@@ -6,7 +6,7 @@ use native.Mathlib.Omega.{arith}
 use denote.Ref.{now}
 use lib.ListN.{length}
 use Rattle.lists.specs.Lists.{run, joined}
-use Rattle.print_page.specs.Page.{unitLineAt, unitLines}
+use Rattle.pages.specs.Page.{unitLineAt, unitLines}
 use Rattle.print_bytes.specs.WritingLaws.{Pending, pending-whole, pending-room, pending-after, lines-next, lines-end}
 use Rattle.print_page.proofs.put_units.Statement.{statement}
 use Rattle.print_page.proofs.put_units.Tie as tie

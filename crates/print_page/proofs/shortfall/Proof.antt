@@ -12,7 +12,7 @@ use Rattle.integers.specs.Parts.{up, dn}
 use Rattle.network.specs.Network.{Weights}
 use Rattle.network.specs.Table.{entry}
 use Rattle.sheet.specs.Sizes.{maxCount}
-use Rattle.print_page.specs.PageLaws.{step-inside, Walked, walked-none, walked-next, walked-all}
+use Rattle.pages.specs.PageLaws.{step-inside, Walked, walked-none, walked-next, walked-all}
 use Rattle.print_page.proofs.shortfall.Statement.{statement}
 use Rattle.print_page.proofs.shortfall.Tie as tie
 

@@ -22,7 +22,7 @@ use Rattle.limits.specs.LimitedLaws.{limits-limited-room}
 use Rattle.plan_ask.specs.Questions.{places}
 use Rattle.plan_ask.specs.AskingLaws.{span-bound}
 use Rattle.plan_solve.specs.Planning.{passed}
-use Rattle.plan_solve.specs.Deciding.{tableLeft, Decided}
+use Rattle.plan_solve.specs.Closing.{tableLeft, Closed}
 
 -- ---- the table, filled with the limits
 
@@ -52,19 +52,19 @@ table-front : (s : Sheet) (room : List ℤ) (p : Passed) → tableAfter (boundar
 table-front s room (finished t) = refl
 table-front s room stopped = cleared-limits s room
 
-decided-here : (s : Sheet) (room : List ℤ) (r : Outcome) (after : List ℤ)
-    → After (boundaries s) (limitTable s room) (passOf (boundaries s) (limitTable s room)) r after → Decided s room r after
+closed-here : (s : Sheet) (room : List ℤ) (r : Outcome) (after : List ℤ)
+    → After (boundaries s) (limitTable s room) (passOf (boundaries s) (limitTable s room)) r after → Closed s room r after
 unfolding passed
-decided-here s room r after h =
+closed-here s room r after h =
     let e = pass-front (boundaries s) (tableOf (boundaries s) (limit s)) (drop (places s) room) (length-tableOf (boundaries s) (limit s)) in
     record {
       outcome = h .outcome ∙ ap outcomeOf e ∙ outcome-front (drop (places s) room) (passed s);
       table = h .table ∙ ap (tableAfter (boundaries s) (limitTable s room)) e ∙ table-front s room (passed s);
     }
 
-pub decided : (s : Sheet) (room filled : List ℤ) (r : Outcome) (after : List ℤ) (w : ℕ) → boundaries s ≡ w → filled ≡ limitTable s room
-    → After w filled (passOf w filled) r after → Decided s room r after
-decided s room filled r after w e f h =
-    decided-here s room r after
+pub limits-closed : (s : Sheet) (room filled : List ℤ) (r : Outcome) (after : List ℤ) (w : ℕ) → boundaries s ≡ w → filled ≡ limitTable s room
+    → After w filled (passOf w filled) r after → Closed s room r after
+limits-closed s room filled r after w e f h =
+    closed-here s room r after
     (subst (λ (n : ℕ). After n (limitTable s room) (passOf n (limitTable s room)) r after) (sym e)
     (subst (λ (t : List ℤ). After w t (passOf w t) r after) f h))

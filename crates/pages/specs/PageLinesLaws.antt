@@ -24,11 +24,11 @@ use Rattle.forms.specs.DecimalLaws.{values-digits, numbersIn, suits-digits}
 use Rattle.forms.specs.Lines.{textLine, inFront, lines}
 use Rattle.print_bytes.specs.Writing.{Room, Written, planHead, unitLine, carriedLine, slotLine, noneHead, atMostLine, atLeastLine, shortfallLine, refusedLine}
 use Rattle.print_bytes.specs.WritingLaws.{written-part}
-use Rattle.print_page.specs.Page.{placedLine, unitLineAt, unitLines, slotLineAt, slotLines, unitsAt, planPage}
-use Rattle.print_page.specs.Page.{stepLine, stepLines, ringLines, shortfallOf, nonePage}
-use Rattle.print_page.specs.PageLines.{Said, plan, unit, carried, slot, none, atMost, atLeast, shortfall, refused, other, Reading, reading, readings}
-use Rattle.print_page.specs.PageLines.{readBy, readLine, saidBy, readLines, answerOn, isUnitWith, unitLinesWith}
-use Rattle.print_page.specs.PageLines.{unitSaid, slotSaid, stepSaid, stepsSaid, ringSaid}
+use Rattle.pages.specs.Page.{placedLine, unitLineAt, unitLines, slotLineAt, slotLines, unitsAt, planPage}
+use Rattle.pages.specs.Page.{stepLine, stepLines, ringLines, shortfallOf, nonePage}
+use Rattle.pages.specs.PageLines.{Said, plan, unit, carried, slot, none, atMost, atLeast, shortfall, refused, other, Reading, reading, readings}
+use Rattle.pages.specs.PageLines.{readBy, readLine, saidBy, readLines, answerOn, isUnitWith, unitLinesWith}
+use Rattle.pages.specs.PageLines.{unitSaid, slotSaid, stepSaid, stepsSaid, ringSaid}
 
 -- ---- lines
 

@@ -31,9 +31,9 @@ use Rattle.forms.specs.Words.{text}
 use Rattle.forms.specs.Forms.{planHeadForm, unitLineForm, carriedLineForm, slotLineForm, noneHeadForm, atMostForm, atLeastForm, shortfallForm}
 use Rattle.forms.specs.DecimalLaws.{line-short}
 use Rattle.print_bytes.specs.Writing.{planHead, unitLine, carriedLine, slotLine, noneHead, atMostLine, atLeastLine, shortfallLine}
-use Rattle.print_page.specs.Page.{placedLine, unitLineAt, unitLines, slotLineAt, slotLines, unitsAt, planPage, maxHead, maxUnitLine, maxSlotLine}
-use Rattle.print_page.specs.Page.{stepLine, stepLines, ringLines, shortfallOf, nonePage, maxStepLine, maxPage, maxRingPage}
-use Rattle.print_page.specs.PageLaws.{three-length, placed-inside, placed-past, step-forward, step-backward}
+use Rattle.pages.specs.Page.{placedLine, unitLineAt, unitLines, slotLineAt, slotLines, unitsAt, planPage, maxHead, maxUnitLine, maxSlotLine}
+use Rattle.pages.specs.Page.{stepLine, stepLines, ringLines, shortfallOf, nonePage, maxStepLine, maxPage, maxRingPage}
+use Rattle.pages.specs.PageLaws.{three-length, placed-inside, placed-past, step-forward, step-backward}
 
 -- ---- lines
 unitLine-short : (k x e l : ℕ) → k < 10000 → x < 100 → e < 100 → l < 100 → length (unitLine k x e l) ≤ maxUnitLine

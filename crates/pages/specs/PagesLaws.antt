@@ -19,16 +19,16 @@ use Rattle.network.specs.Network.{Weights}
 use Rattle.sheet.specs.Sizes.{carriedPlace}
 use Rattle.sheet.specs.Sheet.{Sheet, top, lawful, countIn, leastIn, greatestIn, earliest, latest, earliestSlots, latestSlots, printedPlan, limit, isRing}
 use Rattle.sheet.specs.PlanLaws.{lawful-iff, greatestIn-bound}
+use Rattle.sheet.specs.PotentialLaws.{ring-contradicts}
 use Rattle.sheet.specs.Questions.{loadersFit}
 use Rattle.sheet.specs.LoaderLaws.{loader-once}
 use Rattle.sheet.specs.Solved.{Solved}
 use Rattle.plans.specs.PrintedLaws.{Printed, some-printed}
 use Rattle.plans.specs.CountLaws.{range}
-use Rattle.plan.specs.Conditions.{ring-contradicts}
-use Rattle.print_page.specs.PageLines.{Said, plan, unit, carried, unitLinesWith, unitSaid, slotSaid, readLines}
-use Rattle.print_page.specs.PageLinesLaws.{plan-read, none-read}
-use Rattle.print.specs.Printing.{planBytes, ringBytes}
-use Rattle.print.specs.Pages.{planLines, UnitOf, PlanPage, NonePage}
+use Rattle.pages.specs.PageLines.{Said, plan, unit, carried, unitLinesWith, unitSaid, slotSaid, readLines}
+use Rattle.pages.specs.PageLinesLaws.{plan-read, none-read}
+use Rattle.pages.specs.SheetPages.{planBytes, ringBytes}
+use Rattle.pages.specs.Pages.{planLines, UnitOf, PlanPage, NonePage}
 
 module _ (ks : List ℕ) (s : Sheet) (D : Weights) (S : Solved s D) where
   printed : Printed s (printedPlan s)

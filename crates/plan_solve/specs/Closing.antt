@@ -16,7 +16,7 @@ tableLeft s (finished t) room = t ++ drop (places s) room
 tableLeft s stopped room = cleared (places s) room
 
 -- the pass over the limits of s, in a room lent
-pub record Decided (s : Sheet) (before : List ℤ) (r : Outcome) (after : List ℤ) : Type 0 where
+pub record Closed (s : Sheet) (before : List ℤ) (r : Outcome) (after : List ℤ) : Type 0 where
   pub outcome : r ≡ outcomeOf (passed s)
   pub table : after ≡ tableLeft s (passed s) before
 

@@ -1,5 +1,8 @@
 pub mod Page
 pub mod PageLaws
-pub mod PageBounds
 pub mod PageLines
 pub mod PageLinesLaws
+pub mod PageBounds
+pub mod SheetPages
+pub mod Pages
+pub mod PagesLaws

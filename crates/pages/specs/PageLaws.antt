@@ -21,8 +21,8 @@ use Rattle.network.specs.Table.{maxBoundaries}
 use Rattle.sheet.specs.Sizes.{maxSlots}
 use Rattle.limits.specs.LentTableLaws.{place-inside}
 use Rattle.print_bytes.specs.Writing.{planHead, unitLine, carriedLine, noneHead, atMostLine, atLeastLine, shortfallLine}
-use Rattle.print_page.specs.Page.{unitsAt, slotCounts, placedLine, unitLines, slotLineAt, slotLines, planPage}
-use Rattle.print_page.specs.Page.{stepLine, stepLines, ringLines, shortfallOf, nonePage, RingFits}
+use Rattle.pages.specs.Page.{unitsAt, slotCounts, placedLine, unitLines, slotLineAt, slotLines, planPage}
+use Rattle.pages.specs.Page.{stepLine, stepLines, ringLines, shortfallOf, nonePage, RingFits}
 
 -- a page is three parts
 pub three-length : (a b c : List ℕ) → length (joined (a ∷ b ∷ c ∷ [])) ≡ length a + (length b + length c)

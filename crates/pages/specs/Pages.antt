@@ -1,5 +1,5 @@
 -- What the lines of an answer's page say of its sheet, in the words of lawful plans: the user's second and third conditions, of a page. Definitions only.
--- `ls` are the lines as they are read back from the page's bytes (print_page/specs/PageLines.antt).
+-- `ls` are the lines as they are read back from the page's bytes (PageLines.antt).
 use mathlib.Core.Path.{_≡_}
 use mathlib.Core.Logic.{_↔_}
 use mathlib.Core.List.{List, [], _∷_, _++_, map}
@@ -11,8 +11,8 @@ use Rattle.lists.specs.Members.{In}
 use Rattle.slots.specs.Slots.{Slot, Boundary, slotBefore}
 use Rattle.sheet.specs.Sizes.{carriedPlace}
 use Rattle.sheet.specs.Sheet.{Sheet, top, unitPlaces, lawful, fair, countIn, leastIn, greatestIn, earliest, latest, limit, isRing}
-use Rattle.print_page.specs.Page.{shortfallOf}
-use Rattle.print_page.specs.PageLines.{Said, plan, unit, carried, none, shortfall, unitLinesWith, unitSaid, slotSaid, ringSaid}
+use Rattle.pages.specs.Page.{shortfallOf}
+use Rattle.pages.specs.PageLines.{Said, plan, unit, carried, none, shortfall, unitLinesWith, unitSaid, slotSaid, ringSaid}
 
 -- The lines of the plan x, all of them. The head has the number of all units. Then a line for each unit, in order: its loader number, its slot in x or, where
 -- that is past the span, that it is carried, and the earliest and the latest slot that it has in any lawful plan. Then a line for each slot of the span, in

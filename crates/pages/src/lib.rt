@@ -1,0 +1,1 @@
+// The answer pages: definitions and laws only.

@@ -1,0 +1,58 @@
+-- The questions decide, or what deciding a sheet that passed them leaves.
+use borrow.Author.Needs.{needs}
+use mathlib.Core.Path.{_≡_, ap}
+use Rattle.questions.specs.Questions.{Verdict, allYes, verdictOf}
+use Rattle.sheet.specs.Lists.{WrittenLists, writtenLists, givenBy}
+use Rattle.plan_ask.specs.Questions.{DecideRooms, decideRooms, decideLent, roomsFit, refusalIn}
+use Rattle.plan_ask.specs.SolvableLaws.{asked-yes, asked-of}
+use Rattle.plan_solve.specs.Planning.{decided, WithRing, contradicted}
+use Rattle.plan_solve.specs.ConclusionLaws.{refused-settled, solved-settled}
+use Rattle.plan_solve.specs.Reply.{decisionReply, fitReply}
+use Rattle.plan.proofs.decide.Statement.{statement}
+use Rattle.plan.proofs.decide.Tie as tie
+
+abbrev lists : tie.Start → WrittenLists
+lists c =
+    let a = c .args in
+    writtenLists (a .span) (a .loader .now) (a .first .now) (a .last .now) (a .from .now) (a .to .now) (a .low .now) (a .high .now)
+
+abbrev before : tie.Start → DecideRooms
+before c = let a = c .args in decideRooms (a .table .now) (a .ring .now)
+
+-- back to the start, from the questions' answer
+abbrev start : tie.After-ask → tie.Start
+start c = c .before .before .before .before .before .before .before .before .before .before .before .before
+
+-- which is that of the rooms' own lengths
+verdict : (c : tie.After-ask) (v : Verdict) → verdictOf (c .ask .result) ≡ v → refusalIn (lists (start c)) (decideLent (before (start c))) ≡ v
+verdict c v = asked-of (lists (start c)) _ (decideLent (before (start c))) _ v (c .ask .ensures) (c .before .for-decision .ensures)
+
+-- where the answer was yes
+abbrev asked : tie.After-enum-told → tie.Start
+asked c = start (c .before .before)
+
+yes : (c : tie.After-enum-told) → refusalIn (lists (asked c)) (decideLent (before (asked c))) ≡ allYes
+yes c = verdict (c .before .before) allYes (ap verdictOf (c .enum-told .given .1))
+
+decide-requires : tie.Need-decide-requires
+decide-requires c κs = let p : tie.After-enum-told = c .before .before in asked-yes (lists (asked p)) _ (yes p)
+
+returns : tie.Need-returns
+returns c =
+    let d : tie.After-ask = c .before .before .before in
+    let f = c .before .asked .given in
+    let l = lists (start d) in
+    refused-settled l _ (decided (givenBy l)) (WithRing (givenBy l) (contradicted (givenBy l))) (before (start d)) (f .0 .0 .number) (f .0 .0 .line) (verdict d _ (ap verdictOf (f .1)))
+
+returns-2 : tie.Need-returns-2
+returns-2 c =
+    let r = c .before .before .before .before in
+    let p : tie.After-enum-told = r .before .before .before in
+    let l = lists (asked p) in
+    solved-settled l _ (decided (givenBy l)) (WithRing (givenBy l) (contradicted (givenBy l))) (before (asked p)) (yes p)
+    (decisionReply (c .decision-of .result)) (fitReply (r .decide .result)) (c .decision-of .ensures) _ (r .decide .ensures)
+
+pub decide-spec : {M : Type 1} → statement M
+decide-spec = tie.close (tie.spec (λ c κs. search needs) (λ c κs. search needs) (λ c. search needs) (λ c. search needs) decide-requires (λ c κs. search needs)
+    (λ c. search needs) (λ c. search needs) returns
+    (λ c. search needs) (λ c. search needs) returns-2)

@@ -1,0 +1,99 @@
+-- The user's three conditions, of seating from lists, in the words of lawful plans alone.
+-- `call` is what the entry `seat` ensures of every call: `SeatSettled`, in Planning.antt. `reply` is what its answer says (`seatReply`, in Reply.antt),
+-- `before` and `after` are the rooms lent, `s` the sheet in the lists.
+use mathlib.Core.Path.{_≡_, ap}
+use mathlib.Core.Logic.{_↔_}
+use mathlib.Core.Bool.{Bool}
+use mathlib.Core.List.{List}
+use Prim.Native.Nat.{ℕ, _≤_, _<_}
+use lib.Dec.{T}
+use lib.ListN.{length, getD, take}
+use lib.IntN.{ℤ, pos, negℤ}
+use lib.Signed.{_≤ℤ_}
+use Rattle.network.specs.Table.{entry}
+use Rattle.questions.specs.Questions.{no, allYes}
+use Rattle.slots.specs.Slots.{Slot, Boundary, slotBefore, slotAfter}
+use Rattle.sheet.specs.Sheet.{Sheet, top, boundaries, lawful, fair, countIn, printedPlan}
+use Rattle.sheet.specs.Lists.{WrittenLists, givenBy}
+use Rattle.plan_ask.specs.Questions.{SeatRooms, seatLent, roomsFit, refusalIn}
+use Rattle.plan_solve.specs.Planning.{conclusionIn, seated, unseated, SeatNone, SeatSettled}
+use Rattle.plan_solve.specs.Reply as says
+use Rattle.plan_solve.specs.Reply.{refusalOf}
+use Rattle.plan.specs.ConditionLaws as laws
+use Rattle.plan.specs.ConditionLaws.{Planned}
+use Rattle.plan.specs.SharedConditions as all
+
+module _ (l : WrittenLists) (before : SeatRooms) (reply : says.Reply) (after : SeatRooms) (call : SeatSettled (conclusionIn l (seatLent before)) (givenBy l) before reply after) where
+  abbrev pub s : Sheet
+  s = givenBy l
+
+  -- the answer to 12, and what none replies and leaves
+  abbrev rooms : Bool
+  rooms = roomsFit s (seatLent before)
+
+  abbrev None : SeatRooms → says.Reply → SeatRooms → Type 0
+  None = SeatNone s
+
+  said : None before reply after → (k : ℕ) × (reply ≡ says.none k)
+  said left = (0, left .0)
+
+  -- ---- 1. Ground. (That a call ends and does nothing undefined is what the checker asks of every function; `seat` has no `requires`.)
+
+  -- The reply's refusal, by number and line, is the first question whose answer is no, in the order of docs/RULES.md; an answer has none.
+  pub number-is-first-no : refusalOf reply ≡ refusalIn l (seatLent before)
+  number-is-first-no = all.number-is-first-no (seated s) None l rooms before reply after call said
+
+  -- A refusal changes no place lent.
+  pub refused-changes-nothing : (q n : ℕ) → refusalIn l (seatLent before) ≡ no q n → after ≡ before
+  refused-changes-nothing = all.refused-changes-nothing (seated s) None l rooms before reply after call said
+
+  -- ---- 2. Plan or none. A sheet that is not refused gets a plan exactly when some assignment meets all windows and all rules;
+  pub plan-exactly-when-lawful : refusalIn l (seatLent before) ≡ allYes → (reply ≡ says.plan) ↔ ((x : List ℕ) × T (lawful s x))
+  plan-exactly-when-lawful = all.plan-exactly-when-lawful (seated s) None l rooms before reply after call said
+
+  -- else it says none, the table's places are 0, and nothing else is changed.
+  pub none-otherwise : refusalIn l (seatLent before) ≡ allYes → ((x : List ℕ) → T (lawful s x) → ⊥) → (reply ≡ says.none 0) × (after ≡ unseated s before)
+  none-otherwise = all.none-otherwise (seated s) None l rooms before reply after call said
+
+  pub call-planned : reply ≡ says.plan → Planned (seated s) s before reply after
+  call-planned = laws.call-planned (seated s) None l rooms before reply after call said
+
+  module _ (planned? : reply ≡ says.plan) where
+    P : Planned (seated s) s before reply after
+    P = call-planned planned?
+
+    -- Each narrowed window runs from the earliest slot the unit has in any lawful plan
+    pub earliest-slot : (j : ℕ) → j < length (s .units)
+        → ((x : List ℕ) → T (lawful s x) → getD (after .earliest) j 0 ≤ getD x j 0)
+        × ((x : List ℕ) × T (lawful s x) × (getD (after .earliest) j 0 ≡ getD x j 0))
+    earliest-slot = all.earliest-slot s (entry (boundaries s) (P .table)) (P .solved) (before .earliest) (after .earliest) (ap (λ r. r .earliest) (P .left))
+
+    -- to the latest.
+    pub latest-slot : (j : ℕ) → j < length (s .units)
+        → ((x : List ℕ) → T (lawful s x) → getD x j 0 ≤ getD (after .latest) j 0)
+        × ((x : List ℕ) × T (lawful s x) × (getD (after .latest) j 0 ≡ getD x j 0))
+    latest-slot = all.latest-slot s (entry (boundaries s) (P .table)) (P .solved) (before .latest) (after .latest) (ap (λ r. r .latest) (P .left))
+
+    -- ---- 3. Counts. The greatest and the least of a stretch, read off the table as seating leaves it.
+
+    -- For every stretch, those that end with the carried place included, a whole number is the count of some lawful plan exactly when it is from the least to
+    -- the greatest.
+    pub counts : (a b : Boundary) → a < b → b ≤ top s → (k : ℤ)
+        → ((x : List ℕ) × T (lawful s x) × (pos (countIn (slotAfter a) (slotBefore b) x) ≡ k))
+        ↔ ((negℤ (entry (boundaries s) (after .table) b a) ≤ℤ k) × (k ≤ℤ entry (boundaries s) (after .table) a b))
+    counts = all.counts s (P .table) (P .size) (P .solved) (before .table) (after .table) (ap (λ r. r .table) (P .left))
+
+    pub plan-at : take (length (s .units)) (after .plan) ≡ printedPlan s
+    plan-at = all.plan-at s (entry (boundaries s) (P .table)) (P .solved) (before .plan) (after .plan) (ap (λ r. r .plan) (P .left))
+
+    -- The printed plan is lawful and has the seat property,
+    pub plan-lawful : T (lawful s (take (length (s .units)) (after .plan)))
+    plan-lawful = all.plan-lawful s (entry (boundaries s) (P .table)) (P .solved) (before .plan) (after .plan) (ap (λ r. r .plan) (P .left))
+
+    pub plan-fair : T (fair s (take (length (s .units)) (after .plan)))
+    plan-fair = all.plan-fair s (entry (boundaries s) (P .table)) (P .solved) (before .plan) (after .plan) (ap (λ r. r .plan) (P .left))
+
+    -- and by the end of each slot, the carried place included, no lawful plan has more deliveries.
+    pub plan-soonest : (x : List ℕ) → T (lawful s x) → (t : Slot) → 1 ≤ t → t ≤ slotBefore (top s)
+        → countIn 1 t x ≤ countIn 1 t (take (length (s .units)) (after .plan))
+    plan-soonest = all.plan-soonest s (entry (boundaries s) (P .table)) (P .solved) (before .plan) (after .plan) (ap (λ r. r .plan) (P .left))
