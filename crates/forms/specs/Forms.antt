@@ -39,6 +39,16 @@ abbrev pub slotLineForm : List Piece
 slotLineForm =
     word (text "(slot ") ∷ number ∷ word (text " (count ") ∷ number ∷ word (text ") (range ") ∷ number ∷ word (text " ") ∷ number ∷ word (text "))") ∷ []
 
+-- ---- the page of a sheet that fits
+
+-- (answer fits N)
+abbrev pub fitsHeadForm : List Piece
+fitsHeadForm = word (text "(answer fits ") ∷ number ∷ word (text ")") ∷ []
+
+-- (slot N (range N N))
+abbrev pub rangeLineForm : List Piece
+rangeLineForm = word (text "(slot ") ∷ number ∷ word (text " (range ") ∷ number ∷ word (text " ") ∷ number ∷ word (text "))") ∷ []
+
 -- ---- the page of a ring
 
 -- (answer none)

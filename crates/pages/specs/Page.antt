@@ -15,8 +15,9 @@ use Rattle.sheet.specs.Sizes.{maxSlots, maxUnits, maxCount, boundariesOf}
 use Rattle.network.specs.Network.{Weights, around}
 use Rattle.network.specs.Table.{entry, maxBoundaries}
 use Rattle.forms.specs.Words.{text}
-use Rattle.forms.specs.Form.{Piece, word, number}
-use Rattle.print_bytes.specs.Writing.{planHead, unitLine, carriedLine, slotLine, noneHead, atMostLine, atLeastLine, shortfallLine}
+use Rattle.forms.specs.Form.{Piece}
+use Rattle.print_bytes.specs.Writing.{planHead, unitLine, carriedLine, slotLine, fitsHead, rangeLine, noneHead, atMostLine, atLeastLine, shortfallLine}
+use Rattle.print_bytes.specs.Writing.{threeNumbers}
 
 -- ---- the page of a plan
 
@@ -71,11 +72,23 @@ abbrev pub tablePage : ℕ → List ℕ → List ℕ → List ℕ → List ℕ �
 tablePage span loaders slots earliest latest table =
     planPage span loaders slots earliest latest (leastFrom (boundariesOf span) table) (greatestFrom (boundariesOf span) table)
 
+-- ---- the page of a sheet that fits
+
+unfoldable pub rangeLineAt : (Slot → ℕ) → (Slot → ℕ) → Slot → List ℕ
+rangeLineAt least greatest t = rangeLine t (least t) (greatest t)
+
+unfoldable pub rangeLines : Slot → (Slot → ℕ) → (Slot → ℕ) → List ℕ
+rangeLines span least greatest = joined (map (rangeLineAt least greatest) (fromTo 1 span))
+
+-- the number of units, and each slot's least and greatest count over lawful plans
+unfoldable pub fitsPage : ℕ → ℕ → (ℕ → ℕ) → (ℕ → ℕ) → List ℕ
+fitsPage span units least greatest = joined (fitsHead units ∷ rangeLines span least greatest ∷ [])
+
 -- ---- the page of a ring
 
 -- the form of a step's line, by its first word
 abbrev pub boundForm : List ℕ → List Piece
-boundForm bound = word bound ∷ number ∷ word (text " (slots ") ∷ number ∷ word (text " ") ∷ number ∷ word (text "))") ∷ []
+boundForm bound = threeNumbers bound (text " (slots ") (text " ") (text "))")
 
 -- forward, the step's limit; backward, minus its limit
 unfoldable pub stepLine : Weights → Boundary → Boundary → List ℕ
@@ -110,8 +123,8 @@ pub record RingFits (w : ℕ) (limits : List ℤ) (ring : List Boundary) : Type 
 
 -- ---- how long a page can be
 
--- the longest head, and the longest line of a unit, of a slot and of a step: loader numbers have at most four digits, the number of units and counts at most
--- three, slots at most two; ` (carried)` is as long as ` (slot 48)`
+-- the longest head, and the longest line of a unit, of a slot, of a slot's range alone and of a step: loader numbers have at most four digits, the number of
+-- units and counts at most three, slots at most two; ` (carried)` is as long as ` (slot 48)`
 abbrev pub maxHead : ℕ
 maxHead = 18
 
@@ -120,6 +133,9 @@ maxUnitLine = 38
 
 abbrev pub maxSlotLine : ℕ
 maxSlotLine = 38
+
+abbrev pub maxRangeLine : ℕ
+maxRangeLine = 26
 
 abbrev pub maxStepLine : ℕ
 maxStepLine = 29

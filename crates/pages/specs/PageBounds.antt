@@ -12,7 +12,7 @@ use lib.Dec.{T, eqb}
 use lib.ListN.{length, getD, length-append, List·getD-eq-default}
 use lib.IntN.{ℤ, _+ℤ_}
 use Rattle.integers.specs.Parts.{up, dn, sum, neg, apart}
-use Rattle.lists.specs.Lists.{run, within, joined, least, greatest}
+use Rattle.lists.specs.Lists.{run, fromTo, within, joined, least, greatest}
 use Rattle.lists.specs.Members.{In, in-keep, in-map}
 use Rattle.lists.specs.Extremes.{least-in, greatest-in}
 use Rattle.lists.specs.Counts.{howMany-most}
@@ -28,10 +28,12 @@ use Rattle.sheet.specs.Questions.{accepted, loadersFit}
 use Rattle.sheet.specs.LoaderLaws.{loader-size}
 use Rattle.sheet.specs.QuestionLaws.{accepted-sized, accepted-valid}
 use Rattle.forms.specs.Words.{text}
-use Rattle.forms.specs.Forms.{planHeadForm, unitLineForm, carriedLineForm, slotLineForm, noneHeadForm, atMostForm, atLeastForm, shortfallForm}
+use Rattle.forms.specs.Forms.{planHeadForm, unitLineForm, carriedLineForm, slotLineForm, fitsHeadForm, rangeLineForm}
+use Rattle.forms.specs.Forms.{noneHeadForm, atMostForm, atLeastForm, shortfallForm}
 use Rattle.forms.specs.DecimalLaws.{line-short}
-use Rattle.print_bytes.specs.Writing.{planHead, unitLine, carriedLine, slotLine, noneHead, atMostLine, atLeastLine, shortfallLine}
+use Rattle.print_bytes.specs.Writing.{planHead, unitLine, carriedLine, slotLine, fitsHead, rangeLine, noneHead, atMostLine, atLeastLine, shortfallLine}
 use Rattle.pages.specs.Page.{placedLine, unitLineAt, unitLines, slotLineAt, slotLines, unitsAt, planPage, maxHead, maxUnitLine, maxSlotLine}
+use Rattle.pages.specs.Page.{rangeLineAt, rangeLines, fitsPage, maxRangeLine}
 use Rattle.pages.specs.Page.{stepLine, stepLines, ringLines, shortfallOf, nonePage, maxStepLine, maxPage, maxRingPage}
 use Rattle.pages.specs.PageLaws.{three-length, placed-inside, placed-past, step-forward, step-backward}
 
@@ -55,6 +57,14 @@ placedLine-short span k x e l hs hk he hl =
 slotLine-short : (t c l g : ℕ) → t < 100 → c < 1000 → l < 1000 → g < 1000 → length (slotLine t c l g) ≤ maxSlotLine
 unfolding slotLine text
 slotLine-short t c l g ht hc hl hg = line-short slotLineForm (t ∷ c ∷ l ∷ g ∷ []) (2 ∷ 3 ∷ 3 ∷ 3 ∷ []) (ht, (hc, (hl, (hg, tt))))
+
+rangeLine-short : (t l g : ℕ) → t < 100 → l < 1000 → g < 1000 → length (rangeLine t l g) ≤ maxRangeLine
+unfolding rangeLine text
+rangeLine-short t l g ht hl hg = line-short rangeLineForm (t ∷ l ∷ g ∷ []) (2 ∷ 3 ∷ 3 ∷ []) (ht, (hl, (hg, tt)))
+
+fitsHead-short : (n : ℕ) → n < 1000 → length (fitsHead n) ≤ maxHead
+unfolding fitsHead text
+fitsHead-short n h = line-short fitsHeadForm (n ∷ []) (3 ∷ []) (h, tt)
 
 head-short : (n : ℕ) → n < 1000 → length (planHead n) ≤ maxHead
 unfolding planHead text
@@ -87,6 +97,12 @@ lines-short f m i (suc k) h =
       suc-mul k m,
     )
 
+-- the lines of the slots
+span-short : (f : ℕ → List ℕ) (m span : ℕ) → ((t : ℕ) → t ≤ span → length (f t) ≤ m) → length (joined (map f (fromTo 1 span))) ≤ span * m
+span-short f m span h =
+    let e : suc span - 1 ≡ span = omega arith in
+    omega (arith, ap (λ k. k * m) e, lines-short f m 1 (suc span - 1) (λ t p q. h t (omega arith)))
+
 -- ---- the page of a plan
 
 -- loader numbers within 9999, the span within 48, narrowed windows within the carried place behind it, and counts within 300
@@ -106,17 +122,9 @@ module _ {span : ℕ} {loader slots first last : List ℕ} {low high : ℕ → �
 
   slots-short : length (slotLines span (unitsAt slots) low high) ≤ span * maxSlotLine
   unfolding slotLines slotLineAt
-  slots-short =
-      let e : suc span - 1 ≡ span = omega arith in
-      omega (
-        arith,
-        ap (λ k. k * maxSlotLine) e,
-        lines-short (slotLineAt (unitsAt slots) low high) maxSlotLine 1 (suc span - 1)
-            (λ t p q.
-            let b = s .ranges t in
-            slotLine-short t (unitsAt slots t) (low t) (high t) (omega (arith, s .spans))
-            (omega (arith, howMany-most (eqb t) slots, s .units)) (omega arith) (omega arith)),
-      )
+  slots-short = span-short (slotLineAt (unitsAt slots) low high) maxSlotLine span
+      (λ t h. let b = s .ranges t in slotLine-short t (unitsAt slots t) (low t) (high t) (omega (arith, s .spans))
+      (omega (arith, howMany-most (eqb t) slots, s .units)) (omega arith) (omega arith))
 
   pub planPage-short : length (planPage span loader slots first last low high) ≤ maxPage
   unfolding planPage
@@ -185,9 +193,16 @@ module _ (s : Sheet) (ok : T (accepted s)) where
       ⊎-elim (λ e. omega (arith, ap length e))
       (λ m. omega (arith, in-lawfulPlans-iff s (printedPlan s) .0 m .seated .size, accepted-sized s ok .units)) printed
 
+  ranges-small : (t : ℕ) → (leastIn s t t ≤ maxUnits) × (greatestIn s t t ≤ maxUnits)
+  unfolding leastIn greatestIn
+  ranges-small t = (
+    least-small (countIn t t) maxUnits (lawfulPlans s) (count-small t t),
+    greatest-small (countIn t t) maxUnits (lawfulPlans s) (count-small t t),
+  )
+
   sheet-small : (ks : List ℕ) → T (loadersFit ks)
       → Small (s .span) ks (printedPlan s) (earliestSlots s) (latestSlots s) (λ t. leastIn s t t) (λ t. greatestIn s t t)
-  unfolding earliestSlots latestSlots earliest latest leastIn greatestIn
+  unfolding earliestSlots latestSlots earliest latest
   sheet-small ks fit = let last = carriedPlace maxSlots in record {
     spans = accepted-sized s ok .slots .1;
     units = printed-few;
@@ -196,15 +211,33 @@ module _ (s : Sheet) (ok : T (accepted s)) where
       values-small (earliest s) last 0 (length (s .units)) j (λ m. least-small (λ plan. getD plan m 0) last (lawfulPlans s) (λ x h. seat-small x h m)),
       values-small (latest s) last 0 (length (s .units)) j (λ m. greatest-small (λ plan. getD plan m 0) last (lawfulPlans s) (λ x h. seat-small x h m)),
     );
-    ranges = λ t. (
-      least-small (countIn t t) maxUnits (lawfulPlans s) (count-small t t),
-      greatest-small (countIn t t) maxUnits (lawfulPlans s) (count-small t t),
-    );
+    ranges = ranges-small;
   }
 
   pub plan-short : (ks : List ℕ) → T (loadersFit ks)
       → length (planPage (s .span) ks (printedPlan s) (earliestSlots s) (latestSlots s) (λ t. leastIn s t t) (λ t. greatestIn s t t)) ≤ maxPage
   plan-short ks fit = planPage-short (sheet-small ks fit)
+
+  -- ---- the page of a sheet that fits
+  ranges-short : length (rangeLines (s .span) (λ t. leastIn s t t) (λ t. greatestIn s t t)) ≤ s .span * maxRangeLine
+  unfolding rangeLines rangeLineAt
+  ranges-short = span-short (rangeLineAt (λ t. leastIn s t t) (λ t. greatestIn s t t)) maxRangeLine (s .span)
+      (λ t h. let b = ranges-small t in
+      rangeLine-short t (leastIn s t t) (greatestIn s t t) (omega (arith, accepted-sized s ok .slots .1)) (omega arith) (omega arith))
+
+  pub fits-short : length (fitsPage (s .span) (length (s .units)) (λ t. leastIn s t t) (λ t. greatestIn s t t)) ≤ maxPage
+  unfolding fitsPage
+  fits-short =
+      let sized = accepted-sized s ok in
+      let ranges = rangeLines (s .span) (λ t. leastIn s t t) (λ t. greatestIn s t t) in
+      omega (
+        arith,
+        length-append (fitsHead (length (s .units))) (joined (ranges ∷ [])),
+        length-append ranges [],
+        fitsHead-short (length (s .units)) (omega (arith, sized .units)),
+        ranges-short,
+        sized .slots .1,
+      )
 
 -- ---- the page of a ring
 

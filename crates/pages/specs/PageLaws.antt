@@ -20,8 +20,8 @@ use Rattle.network.specs.NetworkLaws.{Upto, via-same}
 use Rattle.network.specs.Table.{maxBoundaries}
 use Rattle.sheet.specs.Sizes.{maxSlots}
 use Rattle.limits.specs.LentTableLaws.{place-inside}
-use Rattle.print_bytes.specs.Writing.{planHead, unitLine, carriedLine, noneHead, atMostLine, atLeastLine, shortfallLine}
-use Rattle.pages.specs.Page.{unitsAt, slotCounts, placedLine, unitLines, slotLineAt, slotLines, planPage}
+use Rattle.print_bytes.specs.Writing.{planHead, unitLine, carriedLine, fitsHead, noneHead, atMostLine, atLeastLine, shortfallLine}
+use Rattle.pages.specs.Page.{unitsAt, slotCounts, placedLine, unitLines, slotLineAt, slotLines, planPage, rangeLineAt, rangeLines, fitsPage}
 use Rattle.pages.specs.Page.{stepLine, stepLines, ringLines, shortfallOf, nonePage, RingFits}
 
 -- a page is three parts
@@ -48,6 +48,15 @@ unfolding planPage
 planPage-same span loaders slots earliest latest l g =
     ap (λ ls. joined (planHead (length slots) ∷ unitLines span loaders slots earliest latest ∷ ls ∷ []))
     (slotLines-same span (record { each = λ t h k. refl }) l g)
+
+-- and so does the page of a sheet that fits
+pub fitsPage-same : (span units : ℕ) {least least′ greatest greatest′ : ℕ → ℕ} → SameSlots span least least′ → SameSlots span greatest greatest′
+    → fitsPage span units least greatest ≡ fitsPage span units least′ greatest′
+unfolding fitsPage rangeLines rangeLineAt
+fitsPage-same span units {least} {least′} {greatest} {greatest′} l g =
+    ap (λ ls. joined (fitsHead units ∷ joined ls ∷ []))
+    (values-same (rangeLineAt least greatest) (rangeLineAt least′ greatest′) 1 (suc span - 1)
+    (λ t h k. let m : t ≤ span = omega arith in rw (l .each t h m, g .each t h m)))
 
 -- ---- a unit's line, by where its slot lies
 module _ (span k x e l : ℕ) where

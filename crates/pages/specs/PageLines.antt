@@ -11,7 +11,8 @@ use Rattle.integers.specs.Parts.{up}
 use Rattle.slots.specs.Slots.{Slot, Boundary, slotBefore, slotAfter}
 use Rattle.network.specs.Network.{Weights}
 use Rattle.forms.specs.Form.{Piece, matches, numbers, value}
-use Rattle.forms.specs.Forms.{planHeadForm, unitLineForm, carriedLineForm, slotLineForm, noneHeadForm, atMostForm, atLeastForm, shortfallForm, refusedForm}
+use Rattle.forms.specs.Forms.{planHeadForm, unitLineForm, carriedLineForm, slotLineForm, fitsHeadForm, rangeLineForm}
+use Rattle.forms.specs.Forms.{noneHeadForm, atMostForm, atLeastForm, shortfallForm, refusedForm}
 use Rattle.forms.specs.Lines.{TextLine, lines}
 
 -- what a line says, with its numbers in their order
@@ -20,6 +21,8 @@ pub data Said : Type 0 where
   unit : ℕ → ℕ → ℕ → ℕ → Said
   carried : ℕ → ℕ → ℕ → Said
   slot : ℕ → ℕ → ℕ → ℕ → Said
+  fits : ℕ → Said
+  range : ℕ → ℕ → ℕ → Said
   none : Said
   atMost : ℕ → ℕ → ℕ → Said
   atLeast : ℕ → ℕ → ℕ → Said
@@ -42,6 +45,8 @@ readings =
     ∷ reading unitLineForm (λ n. unit (n 0) (n 1) (n 2) (n 3))
     ∷ reading carriedLineForm (λ n. carried (n 0) (n 1) (n 2))
     ∷ reading slotLineForm (λ n. slot (n 0) (n 1) (n 2) (n 3))
+    ∷ reading fitsHeadForm (λ n. fits (n 0))
+    ∷ reading rangeLineForm (λ n. range (n 0) (n 1) (n 2))
     ∷ reading noneHeadForm (λ n. none)
     ∷ reading atMostForm (λ n. atMost (n 0) (n 1) (n 2))
     ∷ reading atLeastForm (λ n. atLeast (n 0) (n 1) (n 2))
@@ -74,6 +79,8 @@ isUnitWith t (plan n) = false
 isUnitWith t (unit k x e l) = eqb t x
 isUnitWith t (carried k e l) = false
 isUnitWith t (slot s c l g) = false
+isUnitWith t (fits n) = false
+isUnitWith t (range s l g) = false
 isUnitWith t none = false
 isUnitWith t (atMost v a b) = false
 isUnitWith t (atLeast v a b) = false
@@ -94,6 +101,11 @@ unitSaid span loaders slots earliest latest j =
 
 abbrev pub slotSaid : (ℕ → ℕ) → (ℕ → ℕ) → (ℕ → ℕ) → ℕ → Said
 slotSaid count least greatest t = slot t (count t) (least t) (greatest t)
+
+-- ---- what the line of slot t is to say where no plan is shown
+
+abbrev pub rangeSaid : (ℕ → ℕ) → (ℕ → ℕ) → ℕ → Said
+rangeSaid least greatest t = range t (least t) (greatest t)
 
 -- ---- what the lines of a ring's steps are to say
 

@@ -22,13 +22,14 @@ use Rattle.forms.specs.FormLaws.{Digits, Suits, separated, written-matches, for
 use Rattle.forms.specs.Decimal.{digits, spell, formLine}
 use Rattle.forms.specs.DecimalLaws.{values-digits, numbersIn, suits-digits}
 use Rattle.forms.specs.Lines.{textLine, inFront, lines}
-use Rattle.print_bytes.specs.Writing.{Room, Written, planHead, unitLine, carriedLine, slotLine, noneHead, atMostLine, atLeastLine, shortfallLine, refusedLine}
+use Rattle.print_bytes.specs.Writing.{Room, Written, planHead, unitLine, carriedLine, slotLine, fitsHead, rangeLine}
+use Rattle.print_bytes.specs.Writing.{noneHead, atMostLine, atLeastLine, shortfallLine, refusedLine}
 use Rattle.print_bytes.specs.WritingLaws.{written-part}
 use Rattle.pages.specs.Page.{placedLine, unitLineAt, unitLines, slotLineAt, slotLines, unitsAt, planPage}
-use Rattle.pages.specs.Page.{stepLine, stepLines, ringLines, shortfallOf, nonePage}
-use Rattle.pages.specs.PageLines.{Said, plan, unit, carried, slot, none, atMost, atLeast, shortfall, refused, other, Reading, reading, readings}
-use Rattle.pages.specs.PageLines.{readBy, readLine, saidBy, readLines, answerOn, isUnitWith, unitLinesWith}
-use Rattle.pages.specs.PageLines.{unitSaid, slotSaid, stepSaid, stepsSaid, ringSaid}
+use Rattle.pages.specs.Page.{rangeLineAt, rangeLines, fitsPage, stepLine, stepLines, ringLines, shortfallOf, nonePage}
+use Rattle.pages.specs.PageLines.{Said, plan, unit, carried, slot, fits, range, none, atMost, atLeast, shortfall, refused, other}
+use Rattle.pages.specs.PageLines.{Reading, reading, readings, readBy, readLine, saidBy, readLines, answerOn, isUnitWith, unitLinesWith}
+use Rattle.pages.specs.PageLines.{unitSaid, slotSaid, rangeSaid, stepSaid, stepsSaid, ringSaid}
 
 -- ---- lines
 
@@ -166,25 +167,33 @@ slot-says : (a b c d : ℕ) → Says (slotLine a b c d) (slot a b c d)
 unfolding slotLine text
 slot-says a b c d = says 3 (a ∷ b ∷ c ∷ d ∷ []) tt refl
 
+fits-says : (n : ℕ) → Says (fitsHead n) (fits n)
+unfolding fitsHead text
+fits-says n = says 4 (n ∷ []) tt refl
+
+range-says : (a b c : ℕ) → Says (rangeLine a b c) (range a b c)
+unfolding rangeLine text
+range-says a b c = says 5 (a ∷ b ∷ c ∷ []) tt refl
+
 none-says : Says noneHead none
 unfolding noneHead text
-none-says = says 4 [] tt refl
+none-says = says 6 [] tt refl
 
 at-most-says : (a b c : ℕ) → Says (atMostLine a b c) (atMost a b c)
 unfolding atMostLine text
-at-most-says a b c = says 5 (a ∷ b ∷ c ∷ []) tt refl
+at-most-says a b c = says 7 (a ∷ b ∷ c ∷ []) tt refl
 
 at-least-says : (a b c : ℕ) → Says (atLeastLine a b c) (atLeast a b c)
 unfolding atLeastLine text
-at-least-says a b c = says 6 (a ∷ b ∷ c ∷ []) tt refl
+at-least-says a b c = says 8 (a ∷ b ∷ c ∷ []) tt refl
 
 shortfall-says : (n : ℕ) → Says (shortfallLine n) (shortfall n)
 unfolding shortfallLine text
-shortfall-says n = says 7 (n ∷ []) tt refl
+shortfall-says n = says 9 (n ∷ []) tt refl
 
 refused-says : (q n : ℕ) → Says (refusedLine q n) (refused q n)
 unfolding refusedLine text
-refused-says q n = says 8 (q ∷ n ∷ []) tt refl
+refused-says q n = says 10 (q ∷ n ∷ []) tt refl
 
 -- ---- the page of a plan, read
 
@@ -274,6 +283,17 @@ module _ (span : ℕ) (loaders slots first last : List ℕ) (low high : ℕ → 
       ∙ ap (λ ls. plan (length slots) ∷ (map ofUnit (run 0 (length slots)) ++ ls))
       (values-same (ofSlot (unitsAt slots)) (ofSlot (λ t. unitLinesWith t (readLines page))) 1 (suc span - 1)
       (λ t l h. ap (λ c. slot t c (low t) (high t)) (sym (lines-with t (omega arith)))))
+
+-- ---- the page of a sheet that fits, read
+
+-- the head with the number of units, and the slots in their order, each with its least and greatest count
+pub fits-read : (span n : ℕ) (low high : ℕ → ℕ) → readLines (fitsPage span n low high) ≡ fits n ∷ map (rangeSaid low high) (fromTo 1 span)
+unfolding fitsPage rangeLines rangeLineAt
+fits-read span n low high =
+    read-next (joined (rangeLines span low high ∷ [])) (fits-says n)
+    ∙ ap (λ ls. fits n ∷ ls)
+    (read-lines (rangeLineAt low high) (rangeSaid low high) (λ t. range-says t (low t) (high t)) 1 (suc span - 1) []
+    ∙ ap (λ ls. map (rangeSaid low high) (fromTo 1 span) ++ ls) read-nothing ∙ append-nil (map (rangeSaid low high) (fromTo 1 span)))
 
 -- ---- the page of a ring, read
 module _ (d : Weights) where

@@ -12,7 +12,7 @@ use Rattle.slots.specs.Slots.{Slot, Boundary, slotBefore}
 use Rattle.sheet.specs.Sizes.{carriedPlace}
 use Rattle.sheet.specs.Sheet.{Sheet, top, unitPlaces, lawful, fair, countIn, leastIn, greatestIn, earliest, latest, limit, isRing}
 use Rattle.pages.specs.Page.{shortfallOf}
-use Rattle.pages.specs.PageLines.{Said, plan, unit, carried, none, shortfall, unitLinesWith, unitSaid, slotSaid, ringSaid}
+use Rattle.pages.specs.PageLines.{Said, plan, unit, carried, fits, none, shortfall, unitLinesWith, unitSaid, slotSaid, rangeSaid, ringSaid}
 
 -- The lines of the plan x, all of them. The head has the number of all units. Then a line for each unit, in order: its loader number, its slot in x or, where
 -- that is past the span, that it is carried, and the earliest and the latest slot that it has in any lawful plan. Then a line for each slot of the span, in
@@ -35,9 +35,14 @@ pub record UnitOf (ks : List ℕ) (s : Sheet) (x : List Slot) (k t e f : ℕ) : 
   pub first : e ≡ earliest s place
   pub last : f ≡ latest s place
 
+-- Of every slot of the span: a number is its count in some lawful plan exactly when it is from the slot's least to its greatest.
+abbrev pub RangesHold : Sheet → Type 0
+RangesHold s = (t : Slot) → 1 ≤ t → t ≤ s .span → (k : ℕ)
+    → ((y : List Slot) × T (lawful s y) × (countIn t t y ≡ k)) ↔ ((leastIn s t t ≤ k) × (k ≤ greatestIn s t t))
+
 -- The lines are those of the plan x. Each unit line is one unit's, with a slot of the span; each carried line is one unit's that x has at the carried place.
--- The plan is lawful, has the seat property, and by the end of each slot, and of the carried place, no lawful plan has more deliveries. A number is a slot's
--- count in some lawful plan exactly when it is from the slot line's least to its greatest.
+-- The plan is lawful, has the seat property, and by the end of each slot, and of the carried place, no lawful plan has more deliveries. The slot lines' ranges
+-- hold.
 pub record PlanPage (ks : List ℕ) (s : Sheet) (x : List Slot) (ls : List Said) : Type 0 where
   pub lines : ls ≡ planLines ks s x ls
   pub units : (k t e f : ℕ) → In (unit k t e f) ls → UnitOf ks s x k t e f × (1 ≤ t) × (t ≤ s .span)
@@ -45,8 +50,18 @@ pub record PlanPage (ks : List ℕ) (s : Sheet) (x : List Slot) (ls : List Said)
   pub legal : T (lawful s x)
   pub seated : T (fair s x)
   pub soonest : (y : List Slot) → T (lawful s y) → (t : Slot) → 1 ≤ t → t ≤ slotBefore (top s) → countIn 1 t y ≤ countIn 1 t x
-  pub ranges : (t : Slot) → 1 ≤ t → t ≤ s .span → (k : ℕ)
-      → ((y : List Slot) × T (lawful s y) × (countIn t t y ≡ k)) ↔ ((leastIn s t t ≤ k) × (k ≤ greatestIn s t t))
+  pub ranges : RangesHold s
+
+-- The lines of a sheet that fits, all of them: the head with the number of all units, and a line for each slot of the span, in order, with the least and the
+-- greatest count of the slot over lawful plans.
+abbrev pub fitsLines : Sheet → List Said
+fitsLines s = fits (length (s .units)) ∷ map (rangeSaid (λ t. leastIn s t t) (λ t. greatestIn s t t)) (fromTo 1 (s .span))
+
+-- The lines are those of the sheet, some plan is lawful, and the lines' ranges hold.
+pub record FitsPage (s : Sheet) (ls : List Said) : Type 0 where
+  pub lines : ls ≡ fitsLines s
+  pub some : (x : List Slot) × T (lawful s x)
+  pub ranges : RangesHold s
 
 -- The lines of a ring, all of them: the head, a line for each step in order, with the sheet's own limit, and the shortfall.
 abbrev pub noneLines : Sheet → List Boundary → List Said

@@ -1,4 +1,4 @@
--- The page of the printed plan and the page of a ring say what they are to say of the sheet.
+-- The page of the printed plan, that of a sheet that fits and that of a ring say what they are to say of the sheet.
 -- Key idea: read back, the lines are the values that the page was made of, place by place; these are least, greatest, earliest and latest over lawful
 -- plans by their definitions, and that the printed plan is the one it should be is known of the finished table. A line of a unit, carried or not, stands among
 -- the units' lines, so it has a unit's place, and question 16 leaves its number to that unit alone. Windows end with the carried place at the latest, so a
@@ -24,11 +24,18 @@ use Rattle.sheet.specs.Questions.{loadersFit}
 use Rattle.sheet.specs.LoaderLaws.{loader-once}
 use Rattle.sheet.specs.Solved.{Solved}
 use Rattle.plans.specs.PrintedLaws.{Printed, some-printed}
-use Rattle.plans.specs.CountLaws.{range}
+use Rattle.plans.specs.CountLaws.{solved-plan, range}
 use Rattle.pages.specs.PageLines.{Said, plan, unit, carried, unitLinesWith, unitSaid, slotSaid, readLines}
-use Rattle.pages.specs.PageLinesLaws.{plan-read, none-read}
-use Rattle.pages.specs.SheetPages.{planBytes, ringBytes}
-use Rattle.pages.specs.Pages.{planLines, UnitOf, PlanPage, NonePage}
+use Rattle.pages.specs.PageLinesLaws.{plan-read, fits-read, none-read}
+use Rattle.pages.specs.SheetPages.{planBytes, fitsBytes, ringBytes}
+use Rattle.pages.specs.Pages.{planLines, UnitOf, RangesHold, PlanPage, FitsPage, NonePage}
+
+ranges-hold : (s : Sheet) (D : Weights) → Solved s D → RangesHold s
+unfolding top
+ranges-hold s D S t h ht k =
+    let e : suc (t - 1) ≡ t = omega arith in
+    subst (λ f. ((y : List ℕ) × T (lawful s y) × (countIn f t y ≡ k)) ↔ ((leastIn s f t ≤ k) × (k ≤ greatestIn s f t))) e
+    (range s D S (t - 1) t (omega arith) (omega arith) k)
 
 module _ (ks : List ℕ) (s : Sheet) (D : Weights) (S : Solved s D) where
   printed : Printed s (printedPlan s)
@@ -148,10 +155,16 @@ module _ (ks : List ℕ) (s : Sheet) (D : Weights) (S : Solved s D) where
       legal = printed .legal;
       seated = printed .order;
       soonest = λ y l t h ht. omega (arith, greatestIn-bound s y l 1 t, printed .early t h ht);
-      ranges = λ t h ht k. let e : suc (t - 1) ≡ t = omega arith in
-          subst (λ f. ((y : List ℕ) × T (lawful s y) × (countIn f t y ≡ k)) ↔ ((leastIn s f t ≤ k) × (k ≤ greatestIn s f t))) e
-          (range s D S (t - 1) t (omega arith) (omega arith) k);
+      ranges = ranges-hold s D S;
     }
+
+pub fits-page : (s : Sheet) (D : Weights) → Solved s D → FitsPage s (readLines (fitsBytes s))
+unfolding fitsBytes
+fits-page s D S = record {
+  lines = fits-read (s .span) (length (s .units)) (λ t. leastIn s t t) (λ t. greatestIn s t t);
+  some = solved-plan s D S;
+  ranges = ranges-hold s D S;
+}
 
 pub none-page : (s : Sheet) (ring : List ℕ) → T (isRing s ring) → NonePage s ring (readLines (ringBytes s ring))
 unfolding ringBytes

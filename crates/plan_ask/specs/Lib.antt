@@ -2,3 +2,4 @@ pub mod Questions
 pub mod Asking
 pub mod AskingLaws
 pub mod SolvableLaws
+pub mod RoomsLaws

@@ -2,15 +2,13 @@
 -- Key idea: the outcome says which pass it was, and so which conclusion the rooms are left by; deciding comes first, and what it leaves is all that seats
 -- are filled in by.
 use mathlib.Core.Path.{_≡_, refl, sym, ap, ap₂, _∙_, subst}
-use mathlib.Core.Bool.{Bool, _&&_}
+use mathlib.Core.Bool.{Bool}
 use mathlib.Core.List.{List, _++_}
 use Prim.Native.Nat.{ℕ, _*_, _≤_}
 use native.Mathlib.Omega.{arith}
-use lib.Dec.{T, leb, leb→le}
 use lib.ListN.{length, drop, replicate, length-append, length-drop, length-replicate}
 use lib.Seq.{drop-at}
 use lib.IntN.{ℤ, pos}
-use Rattle.lists.specs.Members.{both, left, right}
 use Rattle.network.specs.Table.{Passed, finished, stopped, entry, outcomeOf, cleared}
 use Rattle.network.specs.declared.Outcome.{Outcome}
 use Rattle.network.specs.declared.Outcome.the-variants.{Finished, Stopped}
@@ -22,11 +20,11 @@ use Rattle.sheet.specs.Questions.{windowsOf, sheetOf}
 use Rattle.sheet.specs.QuestionLaws.{Agree, windowsOf-length, accepted-valid}
 use Rattle.sheet.specs.Solved.{Solved}
 use Rattle.sheet.specs.Lists.{Lists, given}
-use Rattle.plan_ask.specs.Questions.{lent, decideRooms, seatRooms, seatsFit, roomsFit, places}
+use Rattle.plan_ask.specs.Questions.{lent, decideRooms, seatRooms, places}
 use Rattle.plan_ask.specs.Asking.{Solvable}
 use Rattle.plan_ask.specs.AskingLaws.{lists-read}
+use Rattle.plan_ask.specs.RoomsLaws.{SeatsHold}
 use Rattle.plan_ask.specs.declared.Seats.{Seats}
-use Rattle.plan_ask.specs.declared.Lengths.the-variants.{ForPlan, ForDecision, ForSeats}
 use Rattle.plan_solve.specs.Planning.{passed, byPass, tableIn, Settled, DecideSettled, SeatSettled}
 use Rattle.plan_solve.specs.PlanningLaws.{passed-size, passed-solved}
 use Rattle.plan_solve.specs.Closing.{tableLeft, Closed, RingFound}
@@ -34,63 +32,6 @@ use Rattle.plan_solve.specs.ClosingLaws.{boundaries-counted}
 use Rattle.plan_solve.specs.Filling.{Ready, PlanFilled}
 use Rattle.plan_solve.specs.FillingLaws.{solved-front}
 use Rattle.plan_solve.specs.Reply as says
-use Rattle.plan_solve.specs.Reply.{fitReply}
-use Rattle.plan_solve.specs.declared.Fit.{Fit}
-use Rattle.plan_solve.specs.declared.Fit.the-variants.{Fits, None}
-
--- ---- rooms that are long enough
-
-pub record SeatsHold (s : Sheet) (r : Seats) : Type 0 where
-  pub plan : length (s .units) ≤ r .plan
-  pub earliest : length (s .units) ≤ r .earliest
-  pub latest : length (s .units) ≤ r .latest
-
-module _ (s : Sheet) where
-  seats-hold : (r : Seats) → T (seatsFit (length (s .units)) r) → SeatsHold s r
-  seats-hold r h =
-      let n = length (s .units) in
-      let b = leb n (r .plan) in
-      let c = leb n (r .earliest) in
-      let d = leb n (r .latest) in
-      let h₁ = right b (c && d) h in
-      record {
-        plan = leb→le n (r .plan) (left b (c && d) h);
-        earliest = leb→le n (r .earliest) (left c d h₁);
-        latest = leb→le n (r .latest) (right c d h₁);
-      }
-
-  pub decide-hold : (table ring : ℕ) → T (roomsFit s (ForDecision table ring)) → (places s ≤ table) × (boundaries s ≤ ring)
-  unfolding roomsFit
-  decide-hold table ring h =
-      let a = leb (places s) table in
-      let b = leb (boundaries s) ring in
-      (leb→le (places s) table (left a b h), leb→le (boundaries s) ring (right a b h))
-
-  pub seat-hold : (table : ℕ) (r : Seats) → T (roomsFit s (ForSeats table r)) → (places s ≤ table) × SeatsHold s r
-  unfolding roomsFit
-  seat-hold table r h =
-      let a = leb (places s) table in
-      let b = seatsFit (length (s .units)) r in
-      (leb→le (places s) table (left a b h), seats-hold r (right a b h))
-
-  -- planning's rooms are deciding's and seating's
-  module _ (table : ℕ) (r : Seats) (ring : ℕ) (h : T (roomsFit s (ForPlan table r ring))) where
-    pub plan-holds : (places s ≤ table) × SeatsHold s r × (boundaries s ≤ ring)
-    unfolding roomsFit
-    plan-holds =
-        let a = leb (places s) table in
-        let b = seatsFit (length (s .units)) r in
-        let c = leb (boundaries s) ring in
-        let k = right a (b && c) h in
-        (leb→le (places s) table (left a (b && c) h), seats-hold r (left b c k), leb→le (boundaries s) ring (right b c k))
-
-    pub plan-decides : T (roomsFit s (ForDecision table ring))
-    unfolding roomsFit
-    plan-decides =
-        let a = leb (places s) table in
-        let b = seatsFit (length (s .units)) r in
-        let c = leb (boundaries s) ring in
-        both a c (left a (b && c) h) (right b c (right a (b && c) h))
 
 -- ---- which pass had the outcome
 is-finished : (p : Passed) → Finished ≡ outcomeOf p → (t : List ℤ) × (p ≡ finished t)

@@ -17,7 +17,7 @@ use Rattle.limits.specs.LimitTable.{limitTable}
 use Rattle.sheet.specs.Questions.{accepted}
 use Rattle.sheet.specs.Lists.{WrittenLists, givenBy}
 use Rattle.plan_ask.specs.Questions.{Rooms, lent, places, refusal}
-use Rattle.plan_solve.specs.Planning.{passed, planned, ringed, byPass, Settled}
+use Rattle.plan_solve.specs.Planning.{passed, planned, ringed, WithRing, byPass, Settled}
 use Rattle.plan_solve.specs.ConclusionLaws.{refused-settled, solved-settled}
 use Rattle.plan_solve.specs.Reply as planning
 use Rattle.pages.specs.Page.{tablePage, nonePage}
@@ -131,7 +131,7 @@ module _ (l : WrittenLists) (before : Rooms) (page : List ℕ) (at : ℕ) where
   refused-printed q n e = record {
     answer = planning.refused q n;
     planned = before;
-    call = refused-settled l before q n e;
+    call = refused-settled l _ (planned (givenBy l)) (WithRing (givenBy l) (ringed (givenBy l))) before q n e;
     shown = record { replied = refl; lent = refl; shown = refl };
   }
 
@@ -141,6 +141,7 @@ module _ (l : WrittenLists) (before : Rooms) (page : List ℕ) (at : ℕ) where
   solved-printed e reply after left p = record {
     answer = p .answer;
     planned = p .planned;
-    call = solved-settled l before e (p .answer) (p .planned) (p .call);
+    call =
+        solved-settled l _ (planned (givenBy l)) (WithRing (givenBy l) (ringed (givenBy l))) before e (p .answer) (p .answer) refl (p .planned) (p .call);
     shown = p .shown;
   }

@@ -18,11 +18,11 @@ use Rattle.limits.specs.LimitTable.{limitTable, Fillable}
 use Rattle.sheet.specs.Questions.{accepted, sheetOf, loadersFit}
 use Rattle.sheet.specs.QuestionLaws.{accepted-sized}
 use Rattle.sheet.specs.Lists.{Lists, given}
-use Rattle.plan_ask.specs.Questions.{Rooms, lent, places, roomsFit, fitsRooms}
+use Rattle.plan_ask.specs.Questions.{Rooms, lent, seatLengths, planLent, places, roomsFit}
 use Rattle.plan_solve.specs.Planning.{passed, byPass, Settled}
 use Rattle.plan_ask.specs.Asking.{Solvable}
 use Rattle.plan_ask.specs.AskingLaws.{lists-read, span-bound, units-length}
-use Rattle.plan_solve.specs.SolvingLaws.{RoomsHold, rooms-hold}
+use Rattle.plan_ask.specs.RoomsLaws.{SeatsHold, plan-holds, plan-for-all}
 use Rattle.plan_solve.specs.Reply as planning
 use Rattle.pages.specs.PageBounds.{ring-read}
 use Rattle.pages.specs.Page.{Printable, tablePage, RingFits, nonePage, maxPage, maxRingPage}
@@ -37,21 +37,8 @@ abbrev pub ownRooms : Rooms
 ownRooms = lent (replicate maxCells (pos 0)) (replicate maxUnits 0) (replicate maxUnits 0) (replicate maxUnits 0) (replicate maxBoundaries 0)
 
 -- they hold every accepted sheet
-pub own-fit : (s : Sheet) → T (accepted s) → T (roomsFit s maxCells maxUnits maxUnits maxUnits maxBoundaries)
-unfolding roomsFit top
-own-fit s ok =
-    let sized = accepted-sized s ok in
-    let n = length (s .units) in
-    let w : boundaries s ≤ maxBoundaries = omega (arith, sized .slots .1) in
-    let units = le→leb n maxUnits (sized .units) in
-    both (leb (places s) maxCells) (leb n maxUnits && (leb n maxUnits && (leb n maxUnits && leb (boundaries s) maxBoundaries)))
-    (le→leb (places s) maxCells (mul-le-mul w w))
-    (both (leb n maxUnits) (leb n maxUnits && (leb n maxUnits && leb (boundaries s) maxBoundaries)) units
-    (both (leb n maxUnits) (leb n maxUnits && leb (boundaries s) maxBoundaries) units
-    (both (leb n maxUnits) (leb (boundaries s) maxBoundaries) units (le→leb (boundaries s) maxBoundaries w))))
-
-pub own-solvable : (l : Lists) (fit : Bool) → Solvable l fit → Solvable l (fitsRooms (given l) ownRooms)
-own-solvable l fit S = record { lists = S .lists; sheet = S .sheet; rooms = own-fit (given l) (S .sheet) }
+pub own-solvable : (l : Lists) (fit : Bool) → Solvable l fit → Solvable l (roomsFit (given l) (planLent ownRooms))
+own-solvable l fit S = record { lists = S .lists; sheet = S .sheet; rooms = plan-for-all (given l) (S .sheet) }
 
 -- a list is the front of a room
 pub record Front {A : Type 0} (n : ℕ) (xs room : List A) : Type 0 where
@@ -69,7 +56,7 @@ pub record PlanFronts (s : Sheet) (w n : ℕ) (t : List ℤ) (after : Rooms) : T
   pub lasts : Front n (latestSlots s) (after .latest)
 
 -- w is the number of boundaries, as the code has it
-module _ (l : Lists) (before : Rooms) (S : Solvable l (fitsRooms (given l) before)) (w : ℕ) (w-is : w ≡ boundariesOf (l .span)) where
+module _ (l : Lists) (before : Rooms) (S : Solvable l (roomsFit (given l) (planLent before))) (w : ℕ) (w-is : w ≡ boundariesOf (l .span)) where
   abbrev s : Sheet
   s = given l
 
@@ -87,11 +74,12 @@ module _ (l : Lists) (before : Rooms) (S : Solvable l (fitsRooms (given l) befor
   pub units-are : length (s .units) ≡ length (l .first)
   units-are = units-length l (lists-read l (S .lists))
 
-  lends : RoomsHold s before
-  lends = rooms-hold s before (S .rooms)
+  lends : (places s ≤ length (before .table)) × SeatsHold s (seatLengths (before .plan) (before .earliest) (before .latest))
+      × (boundaries s ≤ length (before .ring))
+  lends = plan-holds s (length (before .table)) (seatLengths (before .plan) (before .earliest) (before .latest)) (length (before .ring)) (S .rooms)
 
   cells-lent : w * w ≤ length (before .table)
-  cells-lent = omega (arith, lends .table, cells-are)
+  cells-lent = omega (arith, lends .0, cells-are)
 
   module _ (own after : Rooms) (reply : planning.Reply) (ends : Settled (byPass (passed s)) s own reply after) where
     abbrev Settled-as : planning.Reply → Type 0
@@ -149,9 +137,9 @@ module _ (l : Lists) (before : Rooms) (S : Solvable l (fitsRooms (given l) befor
       (
         (
           omega (arith, length-take (w * w) (after .table), cells-lent),
-          omega (arith, length-take (length (l .first)) (after .plan), lends .plan, units-are),
-          omega (arith, length-take (length (l .first)) (after .earliest), lends .earliest, units-are),
-          omega (arith, length-take (length (l .first)) (after .latest), lends .latest, units-are),
+          omega (arith, length-take (length (l .first)) (after .plan), lends .1 .plan, units-are),
+          omega (arith, length-take (length (l .first)) (after .earliest), lends .1 .earliest, units-are),
+          omega (arith, length-take (length (l .first)) (after .latest), lends .1 .latest, units-are),
         ),
         rw (f .closed .part, f .seats .part, f .firsts .part, f .lasts .part) (plan-fits s (S .sheet) t halts ks fit),
       ),
@@ -184,7 +172,7 @@ module _ (l : Lists) (before : Rooms) (S : Solvable l (fitsRooms (given l) befor
       ring-asked limits e = (
         rw (e, f .part, w-of) (ring-printable s (S .sheet) c h cleared-room room-long),
         (
-          (cells-lent, omega (arith, ap length (f .part), ring-read s c h .few, lends .ring)),
+          (cells-lent, omega (arith, ap length (f .part), ring-read s c h .few, lends .2)),
           rw (e, f .part, w-of) (ring-fits s (S .sheet) c h cleared-room room-long),
         ),
       )

@@ -17,13 +17,12 @@ use Rattle.questions.specs.Questions.{no, allYes}
 use Rattle.slots.specs.Slots.{Boundary, slotBefore, slotAfter}
 use Rattle.sheet.specs.Sheet.{Sheet, top, boundaries, lawful, countIn, printedPlan}
 use Rattle.sheet.specs.Lists.{WrittenLists, givenBy}
-use Rattle.plan_ask.specs.Questions.{Rooms, fitsRooms, refusal}
+use Rattle.plan_ask.specs.Questions.{Rooms, planLent, roomsFit, refusal}
 use Rattle.plan_ask.specs.AskingLaws.{lists-read, units-length}
 use Rattle.plan_ask.specs.Asking.{Listed}
 use Rattle.plan_ask.specs.SolvableLaws.{asked-lists}
 use Rattle.plan_solve.specs.Planning.{conclusion, Settled}
 use Rattle.plan_solve.specs.Reply as planning
-use Rattle.plan.specs.ConditionLaws.{call-planned}
 use Rattle.plan.specs.Conditions as plans
 use Rattle.print_bytes.specs.Writing.{Room, Written}
 use Rattle.pages.specs.Page.{maxPage}
@@ -70,7 +69,7 @@ module _ (l : WrittenLists) (before : Rooms) (page : List ℕ) (at : ℕ) (reply
 
   -- what the lists of a call that planning's questions do not refuse are; they have a unit for each loader number
   passes : refusal l before ≡ allYes → Listed l
-  passes = asked-lists l (fitsRooms s before)
+  passes = asked-lists l (roomsFit s (planLent before))
 
   as-many : refusal l before ≡ allYes → length ks ≡ n
   as-many y = passes y .as-many ∙ sym (units-length (l .constraints) (lists-read (l .constraints) (passes y .lists)))
@@ -166,7 +165,7 @@ module _ (l : WrittenLists) (before : Rooms) (page : List ℕ) (at : ℕ) (reply
           let r : reply ≡ says.plan (at + length (planBytes ks s)) = h .replied in
           let place : at + length (planBytes ks s) ≡ next = cc in
           let y = sym first-no ∙ ap planning.refusalOf a in
-          let P = call-planned l before (call .answer) (call .planned) (call .call) a in
+          let P = plans.call-planned l before (call .answer) (call .planned) (call .call) a in
           let slots : printedPlan s ≡ take n (after .plan) =
           sym (ap (λ (q : Rooms). take n (q .plan)) (h .lent) ∙ plans.plan-at l before (call .answer) (call .planned) (call .call) a) in
           let lines : readLines (planBytes ks s) ≡ answerOn left at next = sym (ap (answerOn left at) (sym place) ∙ answer-read (h .room) (h .written)) in

@@ -6,7 +6,7 @@ ghost use lib.ListN.{length, drop};
 ghost use Rattle.network.specs.Table.{entry, cleared};
 ghost use Rattle.sheet.specs.Questions.{sheetOf, loadersFit};
 ghost use Rattle.sheet.specs.Lists.{listed, writtenLists, given};
-ghost use Rattle.plan_ask.specs.Questions.{lent, fitsRooms};
+ghost use Rattle.plan_ask.specs.Questions.{lent, planLent, roomsFit};
 ghost use Rattle.plan_ask.specs.Asking.{Solvable};
 ghost use Rattle.plan_solve.specs.Planning.{passed, byPass};
 ghost use Rattle.pages.specs.Page.{Printable, tablePage, RingFits, nonePage, maxPage, maxRingPage};
@@ -158,7 +158,7 @@ fn print_solved(
     at: usize,
 ) -> Printed
     requires { let l = listed span (now first) (now last) (now from) (now to) (now low) (now high) in
-        ⌜ Solvable l (fitsRooms (given l) (lent (now table) (now plan) (now earliest) (now latest) (now ring))) ⌝ }
+        ⌜ Solvable l (roomsFit (given l) (planLent (lent (now table) (now plan) (now earliest) (now latest) (now ring)))) ⌝ }
     requires { ⌜ T (loadersFit (now loader)) × (length (now loader) ≡ length (now first)) ⌝ }
     ensures { λ r.
         let s = sheetOf span (now (first .entry)) (now (last .entry)) (now (from .entry)) (now (to .entry)) (now (low .entry)) (now (high .entry)) in
@@ -237,7 +237,7 @@ pub fn print(
         (now (page .entry)) at (says.replyOf r)
         (lent (now (table .exit)) (now (plan .exit)) (now (earliest .exit)) (now (latest .exit)) (now (ring .exit))) (now (page .exit)) ⌝ }
 {
-    let rooms = plan_ask::lengths_of(table, plan, earliest, latest, ring);
+    let rooms = plan_ask::for_plan(table, plan, earliest, latest, ring);
     let asked = plan_ask::ask(span, loader, first, last, from, to, low, high, rooms);
     match asked {
         Checked::No(refusal) => Printed::Refused(refusal),

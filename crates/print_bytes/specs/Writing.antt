@@ -5,7 +5,8 @@ use mathlib.Core.List.{List, [], _∷_, _++_}
 use Prim.Native.Nat.{ℕ, _+_, _≤_}
 use lib.ListN.{length, take, drop}
 use Rattle.forms.specs.Form.{Piece, word, number}
-use Rattle.forms.specs.Forms.{planHeadForm, unitLineForm, carriedLineForm, slotLineForm, noneHeadForm, atMostForm, atLeastForm, shortfallForm, refusedForm}
+use Rattle.forms.specs.Forms.{planHeadForm, unitLineForm, carriedLineForm, slotLineForm, fitsHeadForm, rangeLineForm}
+use Rattle.forms.specs.Forms.{noneHeadForm, atMostForm, atLeastForm, shortfallForm, refusedForm}
 use Rattle.forms.specs.Decimal.{formLine}
 
 -- the page with these bytes from the place on, and nothing else changed
@@ -36,6 +37,12 @@ carriedLine loader earliest latest = formLine carriedLineForm (loader ∷ earlie
 unfoldable pub slotLine : ℕ → ℕ → ℕ → ℕ → List ℕ
 slotLine slot count least greatest = formLine slotLineForm (slot ∷ count ∷ least ∷ greatest ∷ [])
 
+unfoldable pub fitsHead : ℕ → List ℕ
+fitsHead units = formLine fitsHeadForm (units ∷ [])
+
+unfoldable pub rangeLine : ℕ → ℕ → ℕ → List ℕ
+rangeLine slot least greatest = formLine rangeLineForm (slot ∷ least ∷ greatest ∷ [])
+
 unfoldable pub noneHead : List ℕ
 noneHead = formLine noneHeadForm []
 
@@ -63,3 +70,6 @@ oneNumber first end = word first ∷ number ∷ noNumber end
 
 abbrev pub twoNumbers : List ℕ → List ℕ → List ℕ → List Piece
 twoNumbers first second end = word first ∷ number ∷ oneNumber second end
+
+abbrev pub threeNumbers : List ℕ → List ℕ → List ℕ → List ℕ → List Piece
+threeNumbers first second third end = word first ∷ number ∷ twoNumbers second third end

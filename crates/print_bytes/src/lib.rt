@@ -1,8 +1,8 @@
 ghost use mathlib.Core.List.{_++_, _∷_, []};
 ghost use Prim.Native.Nat.{_<_, _≤_};
 ghost use Rattle.forms.specs.Decimal.{digits, formLine};
-ghost use Rattle.print_bytes.specs.Writing.{Room, Written, unitLine, carriedLine, slotLine};
-ghost use Rattle.print_bytes.specs.Writing.{noNumber, oneNumber, twoNumbers};
+ghost use Rattle.print_bytes.specs.Writing.{Room, Written, unitLine, carriedLine, slotLine, rangeLine};
+ghost use Rattle.print_bytes.specs.Writing.{noNumber, oneNumber, twoNumbers, threeNumbers};
 
 // Words, numbers and lines, written into a slice from a place on. Each function gives the place just past what it wrote; that the slice holds it is
 // asked of the caller, so that no byte is asked whether it fits.
@@ -93,7 +93,7 @@ pub fn put_pair(page: &mut [u8], at: usize, word: &[u8], n: u16) -> usize
     put_number(page, next, n)
 }
 
-// A line of no number, of one number and of two: its words and numbers, and a line feed.
+// A line of no number, of one number, of two and of three: its words and numbers, and a line feed.
 pub fn put_no_number(page: &mut [u8], at: usize, end: &[u8]) -> usize
     requires { ⌜ Room (now page) at (formLine (noNumber (now end)) []) ⌝ }
     ensures { λ r. ⌜ Written (now (page .entry)) at (formLine (noNumber (now (end .entry))) []) (now (page .exit)) r ⌝ }
@@ -128,19 +128,58 @@ pub fn put_two_numbers(
     put_one_number(page, next, second, b, end)
 }
 
+pub fn put_three_numbers(
+    page: &mut [u8],
+    at: usize,
+    first: &[u8],
+    a: u16,
+    second: &[u8],
+    b: u16,
+    third: &[u8],
+    c: u16,
+    end: &[u8],
+) -> usize
+    requires { ⌜ Room (now page) at (formLine (threeNumbers (now first) (now second) (now third) (now end)) (a ∷ b ∷ c ∷ [])) ⌝ }
+    ensures { λ r. ⌜ Written (now (page .entry)) at
+        (formLine (threeNumbers (now (first .entry)) (now (second .entry)) (now (third .entry)) (now (end .entry))) (a ∷ b ∷ c ∷ []))
+        (now (page .exit)) r ⌝ }
+{
+    let next = put_pair(page, at, first, a);
+    put_two_numbers(page, next, second, b, third, c, end)
+}
+
 // The line of a unit that is carried over into the next wave.
 pub fn put_carried(page: &mut [u8], at: usize, loader: u16, earliest: u16, latest: u16) -> usize
     requires { ⌜ Room (now page) at (carriedLine loader earliest latest) ⌝ }
     ensures { λ r. ⌜ Written (now (page .entry)) at (carriedLine loader earliest latest) (now (page .exit)) r ⌝ }
 {
-    let next = put_pair(page, at, b"(unit ", loader);
-    put_two_numbers(
+    put_three_numbers(
         page,
-        next,
+        at,
+        b"(unit ",
+        loader,
         b" (carried) (between ",
         earliest,
         b" ",
         latest,
+        b"))",
+    )
+}
+
+// The line of a slot on the page of a sheet that fits.
+pub fn put_range(page: &mut [u8], at: usize, slot: u16, least: u16, greatest: u16) -> usize
+    requires { ⌜ Room (now page) at (rangeLine slot least greatest) ⌝ }
+    ensures { λ r. ⌜ Written (now (page .entry)) at (rangeLine slot least greatest) (now (page .exit)) r ⌝ }
+{
+    put_three_numbers(
+        page,
+        at,
+        b"(slot ",
+        slot,
+        b" (range ",
+        least,
+        b" ",
+        greatest,
         b"))",
     )
 }

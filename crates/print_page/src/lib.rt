@@ -9,19 +9,20 @@ ghost use Rattle.sheet.specs.Sizes.{maxSlots, maxUnits, boundariesOf};
 ghost use Rattle.forms.specs.Decimal.{formLine};
 ghost use Rattle.print_bytes.specs.Writing.{Room, Written};
 ghost use Rattle.pages.specs.Page.{placedLine, unitLines, slotLines, slotCounts, leastFrom, greatestFrom, Printable, tablePage};
-ghost use Rattle.pages.specs.Page.{boundForm, stepLine, ringLines, shortfallOf, nonePage, RingFits};
+ghost use Rattle.pages.specs.Page.{rangeLines, fitsPage, boundForm, stepLine, ringLines, shortfallOf, nonePage, RingFits};
 use network::entry_at;
 use print_bytes::put_carried;
 use print_bytes::put_no_number;
 use print_bytes::put_one_number;
-use print_bytes::put_pair;
+use print_bytes::put_range;
 use print_bytes::put_slot;
+use print_bytes::put_three_numbers;
 use print_bytes::put_unit;
 use sheet::Sheet;
 use slots::Boundary;
 use slots::Slot;
 
-// The answer page, that of a plan and that of a ring, written into a slice from a place on.
+// The answer page, that of a plan, of a sheet that fits and of a ring, written into a slice from a place on.
 
 // No answer is longer: the head, a line of 38 bytes for each unit, whose loader number has at most four digits, and one of 38 for each slot.
 pub const MAX_PAGE: usize = 18 + 38 * Sheet::MAX_UNITS + 38 * Sheet::MAX_SLOTS;
@@ -166,16 +167,54 @@ pub fn put_plan(
     put_slots(page, next2, span, &counts, table)
 }
 
+fn put_ranges(page: &mut [u8], at: usize, span: usize, table: &[i16]) -> usize
+    requires { ⌜ (span ≤ maxSlots) × (boundariesOf span * boundariesOf span ≤ length (now table)) ⌝ }
+    requires { ⌜ Room (now page) at (rangeLines span (leastFrom (boundariesOf span) (now table)) (greatestFrom (boundariesOf span) (now table))) ⌝ }
+    ensures { λ r. ⌜ Written (now (page .entry)) at
+        (rangeLines span (leastFrom (boundariesOf span) (now (table .entry))) (greatestFrom (boundariesOf span) (now (table .entry))))
+        (now (page .exit)) r ⌝ }
+{
+    let mut next = at;
+    let mut slot = 1;
+    while slot <= span {
+        let least = least_of(table, span, Slot(slot));
+        let greatest = greatest_of(table, span, Slot(slot));
+        next = put_range(page, next, slot as u16, least, greatest);
+        slot += 1;
+    }
+    next
+}
+
+// The page of a sheet that fits: its head and a line for each slot.
+pub fn put_fits(page: &mut [u8], at: usize, span: usize, units: usize, table: &[i16]) -> usize
+    requires { ⌜ (span ≤ maxSlots) × (units ≤ maxUnits) × (boundariesOf span * boundariesOf span ≤ length (now table)) ⌝ }
+    requires { ⌜ Room (now page) at
+        (fitsPage span units (leastFrom (boundariesOf span) (now table)) (greatestFrom (boundariesOf span) (now table))) ⌝ }
+    ensures { λ r. ⌜ Written (now (page .entry)) at
+        (fitsPage span units (leastFrom (boundariesOf span) (now (table .entry))) (greatestFrom (boundariesOf span) (now (table .entry))))
+        (now (page .exit)) r ⌝ }
+{
+    let next = put_one_number(page, at, b"(answer fits ", units as u16, b")");
+    put_ranges(page, next, span, table)
+}
+
 // The line of a step, by its first word.
 fn put_bound(page: &mut [u8], at: usize, word: &[u8], bound: u16, first: Slot, last: Slot) -> usize
     requires { ⌜ (first .0 < 2 ^ 16) × (last .0 < 2 ^ 16) ⌝ }
     requires { ⌜ Room (now page) at (formLine (boundForm (now word)) (bound ∷ first .0 ∷ last .0 ∷ [])) ⌝ }
     ensures { λ r. ⌜ Written (now (page .entry)) at (formLine (boundForm (now (word .entry))) (bound ∷ first .0 ∷ last .0 ∷ [])) (now (page .exit)) r ⌝ }
 {
-    let next = put_pair(page, at, word, bound);
-    let next2 = put_pair(page, next, b" (slots ", first.0 as u16);
-    let next3 = put_pair(page, next2, b" ", last.0 as u16);
-    put_no_number(page, next3, b"))")
+    put_three_numbers(
+        page,
+        at,
+        word,
+        bound,
+        b" (slots ",
+        first.0 as u16,
+        b" ",
+        last.0 as u16,
+        b"))",
+    )
 }
 
 // The step from boundary a to boundary b, with the sheet's own limit.

@@ -7,7 +7,8 @@ use lib.IntN.{ℤ}
 use Rattle.sheet.specs.Sheet.{boundaries}
 use Rattle.sheet.specs.Lists.{Lists, listed, given}
 use Rattle.plan_ask.specs.Questions.{places}
-use Rattle.plan_solve.specs.SolvingLaws.{decide-hold, limits-asked, ring-asked, ring-left, fits-left}
+use Rattle.plan_ask.specs.RoomsLaws.{decide-hold}
+use Rattle.plan_solve.specs.SolvingLaws.{limits-asked, ring-asked, ring-left, fits-left}
 use Rattle.plan_solve.proofs.decide.Statement.{statement}
 use Rattle.plan_solve.proofs.decide.Tie as tie
 

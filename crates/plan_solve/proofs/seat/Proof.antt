@@ -8,11 +8,12 @@ use lib.IntN.{ℤ}
 use Rattle.network.specs.Table.{finished}
 use Rattle.sheet.specs.Lists.{Lists, listed, given}
 use Rattle.plan_ask.specs.Questions.{seatLengths, places}
+use Rattle.plan_ask.specs.RoomsLaws.{SeatsHold, seat-hold}
 use Rattle.plan_ask.specs.AskingLaws.{span-bound}
 use Rattle.plan_ask.specs.declared.Seats.{Seats}
 use Rattle.plan_solve.specs.Planning.{passed, tableIn}
 use Rattle.plan_solve.specs.Filling.{Ready}
-use Rattle.plan_solve.specs.SolvingLaws.{SeatsHold, seat-hold, limits-asked, seats-asked, ready, seats-left, none-seated, closed-table}
+use Rattle.plan_solve.specs.SolvingLaws.{limits-asked, seats-asked, ready, seats-left, none-seated, closed-table}
 use Rattle.plan_solve.proofs.seat.Statement.{statement}
 use Rattle.plan_solve.proofs.seat.Tie as tie
 

@@ -9,11 +9,12 @@ use Rattle.network.specs.Table.{finished}
 use Rattle.sheet.specs.Sheet.{boundaries}
 use Rattle.sheet.specs.Lists.{Lists, listed, given}
 use Rattle.plan_ask.specs.Questions.{decideRooms, seatLengths, places}
+use Rattle.plan_ask.specs.RoomsLaws.{SeatsHold, plan-holds, plan-decides}
 use Rattle.plan_ask.specs.AskingLaws.{span-bound}
 use Rattle.plan_ask.specs.declared.Seats.{Seats}
 use Rattle.plan_solve.specs.Planning.{passed, byPass, tableIn, DecideSettled}
 use Rattle.plan_solve.specs.Filling.{Ready}
-use Rattle.plan_solve.specs.SolvingLaws.{SeatsHold, plan-holds, plan-decides, seats-asked, ready, plan-left, decided-fits, decided-none}
+use Rattle.plan_solve.specs.SolvingLaws.{seats-asked, ready, plan-left, decided-fits, decided-none}
 use Rattle.plan_solve.specs.Reply.{Reply, fitReply}
 use Rattle.plan_solve.proofs.solve.Statement.{statement}
 use Rattle.plan_solve.proofs.solve.Tie as tie

@@ -12,7 +12,7 @@ use lib.IntN.{ℤ, pos}
 use Rattle.network.specs.Table.{finished, stopped}
 use Rattle.sheet.specs.Sheet.{Sheet, isRing}
 use Rattle.sheet.specs.Lists.{Lists, listed, given}
-use Rattle.plan_ask.specs.Questions.{Rooms, lent, fitsRooms}
+use Rattle.plan_ask.specs.Questions.{Rooms, lent}
 use Rattle.plan_ask.specs.AskingLaws.{span-bound}
 use Rattle.plan_solve.specs.Planning.{passed, byPass, Settled}
 use Rattle.plan_solve.specs.Reply.{Reply, fitReply}
@@ -101,7 +101,7 @@ solve-requires : tie.Need-solve-requires
 solve-requires c κs =
     let s : tie.Start =
     c .before .before .before .before .before .before .before .before .before .before .before .before .before .before .before .before .before in
-    own-solvable (lists s) (fitsRooms (given (lists s)) (before s)) (s .pre .0)
+    own-solvable (lists s) _ (s .pre .0)
 
 boundaries-requires : tie.Need-boundaries-requires
 boundaries-requires c κs = let s = start (c .before .before .before .before .before) in span-bound (lists s) (s .pre .0 .sheet)
