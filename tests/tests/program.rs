@@ -49,8 +49,8 @@ fn words() {
     }
     let long = "fits".repeat(10_000);
     let unknown = [
-        "", "f", "fit", "fitss", "fits ", " fits", "Fits", "FITS", "fots", "p", "pla", "plann", "plan ", "Plan", "plam", "plan fits", "fits\n", "fits=1", "decide",
-        "seat", "-h", "--help", "--", "(sheet 4)", &long,
+        "", "f", "fit", "fitss", "fits ", " fits", "Fits", "FITS", "fots", "fits\n", "fits=1", "p", "pla", "plann", "plan ", " plan", "Plan", "plam", "slan",
+        "plan fits", "decide", "seat", "-h", "--help", "--", "(sheet 4)", &long,
     ];
     let two: [&[&str]; 10] = [
         &["plan", "plan"], &["fits", "fits"], &["plan", "fits"], &["fits", "plan"], &["fits", ""], &["", "fits"], &["plan", ""], &["", ""],
