@@ -71,14 +71,16 @@ pub fn run_with(words: &[impl AsRef<OsStr>], text: &[u8], parts: &[usize], pause
 }
 
 /// The model's answer to a text: its refusal, or its sheet and what a plan leaves, if there is one.
-fn answer(text: &[u8]) -> Result<(Sheet, Option<Solved>), Refusal> {
+pub type Answer = Result<(Sheet, Option<Solved>), Refusal>;
+
+pub fn answer(text: &[u8]) -> Answer {
     let sheet = read(text)?;
     let small = sheet.units.len() <= 5 && sheet.span <= 5;
     let solved = if small { enumerated::solve(&sheet) } else { computed::solve(&sheet) };
     Ok((sheet, solved))
 }
 
-fn page_fault(asked: Asked, answer: &Result<(Sheet, Option<Solved>), Refusal>, written: &[u8]) -> Option<String> {
+fn page_fault(asked: Asked, answer: &Answer, written: &[u8]) -> Option<String> {
     match answer {
         Ok((sheet, solved)) => match asked {
             Asked::Plan => page::fault(sheet, solved.as_ref(), written),
@@ -101,10 +103,14 @@ pub fn output_fault(asked: Asked, text: &[u8], written: &[u8]) -> Option<String>
 /// Runs the program on a text sent whole, for its plan and for whether it fits, and says what is wrong. Where there is no plan, the two
 /// pages are the same.
 pub fn fault(text: &[u8]) -> Option<String> {
-    let answer = answer(text);
+    answered_fault(text, &answer(text))
+}
+
+/// The same, with the model's answer at hand.
+pub fn answered_fault(text: &[u8], answer: &Answer) -> Option<String> {
     let [plan, fits] = [Asked::Plan, Asked::Fits].map(|asked| run(asked, text, &[], None));
     let same_due = !matches!(answer, Ok((_, Some(_))));
-    page_fault(Asked::Plan, &answer, &plan)
-        .or_else(|| page_fault(Asked::Fits, &answer, &fits).map(|fault| format!("fits: {fault}")))
+    page_fault(Asked::Plan, answer, &plan)
+        .or_else(|| page_fault(Asked::Fits, answer, &fits).map(|fault| format!("fits: {fault}")))
         .or_else(|| (same_due && plan != fits).then(|| format!("fits: another page:\n{}", String::from_utf8_lossy(&fits))))
 }

@@ -6,17 +6,21 @@ use std::os::unix::ffi::OsStringExt;
 use std::time::Duration;
 
 use model::damage::{any_text, note_of_depth, valid, with_notes};
-use model::program::{fault, output_fault, run, run_with, Asked};
+use model::program::{answer, answered_fault, fault, output_fault, run, run_with, Asked};
 use model::random::{any_sheet, largest_sheet, small_sheet, Random, Reach};
 use model::reading::read;
 use model::tally::{self, Tally, CARRIES, NONE, PLAN};
-use model::{cases, effort, enumerated, seed};
+use model::{cases, effort, seed};
 
 /// Runs the program on a text, for its plan and for whether it fits, counts the case, and fails where anything differs from the model.
 fn hold(tally: &mut Tally, text: &[u8]) {
     let case = tally.all();
-    tally.add(read(text).map_or_else(|r| r.number, |_| 0), "answered");
-    if let Some(fault) = fault(text) {
+    let answer = answer(text);
+    match &answer {
+        Ok((sheet, solved)) => tally.add(0, tally::answer(sheet, solved.as_ref())),
+        Err(refusal) => tally.add(refusal.number, "refused"),
+    }
+    if let Some(fault) = answered_fault(text, &answer) {
         panic!("seed {} case {case}: {:?}\n{fault}", tally.seed(), String::from_utf8_lossy(text));
     }
 }
@@ -189,10 +193,7 @@ fn texts_that_are_too_long() {
 fn small_sheets() {
     let mut tally = Tally::new("the program on small sheets, all plans tried", seed(405));
     for i in 0..effort(4_000) {
-        let sheet = small_sheet(&mut Random::of_case(seed(405), i));
-        let solved = enumerated::solve(&sheet);
-        tally.add(0, tally::answer(&sheet, solved.as_ref()));
-        assert_eq!(fault(&sheet.text()), None, "seed {} case {i}: {sheet:?}", seed(405));
+        hold(&mut tally, &small_sheet(&mut Random::of_case(seed(405), i)).text());
     }
     tally.report();
     for (answer, share) in [(PLAN, 4), (NONE, 4), (CARRIES, 10)] {
@@ -209,6 +210,9 @@ fn sheets_at_random() {
         hold(&mut tally, &with_notes(&mut r, &sheet));
     }
     tally.report();
+    for (answer, share) in [(PLAN, 4), (NONE, 10), (CARRIES, 20)] {
+        assert!(share * tally.count(answer) > tally.all(), "too few {answer}");
+    }
 }
 
 #[test]
@@ -229,5 +233,8 @@ fn damaged_texts() {
     tally.report();
     for number in [2, 3, 4, 5, 6, 7, 8, 11, 16] {
         assert!(2_000 * tally.refused_by(number) > tally.all(), "{number} refuses too seldom");
+    }
+    for answer in [PLAN, NONE] {
+        assert!(50 * tally.count(answer) > tally.all(), "too few {answer}");
     }
 }
