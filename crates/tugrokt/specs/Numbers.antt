@@ -5,14 +5,15 @@ use Prim.Native.Nat.{ℕ}
 use Rattle.sheet.specs.Sheet.{Sheet}
 use Rattle.sheet.specs.Lists.{WrittenLists}
 use Rattle.read_ask.specs.Reading as reading
-use Rattle.plan_ask.specs.Questions.{Rooms}
-use Rattle.plan_solve.specs.Planning.{Conclusion, Settled}
+use Rattle.plan_ask.specs.Questions.{Rooms, DecideRooms, SeatRooms}
+use Rattle.plan_solve.specs.Planning.{Conclusion, Settled, DecideSettled, SeatSettled}
 use Rattle.plan_solve.specs.Reply as planning
 use Rattle.print.specs.Printing as print
 use Rattle.print.specs.Reply as printing
 use Rattle.tugrokt.specs.declared.reading.Reading.{Reading}
 use Rattle.tugrokt.specs.declared.planning.Planning.{Planning}
 use Rattle.tugrokt.specs.declared.printing.Printing.{Printing}
+use Rattle.tugrokt.specs.declared.seating.Seating.{Seating}
 
 -- ---- reading
 
@@ -31,6 +32,25 @@ pub record PlanTold (v : Conclusion) (s : Sheet) (before : Rooms) (numbers : Pla
   pub reply : planning.Reply
   pub left : Settled v s before reply after
   pub told : numbers ≡ planningOf reply
+
+-- ---- deciding: the same, of its own rooms
+
+pub record DecideTold (v : Conclusion) (s : Sheet) (before : DecideRooms) (numbers : Planning) (after : DecideRooms) : Type 0 where
+  pub reply : planning.Reply
+  pub left : DecideSettled v s before reply after
+  pub told : numbers ≡ planningOf reply
+
+-- ---- seating: 1 for a plan, and 0 for none, whose reply has no ring
+
+abbrev pub seatingOf : planning.Reply → Seating
+seatingOf (planning.refused q n) = record { number = q; line = n; planned = 0 }
+seatingOf planning.plan = record { number = 0; line = 0; planned = 1 }
+seatingOf (planning.none k) = record { number = 0; line = 0; planned = 0 }
+
+pub record SeatTold (v : Conclusion) (s : Sheet) (before : SeatRooms) (numbers : Seating) (after : SeatRooms) : Type 0 where
+  pub reply : planning.Reply
+  pub left : SeatSettled v s before reply after
+  pub told : numbers ≡ seatingOf reply
 
 -- ---- printing: likewise, and the page; the place of a refusal is the one that was given
 

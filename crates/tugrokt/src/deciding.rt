@@ -1,0 +1,55 @@
+ghost use mathlib.Core.Path.{_≡_};
+ghost use Rattle.sheet.specs.Lists.{writtenLists, givenBy};
+ghost use Rattle.plan_ask.specs.Questions.{decideRooms, decideLent};
+ghost use Rattle.plan_solve.specs.Planning.{conclusionIn};
+ghost use Rattle.plan_solve.specs.Reply.{decisionReply};
+ghost use Rattle.tugrokt.specs.Numbers.{planningOf, DecideTold};
+use crate::planning::Planning;
+use plan_solve::Decision;
+
+// The reply as numbers: those of planning, whose plan is that the sheet fits.
+fn numbers_of(decision: Decision) -> Planning
+    ensures { λ r. ⌜ r ≡ planningOf (decisionReply decision) ⌝ }
+{
+    match decision {
+        Decision::Refused(refusal) => Planning {
+            number: refusal.number,
+            line: refusal.line,
+            length: 0,
+        },
+        Decision::Fits => Planning {
+            number: 0,
+            line: 0,
+            length: 0,
+        },
+        Decision::None(k) => Planning {
+            number: 0,
+            line: 0,
+            length: k,
+        },
+    }
+}
+
+// Decides from lists whether the sheet fits.
+#[no_mangle]
+pub extern "C" fn tugrokt_decide(
+    span: usize,
+    loader: &[u16],
+    first: &[u16],
+    last: &[u16],
+    from: &[u16],
+    to: &[u16],
+    low: &[u16],
+    high: &[u16],
+    table: &mut [i16],
+    ring: &mut [u16],
+) -> Planning
+    ensures { λ r.
+        let l = writtenLists span (now (loader .entry)) (now (first .entry)) (now (last .entry))
+        (now (from .entry)) (now (to .entry)) (now (low .entry)) (now (high .entry)) in
+        let before = decideRooms (now (table .entry)) (now (ring .entry)) in
+        ⌜ DecideTold (conclusionIn l (decideLent before)) (givenBy l) before r (decideRooms (now (table .exit)) (now (ring .exit))) ⌝ }
+{
+    let decision = plan::decide(span, loader, first, last, from, to, low, high, table, ring);
+    numbers_of(decision)
+}
