@@ -117,8 +117,8 @@ module _ {span : ℕ} {loader slots first last : List ℕ} {low high : ℕ → �
   units-short : length (unitLines span loader slots first last) ≤ length slots * maxUnitLine
   unfolding unitLines unitLineAt
   units-short = lines-short (unitLineAt span loader slots first last) maxUnitLine 0 (length slots)
-      (λ j p q. let b = s .windows j in placedLine-short span (getD loader j 0) (getD slots j 0) (getD first j 0) (getD last j 0)
-      (omega (arith, s .spans)) (omega (arith, s .loaders j)) (omega arith) (omega arith))
+      (λ j p q. let b = s .windows j in
+      placedLine-short span _ _ _ _ (omega (arith, s .spans)) (omega (arith, s .loaders j)) (omega arith) (omega arith))
 
   slots-short : length (slotLines span (unitsAt slots) low high) ≤ span * maxSlotLine
   unfolding slotLines slotLineAt

@@ -30,7 +30,7 @@ use Rattle.plan_solve.specs.Planning.{passed}
 use Rattle.plan_solve.specs.PlanningLaws.{passed-solved}
 use Rattle.pages.specs.Page.{Printable, tablePage, leastFrom, greatestFrom, fitsPage, RingFits, nonePage, maxPage, maxRingPage}
 use Rattle.pages.specs.PageLaws.{SameSlots, planPage-same, fitsPage-same, nonePage-same}
-use Rattle.pages.specs.PageBounds.{RingRead, ring-read, plan-short, fits-short, none-fits}
+use Rattle.pages.specs.PageBounds.{RingRead, ring-read, plan-short, none-fits}
 use Rattle.pages.specs.SheetPages.{planBytes, fitsBytes, ringBytes}
 
 module _ (s : Sheet) (ok : T (accepted s)) where
@@ -106,10 +106,6 @@ module _ (s : Sheet) (ok : T (accepted s)) where
     pub fits-bytes : fitsPage (s .span) (length (s .units)) (leastFrom (boundariesOf (s .span)) t) (greatestFrom (boundariesOf (s .span)) t) ≡ fitsBytes s
     unfolding fitsBytes
     fits-bytes = fitsPage-same (s .span) (length (s .units)) least-same greatest-same
-
-    pub fits-fits : length (fitsPage (s .span) (length (s .units)) (leastFrom (boundariesOf (s .span)) t) (greatestFrom (boundariesOf (s .span)) t)) ≤ maxPage
-    unfolding fitsBytes
-    fits-fits = omega (arith, ap length fits-bytes, fits-short s ok)
 
   -- ---- a ring, and the table of the limits in front of some room
   module _ (ring : List ℕ) (h : T (isRing s ring)) (room : List ℤ) (fits : places s ≤ length room) where

@@ -99,7 +99,7 @@ pub word-line : (w : List ℕ) → Parts (formLine (word w ∷ []) []) w (lineFe
 unfolding written
 word-line w = record { same = ap (λ r. r ++ (lineFeed ∷ [])) (append-nil w) }
 
--- a line is its pairs of a word and a number, and then its end
+-- a line is its words and numbers, each by itself, and then its end
 abbrev pub pairsForm : List (List ℕ × ℕ) → List ℕ → List Piece
 pairsForm [] end = word end ∷ []
 pairsForm (p ∷ ps) end = word (p .0) ∷ number ∷ pairsForm ps end
@@ -108,16 +108,6 @@ abbrev pub pairsNumbers : List (List ℕ × ℕ) → List ℕ
 pairsNumbers [] = []
 pairsNumbers (p ∷ ps) = p .1 ∷ pairsNumbers ps
 
-abbrev pub pieces : List (List ℕ × ℕ) → List ℕ → List (List ℕ)
-pieces [] end = formLine (word end ∷ []) [] ∷ []
-pieces (p ∷ ps) end = (p .0 ++ digits (p .1)) ∷ pieces ps end
-
-pub line-pieces : (ps : List (List ℕ × ℕ)) (end : List ℕ) → formLine (pairsForm ps end) (pairsNumbers ps) ≡ joined (pieces ps end)
-line-pieces [] end = sym (append-nil (formLine (word end ∷ []) []))
-line-pieces (p ∷ ps) end =
-    pair-line (p .0) (p .1) (pairsForm ps end) (pairsNumbers ps) .same ∙ ap (λ r. (p .0 ++ digits (p .1)) ++ r) (line-pieces ps end)
-
--- the same with each word and each number by itself
 abbrev pub words : List (List ℕ × ℕ) → List ℕ → List (List ℕ)
 words [] end = formLine (word end ∷ []) [] ∷ []
 words (p ∷ ps) end = p .0 ∷ digits (p .1) ∷ words ps end

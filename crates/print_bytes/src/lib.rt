@@ -85,7 +85,7 @@ fn put_number(page: &mut [u8], at: usize, n: u16) -> usize
 }
 
 // A word, and a number behind it.
-pub fn put_pair(page: &mut [u8], at: usize, word: &[u8], n: u16) -> usize
+fn put_pair(page: &mut [u8], at: usize, word: &[u8], n: u16) -> usize
     requires { ⌜ Room (now page) at (now word ++ digits n) ⌝ }
     ensures { λ r. ⌜ Written (now (page .entry)) at (now (word .entry) ++ digits n) (now (page .exit)) r ⌝ }
 {

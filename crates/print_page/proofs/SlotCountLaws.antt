@@ -34,7 +34,8 @@ counted-none plan counts e = record {
 
 pub counted-small : {plan : List ℕ} {j : ℕ} {counts : List ℕ} → Counted plan j counts → (t : ℕ) → t < maxBoundaries → getD counts t 0 ≤ j
 counted-small {plan} {j} {counts} c t h =
-    omega (arith, c .each t h, howMany-count (eqb t) 0 (take j plan), count-most (length (take j plan)) (λ i. eqb t (getD (take j plan) i 0)), length-take j plan)
+    let front = take j plan in
+    omega (arith, c .each t h, howMany-count (eqb t) 0 front, count-most (length front) (λ i. eqb t (getD front i 0)), length-take j plan)
 
 module _ {plan : List ℕ} {j : ℕ} {counts : List ℕ} (less : j < length plan) (c : Counted plan j counts) where
   one-more : (t : ℕ) → unitsAt (take (j + 1) plan) t ≡ unitsAt (take j plan) t + oneIf (eqb t (getD plan j 0))

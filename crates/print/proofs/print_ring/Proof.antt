@@ -45,7 +45,10 @@ returns c =
     let a = start o .args in
     asked-yes (now (a .page)) (a .at) (bytes (start o)) (o .put-none .result) (size o) (p .before .holds .result) (p .before .holds .ensures) _ _ _ _ _ _
     (p .if1 .taken) (c .before .before .write .result) (rw (part o) at (c .before .before .write .ensures)) refl
-    (rw (c .before .before .before .before .before .before .before .before .before .before .clear .ensures, c .before .before .before .before .before .before .before .copy-list .ensures) refl)
+    (rw (
+      c .before .before .before .before .before .before .before .before .before .before .clear .ensures,
+      c .before .before .before .before .before .before .before .copy-list .ensures,
+    ) refl)
 
 returns-2 : tie.Need-returns-2
 returns-2 c =
@@ -55,7 +58,8 @@ returns-2 c =
     (c .if1 .left) refl refl refl
 
 pub print-ring-spec : {M : Type 1} → statement M
-print-ring-spec = tie.close (tie.spec (λ c. search needs) (λ c κs. let s = c .before .before .before .before in (s .pre .0, own-room maxRingPage (s .pre .1 .1)))
+print-ring-spec = tie.close (tie.spec (λ c. search needs)
+    (λ c κs. let s = c .before .before .before .before in (s .pre .0, own-room maxRingPage (s .pre .1 .1)))
     (λ c κs. tt) (λ c. search needs) (λ c κs. c .before .before .before .before .before .before .before .before .before .pre .1 .0 .0)
     (λ c κs. c .before .before .before .before .before .before .before .before .before .before .before .before .pre .1 .0 .1)
     (λ c. long (c .before .before .before .before .before .before .before .before .before .before .before))

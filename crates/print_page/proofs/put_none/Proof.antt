@@ -39,7 +39,9 @@ put-one-number-requires c κs =
     (c .before .before .before .before .before .before .put-steps .ensures)))
 
 same-length : tie.Need-same-length
-same-length c = c .before .before .put-one-number .kept .0 ∙ c .before .before .before .before .before .before .before .before .before .put-steps .kept .0 ∙ c .before .before .before .before .before .before .before .before .before .before .before .before .before .put-no-number .kept .0
+same-length c =
+    c .before .before .put-one-number .kept .0 ∙ c .before .before .before .before .before .before .before .before .before .put-steps .kept .0
+    ∙ c .before .before .before .before .before .before .before .before .before .before .before .before .before .put-no-number .kept .0
 
 returns : tie.Need-returns
 unfolding noneHead shortfallLine text
@@ -52,4 +54,5 @@ returns c =
 
 pub put-none-spec : {M : Type 1} → statement M
 put-none-spec = tie.close (tie.spec (λ c. refl) put-no-number-requires put-steps-requires (λ c. refl)
-    (λ c κs. c .before .before .before .before .before .before .before .before .before .before .before .before .before .pre .0) (λ c. refl) put-one-number-requires same-length returns)
+    (λ c κs. c .before .before .before .before .before .before .before .before .before .before .before .before .before .pre .0)
+    (λ c. refl) put-one-number-requires same-length returns)
