@@ -64,7 +64,7 @@ fn the_word_is_handed_on() {
     assert_eq!(end(start_with(&["fits"], "fits_refused", b"(sheet 49)\n")), (2, "(refused 6 (line 1))\n".into(), String::new()));
     assert_eq!(end(start_with(&["fits"], "fits_empty", b"")), (2, "(refused 5 (line 0))\n".into(), String::new()));
     assert_eq!(end(start_with(&["plan"], "word_plan", &p2)), (0, cases::P2_PAGE.into(), String::new()));
-    for words in [&["fit"][..], &["--help"], &["fits", "plan"], &["plan", "fits"], &["fits", "fits"]] {
+    for words in [&["fit"][..], &["--help"], &[""], &["fits", ""], &["fits", "plan"], &["plan", "fits"], &["fits", "fits"]] {
         let (status, page, said) = end(start_with(words, "no_word", &p2));
         assert_eq!((status, page.as_str()), (3, ""), "{words:?}");
         // The program's own lines with its words, and then the command's.
