@@ -1,6 +1,6 @@
--- The user's three conditions, of the answer to a text, in the words of lawful plans and of the page's own lines, all of them.
--- `call` is what the entry `answer` ensures of every call: `Answered (AnswerTo input)`, in Answer.antt, and `size` is its page's type. `page` and `left` are
--- the page before and after, `next` the place in the reply; `answerOn left 0 next` are the answer's lines, read back from the page's bytes.
+-- The user's three conditions, of the answer to what is asked of a text, in the words of lawful plans and of the page's own lines, all of them.
+-- `call` is what the entry `answer` ensures of every call: `Answered (AnswerTo query input)`, in Answer.antt, and `size` is its page's type. `page` and `left`
+-- are the page before and after, `next` the place in the reply; `answerOn left 0 next` are the answer's lines, read back from the page's bytes.
 -- Key idea: reading's first no decides, or the pass over the sheet's limits does, and what the page then says is known line by line.
 use mathlib.Core.Path.{_≡_, refl, sym, ap, _∙_, subst}
 use mathlib.Core.Logic.{_↔_}
@@ -10,9 +10,11 @@ use Prim.Native.Nat.{ℕ, _≤_}
 use native.Mathlib.Omega.{arith}
 use lib.Dec.{T}
 use lib.ListN.{length, length-map}
+use Rattle.network.specs.Network.{Weights}
 use Rattle.network.specs.Table.{Passed, finished, stopped, entry}
 use Rattle.sheet.specs.Sheet.{Sheet, WrittenSheet, constraints, loaders, lawful, boundaries, printedPlan}
 use Rattle.sheet.specs.QuestionLaws.{accepted-valid}
+use Rattle.sheet.specs.Solved.{Solved}
 use Rattle.read_ask.specs.Reading.{questions, roomsForAll, sheetIn}
 use Rattle.questions.specs.Questions.{Verdict, no, allYes, firstNo}
 use Rattle.read_ask.specs.AcceptedLaws.{reading-accepts, reading-loaders}
@@ -22,13 +24,15 @@ use Rattle.plan_ask.specs.SolvableLaws.{yes-asked}
 use Rattle.plan_solve.specs.Planning.{passed}
 use Rattle.plan_solve.specs.PlanningLaws.{passed-solved}
 use Rattle.pages.specs.Page.{maxPage}
-use Rattle.pages.specs.PageBounds.{plan-short, none-short}
+use Rattle.pages.specs.PageBounds.{plan-short, fits-short, none-short}
 use Rattle.pages.specs.PageLines.{Said, refused, readLines, answerOn}
 use Rattle.pages.specs.PageLinesLaws.{refused-read, answer-read}
-use Rattle.pages.specs.SheetPages.{planBytes, ringBytes}
-use Rattle.pages.specs.Pages.{PlanPage, NonePage}
-use Rattle.pages.specs.PagesLaws.{plan-page, none-page}
-use Rattle.answer.specs.Answer.{ByPass, ByReading, AnswerTo, Answered}
+use Rattle.pages.specs.SheetPages.{planBytes, fitsBytes, ringBytes}
+use Rattle.pages.specs.Pages.{PlanPage, FitsPage, NonePage}
+use Rattle.pages.specs.PagesLaws.{plan-page, fits-page, none-page}
+use Rattle.answer.specs.declared.Query.{Query}
+use Rattle.answer.specs.declared.Query.the-variants.{Plan, Fits}
+use Rattle.answer.specs.Answer.{pageOf, ByPass, ByReading, AnswerTo, Answered}
 use Rattle.answer.specs.FrontsLaws.{listsOf, passes-back}
 use Rattle.answer.specs.AnswerLaws.{refused-short, two-digits}
 
@@ -44,25 +48,28 @@ planning-accepts input e =
     yes-asked (listsOf w) true (passes-back w (reading-accepts input roomsForAll e) (reading-loaders input roomsForAll e)) tt
 
 -- ---- no answer is longer than the page that the program lends
-bytes-short : (input bytes : List ℕ) → AnswerTo input bytes → length bytes ≤ maxPage
-unfolding planBytes ringBytes
-bytes-short input bytes = by-reading (verdict input) refl
+bytes-short : (query : Query) (input bytes : List ℕ) → AnswerTo query input bytes → length bytes ≤ maxPage
+unfolding planBytes fitsBytes ringBytes
+bytes-short query input bytes = by-reading (verdict input) refl
   where
     w : WrittenSheet
     w = sheetIn input
 
-    by-pass : (p : Passed) → verdict input ≡ allYes → ByPass p (loaders w) (constraints w) bytes → length bytes ≤ maxPage
-    by-pass (finished t) e a =
-        omega (arith, ap length a, plan-short (constraints w) (reading-accepts input roomsForAll e) (loaders w) (reading-loaders input roomsForAll e))
+    by-query : (q : Query) → verdict input ≡ allYes → length (pageOf q (loaders w) (constraints w)) ≤ maxPage
+    by-query Plan e = plan-short (constraints w) (reading-accepts input roomsForAll e) (loaders w) (reading-loaders input roomsForAll e)
+    by-query Fits e = fits-short (constraints w) (reading-accepts input roomsForAll e)
+
+    by-pass : (p : Passed) → verdict input ≡ allYes → ByPass query p (loaders w) (constraints w) bytes → length bytes ≤ maxPage
+    by-pass (finished t) e a = omega (arith, ap length a, by-query query e)
     by-pass stopped e a = omega (arith, ap length (a .2), none-short (constraints w) (reading-accepts input roomsForAll e) (a .0) (a .1))
 
-    by-reading : (v : Verdict) → verdict input ≡ v → ByReading v w bytes → length bytes ≤ maxPage
+    by-reading : (v : Verdict) → verdict input ≡ v → ByReading query v w bytes → length bytes ≤ maxPage
     by-reading (no n l) e a =
         let r = reading-refusals input n l e in
         omega (arith, ap length a, refused-short n l (two-digits n (r .number-known)) (r .line-known))
     by-reading allYes e a = by-pass (passed (constraints w)) e a
 
-module _ (input page left : List ℕ) (next : ℕ) (call : Answered (AnswerTo input) page left next) (size : length page ≡ maxPage) where
+module _ (query : Query) (input page left : List ℕ) (next : ℕ) (call : Answered (AnswerTo query input) page left next) (size : length page ≡ maxPage) where
   abbrev pub w : WrittenSheet
   w = sheetIn input
 
@@ -76,39 +83,54 @@ module _ (input page left : List ℕ) (next : ℕ) (call : Answered (AnswerTo in
   lines = answerOn left 0 next
 
   lines-are : readLines (call .bytes) ≡ lines
-  lines-are = let short = bytes-short input (call .bytes) (call .answers) in sym (answer-read (record { fits = omega (arith, size) }) (call .written))
+  lines-are = let short = bytes-short query input (call .bytes) (call .answers) in sym (answer-read (record { fits = omega (arith, size) }) (call .written))
 
   -- ---- 1. Ground. (That a call ends and does nothing undefined is what the checker asks of every function; `answer` has no `requires`.)
 
   -- A text that reading refuses has the page of that refusal, one line with the first no's number and line.
   pub page-of-a-refusal : (q n : ℕ) → verdict input ≡ no q n → lines ≡ refused q n ∷ []
-  page-of-a-refusal q n e = sym lines-are ∙ ap readLines (subst (λ v. ByReading v w (call .bytes)) e (call .answers)) ∙ refused-read q n
+  page-of-a-refusal q n e = sym lines-are ∙ ap readLines (subst (λ v. ByReading query v w (call .bytes)) e (call .answers)) ∙ refused-read q n
 
   -- No answer is longer than the page that the program lends.
   pub answer-short : next ≤ maxPage
-  answer-short = omega (arith, call .written .moved, bytes-short input (call .bytes) (call .answers))
+  answer-short = omega (arith, call .written .moved, bytes-short query input (call .bytes) (call .answers))
 
-  -- ---- how a text that is not refused is answered: by a plan or by a ring
+  -- ---- how a text that is not refused is answered: by what was asked of a sheet that fits, or by a ring
+  abbrev pub FitPage : Query → Type 0
+  FitPage Plan = PlanPage ks s (printedPlan s) lines
+  FitPage Fits = FitsPage s lines
+
   data Way : Type 0 where
-    plan : PlanPage ks s (printedPlan s) lines → Way
+    fits : FitPage query → Way
     none : (ring : List ℕ) → NonePage s ring lines → Way
 
-  way : verdict input ≡ allYes → Way
-  way e = go (passed s) refl (subst (λ v. ByReading v w (call .bytes)) e (call .answers))
-    where
-      go : (p : Passed) → passed s ≡ p → ByPass p ks s (call .bytes) → Way
-      go (finished t) f b =
-          plan (subst (PlanPage ks s (printedPlan s)) (ap readLines (sym b) ∙ lines-are)
-          (plan-page ks s (entry (boundaries s) t) (passed-solved s (accepted-valid s (reading-accepts input roomsForAll e)) t f)
-          (reading-loaders input roomsForAll e) (length-map (w .units) (λ u. u .loader) ∙ sym (length-map (w .units) (λ u. u .window)))))
-      go stopped f b = none (b .0) (subst (NonePage s (b .0)) (ap readLines (sym (b .2)) ∙ lines-are) (none-page s (b .0) (b .1)))
+  module _ (all-yes : verdict input ≡ allYes) where
+    fit-page : (D : Weights) → Solved s D → (q : Query) → readLines (pageOf q ks s) ≡ lines → FitPage q
+    fit-page D solved Plan e =
+        subst (PlanPage ks s (printedPlan s)) e
+        (plan-page ks s D solved
+        (reading-loaders input roomsForAll all-yes) (length-map (w .units) (λ u. u .loader) ∙ sym (length-map (w .units) (λ u. u .window))))
+    fit-page D solved Fits e = subst (FitsPage s) e (fits-page s D solved)
+
+    way : Way
+    way = go (passed s) refl (subst (λ v. ByReading query v w (call .bytes)) all-yes (call .answers))
+      where
+        go : (p : Passed) → passed s ≡ p → ByPass query p ks s (call .bytes) → Way
+        go (finished t) f b =
+            let solved = passed-solved s (accepted-valid s (reading-accepts input roomsForAll all-yes)) t f in
+            fits (fit-page (entry (boundaries s) t) solved query (ap readLines (sym b) ∙ lines-are))
+        go stopped f b = none (b .0) (subst (NonePage s (b .0)) (ap readLines (sym (b .2)) ∙ lines-are) (none-page s (b .0) (b .1)))
 
   -- No text is refused by 12, and none by 15: a refusal is by a question that is asked of every text.
   never : (q n : ℕ) → lines ≡ refused q n ∷ [] → (T (asksText q) → ⊥) → ⊥
   never q n f other = by-reading (verdict input) refl
     where
+      by-query : (k : Query) → FitPage k → ⊥
+      by-query Plan p = let e = p .lines in let z : _≡_ {A = ℕ} 0 1 = cc in omega arith
+      by-query Fits p = let e = p .lines in let z : _≡_ {A = ℕ} 0 1 = cc in omega arith
+
       by-way : Way → ⊥
-      by-way (plan p) = let e = p .lines in let z : _≡_ {A = ℕ} 0 1 = cc in omega arith
+      by-way (fits p) = by-query query p
       by-way (none ring p) = let e = p .lines in let z : _≡_ {A = ℕ} 0 1 = cc in omega arith
 
       by-reading : (v : Verdict) → verdict input ≡ v → ⊥
@@ -126,20 +148,38 @@ module _ (input page left : List ℕ) (next : ℕ) (call : Answered (AnswerTo in
 
   -- ---- 2 and 3. A text that is not refused
   module _ (all-yes : verdict input ≡ allYes) where
-    -- gets the page of a plan exactly when some assignment meets all windows and all rules of the sheet in the text. What the page says, whole, is
-    -- `PlanPage`: the plan is lawful, has the seat property, and by the end of each slot, and of the carried place, no lawful plan has more; which units are
-    -- carried; each narrowed window and each slot's range.
-    pub plan-exactly-when-lawful : ((x : List ℕ) × PlanPage ks s x lines) ↔ ((x : List ℕ) × T (lawful s x))
-    plan-exactly-when-lawful = (λ p. (p .0, p .1 .legal), λ x. go (x .0) (x .1) (way all-yes))
+    -- gets what was asked of a sheet that fits where some assignment meets all windows and all rules of the sheet in the text,
+    page-if-lawful : (x : List ℕ) → T (lawful s x) → FitPage query
+    page-if-lawful x h = go (way all-yes)
       where
-        go : (x : List ℕ) → T (lawful s x) → Way → (x : List ℕ) × PlanPage ks s x lines
-        go x h (plan p) = (printedPlan s, p)
-        go x h (none ring p) = absurd (p .unlawful x h)
+        go : Way → FitPage query
+        go (fits p) = p
+        go (none ring p) = absurd (p .unlawful x h)
 
     -- else the page of a ring of the sheet's own limits, whole.
     pub ring-otherwise : ((x : List ℕ) → T (lawful s x) → ⊥) → (ring : List ℕ) × NonePage s ring lines
     ring-otherwise unlawful = go (way all-yes)
       where
+        by-query : (k : Query) → FitPage k → ⊥
+        by-query Plan p = unlawful (printedPlan s) (p .legal)
+        by-query Fits p = unlawful (p .some .0) (p .some .1)
+
         go : Way → (ring : List ℕ) × NonePage s ring lines
-        go (plan p) = absurd (unlawful (printedPlan s) (p .legal))
+        go (fits p) = absurd (by-query query p)
         go (none ring p) = (ring, p)
+
+-- Asked for a plan, it gets the page of one exactly when some assignment meets all windows and all rules of the sheet in the text. What the page says, whole,
+-- is `PlanPage`: the plan is lawful, has the seat property, and by the end of each slot, and of the carried place, no lawful plan has more; which units are
+-- carried; each narrowed window and each slot's range.
+pub plan-exactly-when-lawful : (input page left : List ℕ) (next : ℕ) → Answered (AnswerTo Plan input) page left next → length page ≡ maxPage
+    → verdict input ≡ allYes → let w = sheetIn input in
+    ((x : List ℕ) × PlanPage (loaders w) (constraints w) x (answerOn left 0 next)) ↔ ((x : List ℕ) × T (lawful (constraints w) x))
+plan-exactly-when-lawful input page left next call size all-yes =
+    (λ p. (p .0, p .1 .legal), λ x. (printedPlan (constraints (sheetIn input)), page-if-lawful Plan input page left next call size all-yes (x .0) (x .1)))
+
+-- Asked only whether it fits, it gets the page that says so exactly then. What that page says, whole, is `FitsPage`: the number of the sheet's units and each
+-- slot's range.
+pub fits-exactly-when-lawful : (input page left : List ℕ) (next : ℕ) → Answered (AnswerTo Fits input) page left next → length page ≡ maxPage
+    → verdict input ≡ allYes → let s = constraints (sheetIn input) in FitsPage s (answerOn left 0 next) ↔ ((x : List ℕ) × T (lawful s x))
+fits-exactly-when-lawful input page left next call size all-yes =
+    (λ p. p .some, λ x. page-if-lawful Fits input page left next call size all-yes (x .0) (x .1))

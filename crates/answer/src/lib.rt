@@ -1,14 +1,29 @@
-ghost use Prim.Native.Nat.{_≤_, _<_};
+ghost use mathlib.Core.Bool.{true};
+ghost use mathlib.Core.List.{List};
+ghost use Prim.Native.Nat.{ℕ, _≤_, _<_};
+ghost use lib.Dec.{T};
+ghost use lib.ListN.{length};
 ghost use Rattle.sheet.specs.Sizes.{maxBytes};
+ghost use Rattle.sheet.specs.Sheet.{isRing};
+ghost use Rattle.sheet.specs.Questions.{sheetOf};
+ghost use Rattle.sheet.specs.Lists.{listed, writtenLists, givenBy};
+ghost use Rattle.limits.specs.LimitTable.{Fillable};
+ghost use Rattle.plan_ask.specs.Asking.{Listed, Solvable};
 ghost use Rattle.read_ask.specs.Reading.{rooms};
-ghost use Rattle.sheet.specs.Lists.{givenBy};
 ghost use Rattle.print_bytes.specs.Writing.{Written, refusedLine};
+ghost use Rattle.pages.specs.SheetPages.{ringBytes};
 ghost use Rattle.answer.specs.Answer.{AnswerToSheet, AnswerTo, Answered};
 ghost use Rattle.answer.specs.Fronts.{fronts, Held};
-use print::Printed;
+use plan_solve::Fit;
 use print_page::MAX_PAGE;
 use read_ask::Reading;
 use sheet::Sheet;
+
+// What is asked of a sheet: its plan, or only whether there is one and how many units each slot may have.
+pub enum Query {
+    Plan,
+    Fits,
+}
 
 // No line of a refusal is longer: its question has at most two digits and its line number at most five.
 const MAX_REFUSAL: usize = 26;
@@ -31,8 +46,170 @@ fn refuse(page: &mut [u8; MAX_PAGE], number: usize, line: usize) -> usize
     print_writer::write(page, 0, &own[..length])
 }
 
-// The answer to the sheet that reading left at the front of the lists.
+// The page of a ring. Its limits are the sheet's own, which are worked out again.
+fn put_ring(
+    span: usize,
+    first: &[u16],
+    last: &[u16],
+    from: &[u16],
+    to: &[u16],
+    low: &[u16],
+    high: &[u16],
+    table: &mut [i16],
+    ring: &[u16],
+    page: &mut [u8; MAX_PAGE],
+) -> usize
+    requires { ⌜ Fillable span (now first) (now last) (now from) (now to) (now low) (now high) (length (now table))
+        × T (isRing (sheetOf span (now first) (now last) (now from) (now to) (now low) (now high)) (now ring)) ⌝ }
+    ensures { λ r.
+        let s = sheetOf span (now (first .entry)) (now (last .entry)) (now (from .entry)) (now (to .entry)) (now (low .entry)) (now (high .entry)) in
+        ⌜ Written (now (page .entry)) 0 (ringBytes s (now (ring .entry))) (now (page .exit)) r ⌝ }
+{
+    limits::fill::fill_limits(span, first, last, from, to, low, high, table);
+    print_page::put_none(page, 0, table, sheet::boundaries(span), ring)
+}
+
+// The plan of a sheet, or a ring.
+fn plan_sheet(
+    span: usize,
+    loader: &[u16],
+    first: &[u16],
+    last: &[u16],
+    from: &[u16],
+    to: &[u16],
+    low: &[u16],
+    high: &[u16],
+    page: &mut [u8; MAX_PAGE],
+) -> usize
+    requires { ⌜ Listed (writtenLists span (now loader) (now first) (now last) (now from) (now to) (now low) (now high)) ⌝ }
+    ensures { λ r.
+        let s = sheetOf span (now (first .entry)) (now (last .entry)) (now (from .entry)) (now (to .entry)) (now (low .entry)) (now (high .entry)) in
+        ⌜ Answered (AnswerToSheet Query.Plan (now (loader .entry)) s) (now (page .entry)) (now (page .exit)) r ⌝ }
+{
+    let mut table = [0i16; Sheet::MAX_CELLS];
+    let mut plan = [0u16; Sheet::MAX_UNITS];
+    let mut earliest = [0u16; Sheet::MAX_UNITS];
+    let mut latest = [0u16; Sheet::MAX_UNITS];
+    let mut ring = [0u16; Sheet::MAX_BOUNDARIES];
+    let fit = plan_solve::solve(
+        span,
+        first,
+        last,
+        from,
+        to,
+        low,
+        high,
+        &mut table,
+        &mut plan,
+        &mut earliest,
+        &mut latest,
+        &mut ring,
+    );
+    let w = sheet::boundaries(span);
+    let cells = w * w;
+    let n = first.len();
+    match fit {
+        Fit::Fits => print_page::put_plan(
+            page,
+            0,
+            span,
+            loader,
+            &plan[..n],
+            &earliest[..n],
+            &latest[..n],
+            &table[..cells],
+        ),
+        Fit::None(k) => put_ring(
+            span,
+            first,
+            last,
+            from,
+            to,
+            low,
+            high,
+            &mut table,
+            &ring[..k],
+            page,
+        ),
+    }
+}
+
+// Whether a sheet fits, and each slot's range, or a ring. No unit is seated for it, and its loader numbers are not looked at.
+fn fits_sheet(
+    span: usize,
+    first: &[u16],
+    last: &[u16],
+    from: &[u16],
+    to: &[u16],
+    low: &[u16],
+    high: &[u16],
+    page: &mut [u8; MAX_PAGE],
+) -> usize
+    requires { ⌜ Solvable (listed span (now first) (now last) (now from) (now to) (now low) (now high)) true ⌝ }
+    ensures { λ r.
+        let s = sheetOf span (now (first .entry)) (now (last .entry)) (now (from .entry)) (now (to .entry)) (now (low .entry)) (now (high .entry)) in
+        ⌜ ((ks : List ℕ) → Answered (AnswerToSheet Query.Fits ks s) (now (page .entry)) (now (page .exit)) r) ⌝ }
+{
+    let mut table = [0i16; Sheet::MAX_CELLS];
+    let mut ring = [0u16; Sheet::MAX_BOUNDARIES];
+    let fit = plan_solve::decide(
+        span,
+        first,
+        last,
+        from,
+        to,
+        low,
+        high,
+        &mut table,
+        &mut ring,
+    );
+    let w = sheet::boundaries(span);
+    let cells = w * w;
+    let n = first.len();
+    match fit {
+        Fit::Fits => print_page::put_fits(page, 0, span, n, &table[..cells]),
+        Fit::None(k) => put_ring(
+            span,
+            first,
+            last,
+            from,
+            to,
+            low,
+            high,
+            &mut table,
+            &ring[..k],
+            page,
+        ),
+    }
+}
+
+// The answer to what is asked of a sheet.
 fn answer_sheet(
+    query: Query,
+    span: usize,
+    loader: &[u16],
+    first: &[u16],
+    last: &[u16],
+    from: &[u16],
+    to: &[u16],
+    low: &[u16],
+    high: &[u16],
+    page: &mut [u8; MAX_PAGE],
+) -> usize
+    requires { ⌜ Listed (writtenLists span (now loader) (now first) (now last) (now from) (now to) (now low) (now high)) ⌝ }
+    ensures { λ r.
+        let s = sheetOf span (now (first .entry)) (now (last .entry)) (now (from .entry)) (now (to .entry)) (now (low .entry)) (now (high .entry)) in
+        ⌜ Answered (AnswerToSheet query (now (loader .entry)) s) (now (page .entry)) (now (page .exit)) r ⌝ }
+{
+    match query {
+        Query::Plan => plan_sheet(span, loader, first, last, from, to, low, high, page),
+        Query::Fits => fits_sheet(span, first, last, from, to, low, high, page),
+    }
+}
+
+// The same of the sheet that reading left at the front of the lists.
+fn answer_fronts(
+    query: Query,
     s: Sheet,
     loader: &[u16],
     first: &[u16],
@@ -47,16 +224,12 @@ fn answer_sheet(
     ensures { λ r.
         let l = fronts s (rooms (now (loader .entry)) (now (first .entry)) (now (last .entry))
         (now (from .entry)) (now (to .entry)) (now (low .entry)) (now (high .entry))) in
-        ⌜ Answered (AnswerToSheet (l .loader) (givenBy l)) (now (page .entry)) (now (page .exit)) r ⌝ }
+        ⌜ Answered (AnswerToSheet query (l .loader) (givenBy l)) (now (page .entry)) (now (page .exit)) r ⌝ }
 {
     let n = s.units;
     let r = s.rules;
-    let mut table = [0i16; Sheet::MAX_CELLS];
-    let mut plan = [0u16; Sheet::MAX_UNITS];
-    let mut earliest = [0u16; Sheet::MAX_UNITS];
-    let mut latest = [0u16; Sheet::MAX_UNITS];
-    let mut ring = [0u16; Sheet::MAX_BOUNDARIES];
-    let printed = print::print(
+    answer_sheet(
+        query,
         s.span,
         &loader[..n],
         &first[..n],
@@ -65,25 +238,14 @@ fn answer_sheet(
         &to[..r],
         &low[..r],
         &high[..r],
-        &mut table,
-        &mut plan,
-        &mut earliest,
-        &mut latest,
-        &mut ring,
         page,
-        0,
-    );
-    match printed {
-        Printed::Refused(refusal) => refuse(page, refusal.number, refusal.line),
-        Printed::Plan(next) => next,
-        Printed::None(k, next) => next,
-    }
+    )
 }
 
-// The answer to a text, from the first place of the page on, and the place just past it. The lists are long enough for every sheet and the page for
-// every answer, so that no text is refused by 12 or 15.
-pub fn answer(text: &[u8], page: &mut [u8; MAX_PAGE]) -> usize
-    ensures { λ r. ⌜ Answered (AnswerTo (now (text .entry))) (now (page .entry)) (now (page .exit)) r ⌝ }
+// The answer to what is asked of a text, from the first place of the page on, and the place just past it. The lists are long enough for every sheet and
+// the page for every answer, so that no text is refused by 12 or 15.
+pub fn answer(query: Query, text: &[u8], page: &mut [u8; MAX_PAGE]) -> usize
+    ensures { λ r. ⌜ Answered (AnswerTo query (now (text .entry))) (now (page .entry)) (now (page .exit)) r ⌝ }
 {
     let mut loader = [0u16; Sheet::MAX_UNITS];
     let mut first = [0u16; Sheet::MAX_UNITS];
@@ -104,6 +266,17 @@ pub fn answer(text: &[u8], page: &mut [u8; MAX_PAGE]) -> usize
     );
     match reading {
         Reading::Refused(refusal) => refuse(page, refusal.number, refusal.line),
-        Reading::Sheet(s) => answer_sheet(s, &loader, &first, &last, &from, &to, &low, &high, page),
+        Reading::Sheet(s) => answer_fronts(
+            query,
+            s,
+            &loader,
+            &first,
+            &last,
+            &from,
+            &to,
+            &low,
+            &high,
+            page,
+        ),
     }
 }

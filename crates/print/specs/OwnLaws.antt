@@ -45,7 +45,7 @@ pub record Front {A : Type 0} (n : ℕ) (xs room : List A) : Type 0 where
   pub part : take n room ≡ xs
   pub long : n ≤ length room
 
-front : {A : Type 0} (n : ℕ) (xs rest room : List A) → length xs ≡ n → room ≡ xs ++ rest → Front n xs room
+pub front : {A : Type 0} (n : ℕ) (xs rest room : List A) → length xs ≡ n → room ≡ xs ++ rest → Front n xs room
 front n xs rest room size e = record { part = ap (take n) e ∙ take-at xs rest n size; long = omega (arith, ap length e, length-append xs rest) }
 
 -- what the sheet's definitions name is the front of each array: of w boundaries and n units

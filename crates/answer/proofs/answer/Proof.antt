@@ -8,6 +8,7 @@ use lib.ListN.{replicate}
 use Rattle.read_ask.specs.Reading.{ListRooms, rooms, roomsForAll, refused, read, reading, replyOf}
 use Rattle.read.specs.Rooms.{sizesOf}
 use Rattle.sheet.specs.Sizes.{maxUnits, maxRules}
+use Rattle.answer.specs.declared.Query.{Query}
 use Rattle.answer.specs.AnswerLaws.{refused-small, refused-answer, read-held, read-answered}
 use borrow.Author.Needs.{needs}
 use Rattle.answer.proofs.answer.Statement.{statement}
@@ -30,8 +31,14 @@ refused-call c = c .before .before .before .before .before .before .before .befo
 abbrev sheet-call : tie.After-reading2 → tie.After-read
 sheet-call c = c .before .before .before .before .before .before .before .before .before
 
+abbrev start : tie.After-read → tie.Start
+start c = c .before .before .before .before .before .before .before .before .before
+
+abbrev asked : tie.After-read → Query
+asked c = start c .args .query
+
 abbrev input : tie.After-read → List ℕ
-input c = now (c .before .before .before .before .before .before .before .before .before .args .text)
+input c = now (start c .args .text)
 
 refused-told : (c : tie.After-reading)
     → refused (c .reading .given .0 .0 .number) (c .reading .given .0 .0 .line) ≡ reading (input (refused-call c)) (sizesOf empty)
@@ -46,22 +53,24 @@ refuse-requires c κs =
     let r = refused-small (input (refused-call (c .before .before))) empty sizes _ _ (refused-told (c .before .before)) in
     (omega (arith, r .0), omega (arith, r .1))
 
-answer-sheet-requires : tie.Need-answer-sheet-requires
-answer-sheet-requires c κs =
+answer-fronts-requires : tie.Need-answer-fronts-requires
+answer-fronts-requires c κs =
     let d = c .before .before .before .before .before .before .before .before .before in
     read-held (input (sheet-call d)) empty sizes _ (read-told d) _ (sheet-call d .read .ensures .1)
 
 returns : tie.Need-returns
 returns c =
     let d = c .before .before .before in
-    record { bytes = _; answers = refused-answer (input (refused-call d)) empty sizes _ _ (refused-told d); written = c .refuse .ensures }
+    let p = refused-call d in
+    record { bytes = _; answers = refused-answer (input p) empty sizes _ _ (refused-told d) (asked p); written = c .refuse .ensures }
 
 returns-2 : tie.Need-returns-2
 returns-2 c =
     let d = c .before .before .before .before .before .before .before .before .before .before in
-    read-answered (input (sheet-call d)) empty sizes _ (read-told d) _ (sheet-call d .read .ensures .1) _ _ _ (c .answer-sheet .ensures)
+    read-answered (input (sheet-call d)) empty sizes _ (read-told d) _ (sheet-call d .read .ensures .1)
+    (asked (sheet-call d)) _ _ _ (c .answer-fronts .ensures)
 
 pub answer-spec : {M : Type 1} → statement M
 answer-spec = tie.close (tie.spec (λ c. search needs) (λ c. search needs) (λ c. search needs) (λ c. search needs) (λ c. search needs) (λ c. search needs)
     (λ c. search needs) (λ c κs. search needs) (λ c. search needs) refuse-requires (λ c. search needs) (λ c. search needs) (λ c. search needs)
-    (λ c. search needs) (λ c. search needs) (λ c. search needs) (λ c. search needs) (λ c. search needs) answer-sheet-requires returns returns-2)
+    (λ c. search needs) (λ c. search needs) (λ c. search needs) (λ c. search needs) (λ c. search needs) answer-fronts-requires returns returns-2)

@@ -21,7 +21,8 @@ abbrev start : tie.After-put-two-numbers → tie.Start
 start c = c .before .before .before .before .before
 
 module _ (c : tie.After-put-two-numbers) where
-  line : Written (replicate maxRefusal 0) 0 (refusedLine (start c .args .number) (start c .args .line)) (c .put-two-numbers .last .0) (c .put-two-numbers .result)
+  line : Written (replicate maxRefusal 0) 0 (refusedLine (start c .args .number) (start c .args .line))
+      (c .put-two-numbers .last .0) (c .put-two-numbers .result)
   unfolding refusedLine text
   line = c .put-two-numbers .ensures
 

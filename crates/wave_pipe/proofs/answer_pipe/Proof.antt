@@ -2,13 +2,13 @@
 use mathlib.Core.Path.{sym}
 use lib.Seq.{length-take-le}
 use borrow.Author.Needs.{needs}
-use Rattle.wave_pipe.proofs.run.Statement.{statement}
-use Rattle.wave_pipe.proofs.run.Tie as tie
+use Rattle.wave_pipe.proofs.answer_pipe.Statement.{statement}
+use Rattle.wave_pipe.proofs.answer_pipe.Tie as tie
 
 slice-aggregate-write-all : tie.Need-slice-aggregate-write-all
 slice-aggregate-write-all c = sym (length-take-le _ _ (c .before .answer-input .ensures .1))
 
-pub run-spec : {M : Type 1} → statement M
-run-spec = tie.close (tie.spec (λ c. search needs) (λ c κs. search needs) (λ c. search needs) (λ c κs. search needs) (λ c. search needs)
+pub answer-pipe-spec : {M : Type 1} → statement M
+answer-pipe-spec = tie.close (tie.spec (λ c. search needs) (λ c κs. search needs) (λ c. search needs) (λ c κs. search needs) (λ c. search needs)
     (λ c κs. search needs) (λ c. search needs) slice-aggregate-write-all (λ c κs. search needs) (λ c. search needs) (λ c κs. search needs)
     (λ c. search needs) (λ c. search needs))

@@ -1,0 +1,50 @@
+// The words that the program takes.
+ghost use mathlib.Core.Path.{_≡_};
+ghost use mathlib.Core.Logic.{_↔_};
+ghost use lib.Dec.{T};
+ghost use Rattle.wave_pipe.specs.Words.{AsksFor};
+use answer::Query;
+use libc::STDERR_FILENO;
+
+// No word that is taken is longer.
+pub const MAX_WORD: usize = 4;
+
+// What the words ask for, or that they are none that the program takes.
+pub enum Asked {
+    Query(Query),
+    Unknown,
+}
+
+fn same(a: &[u8], b: &[u8]) -> bool
+    ensures { λ r. ⌜ T r ↔ (now (a .entry) ≡ now (b .entry)) ⌝ }
+{
+    if a.len() != b.len() {
+        return false;
+    }
+    let mut i: usize = 0;
+    while i < a.len() {
+        if a[i] != b[i] {
+            return false;
+        }
+        i += 1;
+    }
+    true
+}
+
+// What a word asks for.
+pub fn query_of(word: &[u8]) -> Asked
+    ensures { λ r. ⌜ AsksFor r (now (word .entry)) ⌝ }
+{
+    if same(word, b"plan") {
+        return Asked::Query(Query::Plan);
+    }
+    if same(word, b"fits") {
+        return Asked::Query(Query::Fits);
+    }
+    Asked::Unknown
+}
+
+// The words there are, on standard error.
+pub fn show_usage() {
+    io::write_all(STDERR_FILENO, b"usage: wave [plan|fits] < SHEET\n");
+}
