@@ -137,14 +137,18 @@ fn loader_numbers() {
 /// The texts that the check runs the program on are as long as docs/ARCHITECTURE.md says, and their pages are the model's.
 #[test]
 fn texts_of_the_check() {
-    for (name, length) in [("wave", 147), ("wave_longest", 16_000), ("wave_too_long", 16_001)] {
-        let file = |kind: &str| fs::read(format!("{}/crates/{name}/{kind}", env!("ROOT"))).unwrap();
+    use Asked::{Fits, Plan};
+    for (name, asked, length) in [("wave", Plan, 147), ("wave_fits", Fits, 147), ("wave_longest", Plan, 16_000), ("wave_too_long", Plan, 16_001)] {
+        let path = |kind: &str| format!("{}/crates/{name}/{kind}", env!("ROOT"));
+        let file = |kind: &str| fs::read(path(kind)).unwrap();
+        let words = fs::read_to_string(path("args")).unwrap_or_default();
+        assert_eq!(words.split_whitespace().collect::<Vec<_>>(), asked.words(), "{name}");
         let text = file("stdin");
         assert_eq!(text.len(), length, "{name}");
-        assert_eq!(output_fault(Asked::Plan, &text, &file("stdout")), None, "{name}");
+        assert_eq!(output_fault(asked, &text, &file("stdout")), None, "{name}");
         // What is read of it before its last byte has another answer.
         if read(&text).is_err() {
-            assert_ne!(output_fault(Asked::Plan, &text[..length - 1], &file("stdout")), None, "{name}");
+            assert_ne!(output_fault(asked, &text[..length - 1], &file("stdout")), None, "{name}");
         }
     }
 }
