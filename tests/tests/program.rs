@@ -167,10 +167,11 @@ fn short_reads() {
         };
         let small = text.len() < 400;
         let parts: Vec<usize> = (0..7).map(|_| if small { r.between(1, 9) } else { r.between(50, 900) }).collect();
-        let asked = [Asked::Plan, Asked::Fits][i / 4 % 2];
-        let written = run(asked, &text, &parts, pause);
-        let fault = output_fault(asked, &text, &written);
-        assert_eq!(fault, None, "seed {} case {i}: {:?}", seed(401), String::from_utf8_lossy(&text));
+        for asked in [Asked::Plan, Asked::Fits] {
+            let written = run(asked, &text, &parts, pause);
+            let fault = output_fault(asked, &text, &written);
+            assert_eq!(fault, None, "seed {} case {i}: {:?}", seed(401), String::from_utf8_lossy(&text));
+        }
     }
     let p1 = cases::named("P1").sheet.text();
     for asked in [Asked::Plan, Asked::Fits] {
