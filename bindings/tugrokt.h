@@ -13,6 +13,8 @@
  *
  *     tugrokt_read     1; then line by line 2, 11 (of notes), 3, 4, 5, 6, 7, 16, 8, 9, 10; then 5 for the whole; then 12
  *     tugrokt_plan     13, 6, 9, 10, 7 of the units, 7 of the rules, 16, 8, 12
+ *     tugrokt_decide   the same; 12 of its own rooms, table and ring
+ *     tugrokt_seat     the same; 12 of its own rooms, table, plan, earliest and latest
  *     tugrokt_print    what tugrokt_plan asks, then 15
  *
  * 16 asks of each unit: is its loader number 1 to TUGROKT_MAX_LOADER and on no earlier unit? 13 asks whether the lists of units are
@@ -48,6 +50,9 @@
  */
 #define TUGROKT_CARRIED_PLACE(span) ((span) + 1)
 
+/* The number of boundaries of a span, 0 to the end of the carried place: the numbers in a row of the table. */
+#define TUGROKT_BOUNDARIES(span) (TUGROKT_CARRIED_PLACE(span) + 1)
+
 #ifdef __cplusplus
 extern "C" {
 #endif
@@ -63,7 +68,13 @@ struct tugrokt_reading {
 struct tugrokt_planning {
     size_t number;
     size_t line;
-    size_t length; /* of the ring, where there is no plan; 0 for a plan */
+    size_t length; /* of the ring, where there is no plan; 0 for a plan, and for a sheet that fits */
+};
+
+struct tugrokt_seating {
+    size_t number;
+    size_t line;
+    size_t planned; /* 1 for a plan; 0 for none, and where the call was refused */
 };
 
 struct tugrokt_printing {
@@ -99,6 +110,33 @@ struct tugrokt_planning tugrokt_plan(
     int16_t *table, size_t table_length, uint16_t *plan, size_t plan_length,
     uint16_t *earliest, size_t earliest_length, uint16_t *latest, size_t latest_length,
     uint16_t *ring, size_t ring_length);
+
+/*
+ * Decides from lists: is there a plan, and how few and how many deliveries can each stretch hold? It seats no unit and narrows no
+ * window. A sheet fits where number and length are both 0: table is then as tugrokt_plan leaves it for a plan, and ring is unchanged.
+ * With none, table and ring are as tugrokt_plan leaves them for none.
+ * Rooms needed: w*w places in table, w in ring, with w = span + 2.
+ */
+struct tugrokt_planning tugrokt_decide(
+    size_t span, const uint16_t *loader, size_t loader_length,
+    const uint16_t *first, size_t first_length, const uint16_t *last, size_t last_length,
+    const uint16_t *from, size_t from_length, const uint16_t *to, size_t to_length,
+    const uint16_t *low, size_t low_length, const uint16_t *high, size_t high_length,
+    int16_t *table, size_t table_length, uint16_t *ring, size_t ring_length);
+
+/*
+ * Seats the units of a sheet that fits and narrows their windows. The table is worked out from the lists again, whatever it held.
+ * With a plan, table, plan, earliest and latest are as tugrokt_plan leaves them. With none, the w*w places of table are 0, and plan,
+ * earliest and latest are unchanged; there is no ring.
+ * Rooms needed: w*w places in table, with w = span + 2, and one for each unit in the others.
+ */
+struct tugrokt_seating tugrokt_seat(
+    size_t span, const uint16_t *loader, size_t loader_length,
+    const uint16_t *first, size_t first_length, const uint16_t *last, size_t last_length,
+    const uint16_t *from, size_t from_length, const uint16_t *to, size_t to_length,
+    const uint16_t *low, size_t low_length, const uint16_t *high, size_t high_length,
+    int16_t *table, size_t table_length, uint16_t *plan, size_t plan_length,
+    uint16_t *earliest, size_t earliest_length, uint16_t *latest, size_t latest_length);
 
 /*
  * Plans from lists and prints the answer on the page from the given place on, each unit with its loader number, and one that is

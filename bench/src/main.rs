@@ -1,4 +1,4 @@
-//! Measures the planner and a plain Rust implementation of the same job side by side, in one run.
+//! Measures the planner and a plain Rust implementation of the same job side by side, in one run, and each job beside planning.
 //!
 //!     cargo run --release                        all cases: times and ratios
 //!     cargo run --release -- CASE..              some cases, by the start of their names
@@ -8,7 +8,7 @@
 //!     cargo run --release -- --count CASE SIDE JOB N     does one job N times and prints nothing, for an instruction counter
 //!
 //! Both sides get the same texts and lists. The planner's rooms and page are made once and lent again and again without being
-//! cleared; the plain implementation returns vectors of its own. A time is the least of many rounds, in which the two sides take
+//! cleared; the plain implementation returns vectors of its own. A time is the least of many rounds, in which jobs and sides take
 //! turns. Before anything is measured the two sides' answers are compared.
 
 mod cases;
@@ -19,23 +19,36 @@ use std::time::{Duration, Instant};
 use cases::Case;
 
 /// What is measured: from a text to lists; the pass alone, over a copy of the sheet's limits; from lists to the rooms (table,
-/// seats, narrowed windows or ring); from lists to a page, so that `print` less `plan` is printing; from a text to a page.
+/// seats, narrowed windows or ring); from lists to table or ring alone; from lists to table, seats and narrowed windows, and no ring; from
+/// lists to a page, so that `print` less `plan` is printing; from a text to a page.
 #[derive(Clone, Copy, PartialEq)]
 enum Job {
     Read,
     Pass,
     Plan,
+    Decide,
+    Seat,
     Print,
     Whole,
 }
 
-const JOBS: [(Job, &str); 5] =
-    [(Job::Read, "read"), (Job::Pass, "pass"), (Job::Plan, "plan"), (Job::Print, "print"), (Job::Whole, "whole")];
+const JOBS: [(Job, &str); 7] = [
+    (Job::Read, "read"),
+    (Job::Pass, "pass"),
+    (Job::Plan, "plan"),
+    (Job::Decide, "decide"),
+    (Job::Seat, "seat"),
+    (Job::Print, "print"),
+    (Job::Whole, "whole"),
+];
 
 /// A side does a job on each sheet of a case.
 trait Side {
     fn run(&mut self, case: &Case, job: Job);
     fn answer(&mut self, sheet: &plain::Sheet) -> plain::Answer;
+    fn decision(&mut self, sheet: &plain::Sheet) -> plain::Decision;
+    /// The answer with a plan, or nothing.
+    fn seats(&mut self, sheet: &plain::Sheet) -> Option<plain::Answer>;
     fn page(&mut self, text: &[u8]) -> Vec<u8>;
 }
 
@@ -48,6 +61,8 @@ impl Side for Plain {
                 Job::Read => drop(black_box(plain::read(black_box(text)))),
                 Job::Pass => drop(black_box(plain::close(&mut black_box(limits).clone(), plain::boundaries(sheet.span)))),
                 Job::Plan => drop(black_box(self.answer(black_box(sheet)))),
+                Job::Decide => drop(black_box(self.decision(black_box(sheet)))),
+                Job::Seat => drop(black_box(self.seats(black_box(sheet)))),
                 Job::Print => drop(black_box(plain::print(sheet, &self.answer(black_box(sheet))))),
                 Job::Whole => drop(black_box(self.page(black_box(text)))),
             }
@@ -60,6 +75,16 @@ impl Side for Plain {
         plain::plan(sheet)
     }
 
+    fn decision(&mut self, sheet: &plain::Sheet) -> plain::Decision {
+        assert_eq!(plain::refusal(sheet), 0, "the cases are sheets");
+        plain::decide(sheet)
+    }
+
+    fn seats(&mut self, sheet: &plain::Sheet) -> Option<plain::Answer> {
+        assert_eq!(plain::refusal(sheet), 0, "the cases are sheets");
+        plain::seat(sheet)
+    }
+
     fn page(&mut self, text: &[u8]) -> Vec<u8> {
         let sheet = plain::read(text).expect("the cases are sheets");
         plain::print(&sheet, &plain::plan(&sheet))
@@ -69,7 +94,7 @@ impl Side for Plain {
 mod planner {
     use super::{black_box, Case, Job, Side};
     use model::network::{self, Outcome};
-    use tugrokt::entry::{self, ListRooms, Lists, Reading, Rooms};
+    use tugrokt::entry::{self, DecideRooms, ListRooms, Lists, Reading, Rooms, SeatRooms};
     use tugrokt::{MAX_BOUNDARIES, MAX_CELLS, MAX_PAGE, MAX_RULES, MAX_UNITS};
 
     /// The planner, with rooms that are lent again and again.
@@ -119,6 +144,30 @@ mod planner {
             reply.length
         }
 
+        fn decide(&mut self, sheet: &plain::Sheet) -> usize {
+            let reply = entry::decide(lists(sheet), DecideRooms { table: &mut self.table, ring: &mut self.ring });
+            assert_eq!(reply.number, 0, "the cases are sheets");
+            reply.length
+        }
+
+        fn seat(&mut self, sheet: &plain::Sheet) -> bool {
+            let [plan, earliest, latest] = &mut self.rooms;
+            let reply = entry::seat(lists(sheet), SeatRooms { table: &mut self.table, plan, earliest, latest });
+            assert_eq!(reply.number, 0, "the cases are sheets");
+            reply.planned == 1
+        }
+
+        /// The front of the table for this sheet.
+        fn table(&self, sheet: &plain::Sheet) -> Vec<i16> {
+            self.table[..plain::boundaries(sheet.span).pow(2)].to_vec()
+        }
+
+        /// The plan that stands in the rooms.
+        fn planned(&self, sheet: &plain::Sheet) -> plain::Answer {
+            let [plan, earliest, latest] = self.rooms.clone().map(|room| room[..sheet.first.len()].to_vec());
+            plain::Answer::Plan { plan, earliest, latest, table: self.table(sheet) }
+        }
+
         fn print(&mut self, sheet: &plain::Sheet) -> usize {
             let [plan, earliest, latest] = &mut self.rooms;
             let rooms = Rooms { table: &mut self.table, plan, earliest, latest, ring: &mut self.ring };
@@ -147,6 +196,8 @@ mod planner {
                     Job::Read => drop(black_box(self.read(black_box(text)))),
                     Job::Pass => drop(black_box(self.pass(black_box(limits), plain::boundaries(sheet.span)))),
                     Job::Plan => drop(black_box(self.plan(black_box(sheet)))),
+                    Job::Decide => drop(black_box(self.decide(black_box(sheet)))),
+                    Job::Seat => drop(black_box(self.seat(black_box(sheet)))),
                     Job::Print => drop(black_box(self.print(black_box(sheet)))),
                     Job::Whole => drop(black_box(self.whole(black_box(text)))),
                 }
@@ -158,9 +209,19 @@ mod planner {
             if length > 0 {
                 return plain::Answer::None { ring: self.ring[..length].to_vec() };
             }
-            let [plan, earliest, latest] = self.rooms.clone().map(|room| room[..sheet.first.len()].to_vec());
-            let table = self.table[..plain::boundaries(sheet.span).pow(2)].to_vec();
-            plain::Answer::Plan { plan, earliest, latest, table }
+            self.planned(sheet)
+        }
+
+        fn decision(&mut self, sheet: &plain::Sheet) -> plain::Decision {
+            let length = self.decide(sheet);
+            if length > 0 {
+                return plain::Decision::None { ring: self.ring[..length].to_vec() };
+            }
+            plain::Decision::Fits { table: self.table(sheet) }
+        }
+
+        fn seats(&mut self, sheet: &plain::Sheet) -> Option<plain::Answer> {
+            self.seat(sheet).then(|| self.planned(sheet))
         }
 
         fn page(&mut self, text: &[u8]) -> Vec<u8> {
@@ -175,28 +236,32 @@ fn sides() -> Vec<(&'static str, Box<dyn Side>)> {
     vec![("planner", Box::new(planner::Planner::new())), ("plain", Box::new(Plain))]
 }
 
-/// The least time of a job, a sheet, for each side, in nanoseconds.
-fn measure(case: &Case, job: Job, sides: &mut [(&'static str, Box<dyn Side>)]) -> Vec<f64> {
-    // Enough repetitions for a round of a millisecond: short rounds, so that some of them are undisturbed.
-    let start = Instant::now();
-    sides.last_mut().unwrap().1.run(case, job);
-    let once = start.elapsed().max(Duration::from_nanos(100));
-    let times = (Duration::from_millis(1).as_nanos() / once.as_nanos()).clamp(1, 100_000) as u32;
-    let mut least = vec![f64::INFINITY; sides.len()];
+/// The least time of each job, a sheet, for each side, in nanoseconds.
+fn measure(case: &Case, sides: &mut [(&'static str, Box<dyn Side>)]) -> Vec<Vec<f64>> {
+    // Enough repetitions for a millisecond: short turns, so that some of them are undisturbed.
+    let times = JOBS.map(|(job, _)| {
+        let start = Instant::now();
+        sides.last_mut().unwrap().1.run(case, job);
+        let once = start.elapsed().max(Duration::from_nanos(100));
+        (Duration::from_millis(1).as_nanos() / once.as_nanos()).clamp(1, 100_000) as u32
+    });
+    let mut least = vec![vec![f64::INFINITY; sides.len()]; JOBS.len()];
     for _ in 0..60 {
-        for (side, least) in sides.iter_mut().zip(&mut least) {
-            let start = Instant::now();
-            for _ in 0..times {
-                side.1.run(case, job);
+        for (((job, _), times), least) in JOBS.iter().zip(times).zip(&mut least) {
+            for (side, least) in sides.iter_mut().zip(least) {
+                let start = Instant::now();
+                for _ in 0..times {
+                    side.1.run(case, *job);
+                }
+                let time = start.elapsed().as_nanos() as f64 / times as f64 / case.texts.len() as f64;
+                *least = least.min(time);
             }
-            let time = start.elapsed().as_nanos() as f64 / times as f64 / case.texts.len() as f64;
-            *least = least.min(time);
         }
     }
     least
 }
 
-/// Both sides give the same answer and print the same page, or show different rings of one sheet.
+/// Both sides give the same answer and print the same page, or show different rings of one sheet; and each decides and seats as it plans.
 fn compare(case: &Case, sides: &mut [(&'static str, Box<dyn Side>)]) {
     for (i, sheet) in case.sheets.iter().enumerate() {
         let answers: Vec<plain::Answer> = sides.iter_mut().map(|side| side.1.answer(sheet)).collect();
@@ -205,6 +270,15 @@ fn compare(case: &Case, sides: &mut [(&'static str, Box<dyn Side>)]) {
         assert!(same || both_none, "{}: the two sides' answers to sheet {i} differ", case.name);
         let pages: Vec<Vec<u8>> = sides.iter_mut().map(|side| side.1.page(&case.texts[i])).collect();
         assert!(!same || pages[0] == pages[1], "{}: the two sides' pages of sheet {i} differ", case.name);
+        for (answer, (name, side)) in answers.into_iter().zip(sides.iter_mut()) {
+            let decision = match &answer {
+                plain::Answer::Plan { table, .. } => plain::Decision::Fits { table: table.clone() },
+                plain::Answer::None { ring } => plain::Decision::None { ring: ring.clone() },
+            };
+            assert_eq!(side.decision(sheet), decision, "{}: what the {name} decides of sheet {i}", case.name);
+            let planned = matches!(answer, plain::Answer::Plan { .. }).then_some(answer);
+            assert_eq!(side.seats(sheet), planned, "{}: how the {name} seats sheet {i}", case.name);
+        }
     }
 }
 
@@ -225,15 +299,16 @@ fn main() {
             }
         }
         _ => {
-            println!("{:14} {:6} {:>12} {:>12} {:>7}", "nanoseconds", "job", sides[0].0, "plain", "ratio");
+            println!("{:14} {:6} {:>12} {:>12} {:>7} {:>7}", "nanoseconds", "job", sides[0].0, "plain", "ratio", "of plan");
             let chosen = |name: &&&str| words.is_empty() || words.iter().any(|w| name.starts_with(w.as_str()));
             for name in cases::NAMES.iter().filter(chosen) {
                 let case = cases::make(name);
                 compare(&case, &mut sides);
-                for (job, job_name) in JOBS {
-                    let least = measure(&case, job, &mut sides);
-                    let (ours, theirs) = (least[0], least[least.len() - 1]);
-                    println!("{name:14} {job_name:6} {ours:12.0} {theirs:12.0} {:7.2}", ours / theirs);
+                let least = measure(&case, &mut sides);
+                let plan = JOBS.iter().position(|(job, _)| *job == Job::Plan).expect("planning is a job");
+                for ((_, job_name), job) in JOBS.iter().zip(&least) {
+                    let (ours, theirs, of_plan) = (job[0], job[job.len() - 1], job[0] / least[plan][0]);
+                    println!("{name:14} {job_name:6} {ours:12.0} {theirs:12.0} {:7.2} {of_plan:7.2}", ours / theirs);
                 }
             }
         }

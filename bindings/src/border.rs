@@ -17,7 +17,7 @@ pub struct Reading {
     pub rules: usize,
 }
 
-/// What planning replies.
+/// What planning and deciding reply.
 #[repr(C)]
 #[derive(Clone, Copy, Debug, PartialEq, Eq)]
 pub struct Planning {
@@ -25,8 +25,20 @@ pub struct Planning {
     pub number: usize,
     /// The line that a refusal names.
     pub line: usize,
-    /// The length of the ring where there is no plan, and 0 for a plan.
+    /// The length of the ring where there is no plan, and 0 for a plan and for a sheet that fits.
     pub length: usize,
+}
+
+/// What seating replies.
+#[repr(C)]
+#[derive(Clone, Copy, Debug, PartialEq, Eq)]
+pub struct Seating {
+    /// The number of the question that refused the call, and 0 for an answer.
+    pub number: usize,
+    /// The line that a refusal names.
+    pub line: usize,
+    /// 1 for a plan, and 0 for none.
+    pub planned: usize,
 }
 
 /// What printing replies.
@@ -92,6 +104,58 @@ extern "C" {
         ring: *mut u16,
         ring_length: usize,
     ) -> Planning;
+}
+
+extern "C" {
+    pub fn tugrokt_decide(
+        span: usize,
+        loader: *const u16,
+        loader_length: usize,
+        first: *const u16,
+        first_length: usize,
+        last: *const u16,
+        last_length: usize,
+        from: *const u16,
+        from_length: usize,
+        to: *const u16,
+        to_length: usize,
+        low: *const u16,
+        low_length: usize,
+        high: *const u16,
+        high_length: usize,
+        table: *mut i16,
+        table_length: usize,
+        ring: *mut u16,
+        ring_length: usize,
+    ) -> Planning;
+}
+
+extern "C" {
+    pub fn tugrokt_seat(
+        span: usize,
+        loader: *const u16,
+        loader_length: usize,
+        first: *const u16,
+        first_length: usize,
+        last: *const u16,
+        last_length: usize,
+        from: *const u16,
+        from_length: usize,
+        to: *const u16,
+        to_length: usize,
+        low: *const u16,
+        low_length: usize,
+        high: *const u16,
+        high_length: usize,
+        table: *mut i16,
+        table_length: usize,
+        plan: *mut u16,
+        plan_length: usize,
+        earliest: *mut u16,
+        earliest_length: usize,
+        latest: *mut u16,
+        latest_length: usize,
+    ) -> Seating;
 }
 
 extern "C" {

@@ -6,9 +6,9 @@
 //! A refused call changes nothing that it was lent.
 
 use crate::border;
-pub use crate::border::{Planning, Printing, Reading};
+pub use crate::border::{Planning, Printing, Reading, Seating};
 
-/// The lists that planning takes. Lists that belong together have equal length, or the call is refused (13).
+/// The lists that planning, deciding and seating take. Lists that belong together have equal length, or the call is refused (13).
 #[derive(Clone, Copy, Debug)]
 pub struct Lists<'a> {
     /// The number of slots, 1 to 48.
@@ -38,6 +38,22 @@ pub struct Rooms<'a> {
     pub latest: &'a mut [u16],
     /// The boundaries of a ring, where there is no plan.
     pub ring: &'a mut [u16],
+}
+
+/// The rooms that deciding fills, as long as planning's.
+#[derive(Debug)]
+pub struct DecideRooms<'a> {
+    pub table: &'a mut [i16],
+    pub ring: &'a mut [u16],
+}
+
+/// The rooms that seating fills, as long as planning's. What the table holds before the call is not looked at.
+#[derive(Debug)]
+pub struct SeatRooms<'a> {
+    pub table: &'a mut [i16],
+    pub plan: &'a mut [u16],
+    pub earliest: &'a mut [u16],
+    pub latest: &'a mut [u16],
 }
 
 /// The lists that reading fills.
@@ -110,6 +126,70 @@ pub fn plan(lists: Lists, rooms: Rooms) -> Planning {
             latest.len(),
             ring.as_mut_ptr(),
             ring.len(),
+        )
+    }
+}
+
+/// Decides from lists whether there is a plan, and fills the table: a sheet fits where the reply's number and length are both 0.
+pub fn decide(lists: Lists, rooms: DecideRooms) -> Planning {
+    let Lists { span, loader, first, last, from, to, low, high } = lists;
+    let DecideRooms { table, ring } = rooms;
+    // SAFETY: each pointer comes from a reference with the length beside it, and the entry has no further demand.
+    unsafe {
+        border::tugrokt_decide(
+            span,
+            loader.as_ptr(),
+            loader.len(),
+            first.as_ptr(),
+            first.len(),
+            last.as_ptr(),
+            last.len(),
+            from.as_ptr(),
+            from.len(),
+            to.as_ptr(),
+            to.len(),
+            low.as_ptr(),
+            low.len(),
+            high.as_ptr(),
+            high.len(),
+            table.as_mut_ptr(),
+            table.len(),
+            ring.as_mut_ptr(),
+            ring.len(),
+        )
+    }
+}
+
+/// Seats the units of a sheet that fits and narrows their windows, with the table worked out from the lists again.
+pub fn seat(lists: Lists, rooms: SeatRooms) -> Seating {
+    let Lists { span, loader, first, last, from, to, low, high } = lists;
+    let SeatRooms { table, plan, earliest, latest } = rooms;
+    // SAFETY: each pointer comes from a reference with the length beside it, and the entry has no further demand.
+    unsafe {
+        border::tugrokt_seat(
+            span,
+            loader.as_ptr(),
+            loader.len(),
+            first.as_ptr(),
+            first.len(),
+            last.as_ptr(),
+            last.len(),
+            from.as_ptr(),
+            from.len(),
+            to.as_ptr(),
+            to.len(),
+            low.as_ptr(),
+            low.len(),
+            high.as_ptr(),
+            high.len(),
+            table.as_mut_ptr(),
+            table.len(),
+            plan.as_mut_ptr(),
+            plan.len(),
+            earliest.as_mut_ptr(),
+            earliest.len(),
+            latest.as_mut_ptr(),
+            latest.len(),
         )
     }
 }

@@ -1,6 +1,6 @@
 //! The wave planner, called from Rust.
 //!
-//! [`Sheet`] reads, plans and prints with rooms of its own; [`entry`] has the planner's open entries as they are, with every
+//! [`Sheet`] reads, plans, decides, seats and prints with rooms of its own; [`entry`] has the planner's open entries as they are, with every
 //! room lent by the caller. Only numbers, slices and structs of numbers cross the border.
 //!
 //! ```
@@ -14,7 +14,19 @@
 //! # Ok(())
 //! # }
 //! ```
-//! `examples/` has a whole program, and the same in C.
+//! Where only a yes or no is wanted, and how full the slots can be, [`Sheet::decide`] seats no unit:
+//!
+//! ```
+//! # fn main() -> Result<(), tugrokt::Refusal> {
+//! # let sheet = tugrokt::Sheet::read(b"(sheet 3)\n(unit 4017 (window 1 3))\n(rule (slots 2 3) (count 1 1))\n")?;
+//! match sheet.decide()? {
+//!     tugrokt::Decision::Fits(counts) => assert_eq!([1, 2, 3].map(|slot| counts.range(slot, slot)), [(0, 0), (0, 1), (0, 1)]),
+//!     tugrokt::Decision::None { ring } => println!("no plan: {ring:?}"),
+//! }
+//! # Ok(())
+//! # }
+//! ```
+//! `examples/` has whole programs, and the same in C.
 
 mod border;
 pub mod entry;
@@ -91,6 +103,32 @@ pub enum Answer {
     None { ring: Vec<u16> },
 }
 
+/// Whether a sheet has a plan.
+#[derive(Clone, Debug, PartialEq, Eq)]
+pub enum Decision {
+    /// Some plan is lawful, and the counts of all lawful plans are these.
+    Fits(Counts),
+    /// No plan is lawful: the ring is as in [`Answer::None`].
+    None { ring: Vec<u16> },
+}
+
+/// How few and how many units lawful plans have in each stretch of slots.
+#[derive(Clone, Debug, PartialEq, Eq)]
+pub struct Counts {
+    table: Vec<i16>,
+    span: usize,
+}
+
+impl Counts {
+    /// The least and the greatest number of units that a lawful plan has in the slots `first` to `last`. The carried place may be among
+    /// them, as the last.
+    pub fn range(&self, first: usize, last: usize) -> (u16, u16) {
+        assert!(1 <= first && first <= last && last <= carried_place(self.span), "{first} to {last} is no stretch");
+        let (w, before) = (boundaries(self.span), first - 1);
+        ((-self.table[last * w + before]) as u16, self.table[before * w + last] as u16)
+    }
+}
+
 /// The printed plan, and what holds of all lawful plans.
 #[derive(Clone, Debug, PartialEq, Eq)]
 pub struct Plan {
@@ -99,8 +137,8 @@ pub struct Plan {
     /// The earliest and the latest slot that each unit has in any lawful plan, the carried place being the last.
     pub earliest: Vec<u16>,
     pub latest: Vec<u16>,
-    table: Vec<i16>,
-    span: usize,
+    /// The counts of all lawful plans.
+    pub counts: Counts,
 }
 
 impl Plan {
@@ -119,15 +157,12 @@ impl Plan {
     /// # }
     /// ```
     pub fn is_carried(&self, unit: usize) -> bool {
-        self.slot[unit] as usize == carried_place(self.span)
+        self.slot[unit] as usize == carried_place(self.counts.span)
     }
 
-    /// The least and the greatest number of units that a lawful plan has in the slots `first` to `last`. The carried place may be among
-    /// them, as the last.
+    /// The counts of a stretch, by [`Counts::range`].
     pub fn range(&self, first: usize, last: usize) -> (u16, u16) {
-        assert!(1 <= first && first <= last && last <= carried_place(self.span), "{first} to {last} is no stretch");
-        let (w, before) = (boundaries(self.span), first - 1);
-        ((-self.table[last * w + before]) as u16, self.table[before * w + last] as u16)
+        self.counts.range(first, last)
     }
 }
 
@@ -194,12 +229,38 @@ impl Sheet {
         let mut own = OwnRooms::new(self);
         let reply = entry::plan(self.lists(), own.lend());
         unless_refused(reply.number, reply.line)?;
-        let OwnRooms { table, plan, earliest, latest, mut ring } = own;
-        if reply.length > 0 {
-            ring.truncate(reply.length);
-            return Ok(Answer::None { ring });
-        }
-        Ok(Answer::Plan(Plan { slot: plan, earliest, latest, table, span: self.span }))
+        Ok(if reply.length > 0 { Answer::None { ring: own.into_ring(reply.length) } } else { Answer::Plan(own.into_plan(self.span)) })
+    }
+
+    /// Decides whether the sheet has a plan, and how few and how many units each stretch can hold. No unit is seated.
+    pub fn decide(&self) -> Result<Decision, Refusal> {
+        let mut own = OwnRooms::new(self);
+        let reply = entry::decide(self.lists(), entry::DecideRooms { table: &mut own.table, ring: &mut own.ring });
+        unless_refused(reply.number, reply.line)?;
+        Ok(if reply.length > 0 { Decision::None { ring: own.into_ring(reply.length) } } else { Decision::Fits(Counts { table: own.table, span: self.span }) })
+    }
+
+    /// Seats the units of a sheet that fits: the plan that [`Sheet::plan`] gives, or nothing where no plan is lawful, and no ring is looked
+    /// for.
+    ///
+    /// ```
+    /// # fn main() -> Result<(), tugrokt::Refusal> {
+    /// let mut sheet = tugrokt::Sheet::new(2);
+    /// sheet.add_unit(4017, 1, 2);
+    /// sheet.add_unit(212, 1, 1);
+    /// sheet.add_rule(1, 1, 0, 1);
+    /// assert_eq!(sheet.seat()?.map(|plan| plan.slot), Some(vec![2, 1]));
+    /// sheet.add_rule(1, 2, 0, 1);
+    /// assert_eq!(sheet.seat()?, None);
+    /// # Ok(())
+    /// # }
+    /// ```
+    pub fn seat(&self) -> Result<Option<Plan>, Refusal> {
+        let mut own = OwnRooms::new(self);
+        let OwnRooms { table, plan, earliest, latest, .. } = &mut own;
+        let reply = entry::seat(self.lists(), entry::SeatRooms { table, plan, earliest, latest });
+        unless_refused(reply.number, reply.line)?;
+        Ok((reply.planned == 1).then(|| own.into_plan(self.span)))
     }
 
     /// Plans the sheet and prints the answer page.
@@ -244,5 +305,17 @@ impl OwnRooms {
             latest: &mut self.latest,
             ring: &mut self.ring,
         }
+    }
+
+    /// What a ring of this length leaves.
+    fn into_ring(mut self, length: usize) -> Vec<u16> {
+        self.ring.truncate(length);
+        self.ring
+    }
+
+    /// What a plan leaves.
+    fn into_plan(self, span: usize) -> Plan {
+        let OwnRooms { table, plan, earliest, latest, .. } = self;
+        Plan { slot: plan, earliest, latest, counts: Counts { table, span } }
     }
 }

@@ -1,9 +1,9 @@
 //! Calls of the planner's open entries with marked rooms, and what must stand in every place afterwards.
 
-use crate::questions::{planning_refusal, Lengths, Lists};
+use crate::questions::{planning_refusal, refusal, Call, Lengths, Lists};
 use crate::reading::{read_into, Refusal};
 use crate::sheet::{Sheet, Solved};
-use tugrokt::entry::{self, Planning, Printing, Reading};
+use tugrokt::entry::{self, DecideRooms, Planning, Printing, Reading, SeatRooms, Seating};
 
 /// Marks that no answer has, other ones in neighbouring places.
 pub fn marked_u16(length: usize) -> Vec<u16> {
@@ -31,7 +31,7 @@ pub fn lent(lists: &Lists) -> entry::Lists<'_> {
     }
 }
 
-/// The rooms of planning.
+/// The rooms of planning. Deciding and seating are lent those that they take.
 #[derive(Clone, Debug, PartialEq, Eq)]
 pub struct Rooms {
     pub table: Vec<i16>,
@@ -62,23 +62,30 @@ impl Rooms {
         }
     }
 
-    /// What marked rooms become by a plan.
-    fn with_plan(l: &Lengths, solved: &Solved) -> Rooms {
-        let mut rooms = Rooms::marked(l);
-        let n = solved.plan.len();
-        rooms.table[..solved.table.len()].copy_from_slice(&solved.table);
-        rooms.plan[..n].copy_from_slice(&solved.plan);
-        rooms.earliest[..n].copy_from_slice(&solved.earliest);
-        rooms.latest[..n].copy_from_slice(&solved.latest);
-        rooms
+    pub fn lengths(&self) -> Lengths {
+        let Rooms { table, plan, earliest, latest, ring } = self;
+        Lengths { table: table.len(), plan: plan.len(), earliest: earliest.len(), latest: latest.len(), ring: ring.len() }
     }
 
-    /// What marked rooms become by this ring.
-    fn with_ring(l: &Lengths, sheet: &Sheet, ring: &[u16]) -> Rooms {
-        let mut rooms = Rooms::marked(l);
-        rooms.table[..sheet.boundaries().pow(2)].fill(0);
-        rooms.ring[..ring.len()].copy_from_slice(ring);
-        rooms
+    /// What the rooms become where there is a plan.
+    fn with_plan(mut self, call: Call, solved: &Solved) -> Rooms {
+        self.table[..solved.table.len()].copy_from_slice(&solved.table);
+        if call.seats() {
+            let n = solved.plan.len();
+            self.plan[..n].copy_from_slice(&solved.plan);
+            self.earliest[..n].copy_from_slice(&solved.earliest);
+            self.latest[..n].copy_from_slice(&solved.latest);
+        }
+        self
+    }
+
+    /// What they become where there is none, with this ring for a call that shows one.
+    fn with_none(mut self, call: Call, sheet: &Sheet, ring: &[u16]) -> Rooms {
+        self.table[..sheet.boundaries().pow(2)].fill(0);
+        if call.shows_ring() {
+            self.ring[..ring.len()].copy_from_slice(ring);
+        }
+        self
     }
 }
 
@@ -95,27 +102,105 @@ pub fn rooms_fault(got: &Rooms, expected: &Rooms) -> Option<String> {
         .or_else(|| differ("ring", &got.ring, &expected.ring))
 }
 
-/// Plans in marked rooms of these lengths, and says what is wrong. `solved` is the model's answer to the lists' sheet, which
-/// is not looked at if the call is to be refused.
-pub fn planning_fault(lists: &Lists, lengths: &Lengths, solved: Option<&Solved>) -> Option<String> {
-    let mut rooms = Rooms::marked(lengths);
-    let reply = entry::plan(lent(lists), rooms.lend());
-    let number = planning_refusal(lists, lengths);
-    let (length, expected_rooms) = if number != 0 {
-        (0, Rooms::marked(lengths))
+/// What a call replies.
+#[derive(Clone, Copy, Debug, PartialEq, Eq)]
+pub enum Reply {
+    Planning(Planning),
+    Seating(Seating),
+}
+
+impl Reply {
+    fn expected(call: Call, number: usize, planned: bool, length: usize) -> Reply {
+        match call {
+            Call::Plan | Call::Decide => Reply::Planning(Planning { number, line: 0, length }),
+            Call::Seat => Reply::Seating(Seating { number, line: 0, planned: planned as usize }),
+        }
+    }
+
+    pub fn number(self) -> usize {
+        match self {
+            Reply::Planning(reply) => reply.number,
+            Reply::Seating(reply) => reply.number,
+        }
+    }
+}
+
+/// What one call replied and left.
+#[derive(Clone, Debug, PartialEq, Eq)]
+pub struct Called {
+    pub reply: Reply,
+    pub rooms: Rooms,
+}
+
+/// Makes a call in rooms that hold this before.
+pub fn made(call: Call, lists: &Lists, before: &Rooms) -> Called {
+    let mut rooms = before.clone();
+    let lists = lent(lists);
+    let Rooms { table, plan, earliest, latest, ring } = &mut rooms;
+    let reply = match call {
+        Call::Plan => Reply::Planning(entry::plan(lists, entry::Rooms { table, plan, earliest, latest, ring })),
+        Call::Decide => Reply::Planning(entry::decide(lists, DecideRooms { table, ring })),
+        Call::Seat => Reply::Seating(entry::seat(lists, SeatRooms { table, plan, earliest, latest })),
+    };
+    Called { reply, rooms }
+}
+
+/// The ring of a reply, and nothing of one that shows none. Says what is wrong with it.
+fn ring_of<'a>(called: &'a Called, sheet: &Sheet) -> Result<&'a [u16], String> {
+    let Reply::Planning(reply) = called.reply else { return Ok(&[]) };
+    let ring = called.rooms.ring.get(..reply.length);
+    let ring = ring.ok_or_else(|| format!("{reply:?} in a room of {} places", called.rooms.ring.len()))?;
+    sheet.ring_fault(ring).map_or(Ok(ring), |fault| Err(format!("{ring:?} is no ring: {fault}")))
+}
+
+/// Says what is wrong with what a call replied and left, against the model. `solved` is the model's answer to the lists' sheet, which is
+/// not looked at if the call is to be refused.
+pub fn called_fault(call: Call, lists: &Lists, before: &Rooms, solved: Option<&Solved>, called: &Called) -> Option<String> {
+    let number = refusal(call, lists, &before.lengths());
+    let (length, expected) = if number != 0 {
+        (0, before.clone())
     } else if let Some(solved) = solved {
-        (0, Rooms::with_plan(lengths, solved))
+        (0, before.clone().with_plan(call, solved))
     } else {
         let sheet = lists.sheet();
-        let Some(ring) = rooms.ring.get(..reply.length) else {
-            return Some(format!("{reply:?} in a room of {} places", rooms.ring.len()));
-        };
-        if let Some(fault) = sheet.ring_fault(ring) {
-            return Some(format!("{ring:?} is no ring: {fault}"));
+        match ring_of(called, &sheet) {
+            Err(fault) => return Some(fault),
+            Ok(ring) => (ring.len(), before.clone().with_none(call, &sheet, ring)),
         }
-        (ring.len(), Rooms::with_ring(lengths, &sheet, ring))
     };
-    differ("reply", &reply, &Planning { number, line: 0, length }).or_else(|| rooms_fault(&rooms, &expected_rooms))
+    let planned = number == 0 && solved.is_some();
+    differ("reply", &called.reply, &Reply::expected(call, number, planned, length)).or_else(|| rooms_fault(&called.rooms, &expected))
+}
+
+/// Plans, decides and seats in rooms that hold this before, and says what is wrong, against the model and of the calls against each other:
+/// those that are not refused leave the same in each room that they share.
+pub fn calls_fault(lists: &Lists, before: &Rooms, solved: Option<&Solved>) -> Option<String> {
+    let [planned, decided, seated] = Call::ALL.map(|call| made(call, lists, before));
+    for (call, called) in Call::ALL.into_iter().zip([&planned, &decided, &seated]) {
+        if let Some(fault) = called_fault(call, lists, before, solved, called) {
+            return Some(format!("{call:?}: {fault}"));
+        }
+    }
+    let answered = |a: &Called, b: &Called| a.reply.number() == 0 && b.reply.number() == 0;
+    if answered(&planned, &decided) {
+        let expected = Rooms { table: planned.rooms.table.clone(), ring: planned.rooms.ring.clone(), ..before.clone() };
+        let expected = Called { reply: planned.reply, rooms: expected };
+        if let Some(fault) = differ("decided beside planned", &decided, &expected) {
+            return Some(fault);
+        }
+    }
+    if answered(&planned, &seated) {
+        let expected = Rooms { ring: before.ring.clone(), ..planned.rooms.clone() };
+        if let Some(fault) = rooms_fault(&seated.rooms, &expected) {
+            return Some(format!("seated beside planned: {fault}"));
+        }
+    }
+    None
+}
+
+/// The same in marked rooms of these lengths.
+pub fn planning_fault(lists: &Lists, lengths: &Lengths, solved: Option<&Solved>) -> Option<String> {
+    calls_fault(lists, &Rooms::marked(lengths), solved)
 }
 
 /// What one call of print left.
@@ -157,7 +242,7 @@ pub fn printing_fault(
     let sheet = lists.sheet();
     let long = print(lists, lengths, before + tugrokt::MAX_PAGE + extra, before);
     let (length, expected_rooms, expected_page) = match solved {
-        Some(solved) => (0, Rooms::with_plan(lengths, solved), crate::page::of_plan(&sheet, solved)),
+        Some(solved) => (0, Rooms::marked(lengths).with_plan(Call::Plan, solved), crate::page::of_plan(&sheet, solved)),
         None => {
             let Some(ring) = long.rooms.ring.get(..long.reply.length) else {
                 return Some(format!("{:?} in a room of {} places", long.reply, long.rooms.ring.len()));
@@ -165,7 +250,7 @@ pub fn printing_fault(
             if let Some(fault) = sheet.ring_fault(ring) {
                 return Some(format!("{ring:?} is no ring: {fault}"));
             }
-            (ring.len(), Rooms::with_ring(lengths, &sheet, ring), crate::page::of_ring(&sheet, ring))
+            (ring.len(), Rooms::marked(lengths).with_none(Call::Plan, &sheet, ring), crate::page::of_ring(&sheet, ring))
         }
     };
     let end = before + expected_page.len();

@@ -71,6 +71,10 @@ pub fn named(name: &str) -> Case {
 /// The cases whose pages are known byte for byte, with their pages.
 pub const PAGES: [(&str, &str); 4] = [("P2", P2_PAGE), ("P4", P4_PAGE), ("P11", P11_PAGE), ("P12", P12_PAGE)];
 
+/// The same of the question whether they fit; of P4 there is no plan.
+pub const FITS_PAGES: [(&str, &str); 5] =
+    [("P2", P2_FITS_PAGE), ("P4", P4_PAGE), ("P7", P7_FITS_PAGE), ("P11", P11_FITS_PAGE), ("P12", P12_FITS_PAGE)];
+
 /// P2's page, byte for byte as docs/RULES.md prints it.
 pub const P2_PAGE: &str = "(answer plan 2)
 (unit 1 (slot 1) (between 1 2))
@@ -103,4 +107,29 @@ pub const P12_PAGE: &str = "(answer plan 2)
 (slot 1 (count 1) (range 0 1))
 (slot 2 (count 0) (range 0 1))
 (slot 3 (count 0) (range 0 1))
+";
+
+/// P2 fits, byte for byte as docs/RULES.md prints it.
+pub const P2_FITS_PAGE: &str = "(answer fits 2)
+(slot 1 (range 0 1))
+(slot 2 (range 0 1))
+(slot 3 (range 0 1))
+(slot 4 (range 0 1))
+";
+
+/// P7 has a slot and no unit.
+pub const P7_FITS_PAGE: &str = "(answer fits 0)
+(slot 1 (range 0 0))
+";
+
+/// P11 and P12 carry a unit; the carried place has no line.
+pub const P11_FITS_PAGE: &str = "(answer fits 2)
+(slot 1 (range 0 1))
+(slot 2 (range 0 1))
+";
+
+pub const P12_FITS_PAGE: &str = "(answer fits 2)
+(slot 1 (range 0 1))
+(slot 2 (range 0 1))
+(slot 3 (range 0 1))
 ";

@@ -1,10 +1,9 @@
-//! The answer page: a formatter, and a parser that takes a page apart again.
+//! The answer page: formatters, and a parser that takes a page apart again.
 
 use crate::sheet::{Sheet, Solved};
 
 /// The page of a plan.
 pub fn of_plan(sheet: &Sheet, solved: &Solved) -> Vec<u8> {
-    let w = sheet.boundaries();
     let mut page = format!("(answer plan {})\n", sheet.units.len());
     for i in 0..sheet.units.len() {
         let (loader, first, last) = (sheet.units[i].loader, solved.earliest[i], solved.latest[i]);
@@ -13,10 +12,26 @@ pub fn of_plan(sheet: &Sheet, solved: &Solved) -> Vec<u8> {
     }
     for slot in 1..=sheet.span {
         let count = solved.plan.iter().filter(|&&s| s as usize == slot).count();
-        let (least, greatest) = (-solved.table[slot * w + slot - 1], solved.table[(slot - 1) * w + slot]);
+        let (least, greatest) = range(sheet, solved, slot);
         page += &format!("(slot {slot} (count {count}) (range {least} {greatest}))\n");
     }
     page.into_bytes()
+}
+
+/// The page of a sheet that fits.
+pub fn of_fits(sheet: &Sheet, solved: &Solved) -> Vec<u8> {
+    let mut page = format!("(answer fits {})\n", sheet.units.len());
+    for slot in 1..=sheet.span {
+        let (least, greatest) = range(sheet, solved, slot);
+        page += &format!("(slot {slot} (range {least} {greatest}))\n");
+    }
+    page.into_bytes()
+}
+
+/// The least and the greatest count of a slot.
+fn range(sheet: &Sheet, solved: &Solved, slot: usize) -> (i16, i16) {
+    let w = sheet.boundaries();
+    (-solved.table[slot * w + slot - 1], solved.table[(slot - 1) * w + slot])
 }
 
 /// The page of no plan, with this ring.
@@ -54,6 +69,8 @@ pub struct SlotLine {
 #[derive(Clone, Debug, PartialEq, Eq)]
 pub enum Page {
     Plan { units: Vec<UnitLine>, slots: Vec<SlotLine> },
+    /// The number of units, and the least and the greatest count of each slot.
+    Fits { units: usize, ranges: Vec<(u16, u16)> },
     /// The boundaries that the lines step through, and the shortfall.
     None { ring: Vec<u16>, shortfall: u64 },
     Refused { number: usize, line: usize },
@@ -109,6 +126,15 @@ pub fn parse(page: &[u8]) -> Option<Page> {
         }
         return Some(Page::Plan { units, slots });
     }
+    if let Some(n) = numbers(head, "answer fits #") {
+        let mut ranges = Vec::new();
+        for line in lines {
+            let i = ranges.len() as u64 + 1;
+            let s = numbers(line, "slot # (range # #)").filter(|s| s[0] == i)?;
+            ranges.push((s[1] as u16, s[2] as u16));
+        }
+        return Some(Page::Fits { units: n[0] as usize, ranges });
+    }
     numbers(head, "answer none")?;
     let mut steps: Vec<(u16, u16)> = Vec::new();
     for line in lines.by_ref() {
@@ -129,8 +155,18 @@ pub fn parse(page: &[u8]) -> Option<Page> {
 
 /// Is this the whole answer page of the sheet? Any ring is taken. Says what is wrong.
 pub fn fault(sheet: &Sheet, solved: Option<&Solved>, page: &[u8]) -> Option<String> {
-    let expected = match solved {
-        Some(solved) => of_plan(sheet, solved),
+    answer_fault(sheet, solved.map(|solved| of_plan(sheet, solved)), page)
+}
+
+/// The same of the page that says whether the sheet fits.
+pub fn fits_fault(sheet: &Sheet, solved: Option<&Solved>, page: &[u8]) -> Option<String> {
+    answer_fault(sheet, solved.map(|solved| of_fits(sheet, solved)), page)
+}
+
+/// Is this the page expected or, where none is, that of a ring?
+fn answer_fault(sheet: &Sheet, expected: Option<Vec<u8>>, page: &[u8]) -> Option<String> {
+    let expected = match expected {
+        Some(expected) => expected,
         None => match parse(page) {
             Some(Page::None { ring, .. }) => {
                 if let Some(fault) = sheet.ring_fault(&ring) {

@@ -1,4 +1,5 @@
-//! The questions that planning and printing ask of lists and rooms, in their order (docs/RULES.md, "The order of the questions").
+//! The questions that planning, deciding, seating and printing ask of lists and rooms, in their order (docs/RULES.md, "The order of the
+//! questions").
 
 use crate::sheet::{carried_place, Rule, Sheet, Unit, MAX_COUNT, MAX_LOADER, MAX_RULES, MAX_SLOTS, MAX_UNITS};
 
@@ -15,7 +16,29 @@ pub struct Lists {
     pub high: Vec<u16>,
 }
 
-/// The lengths of the rooms lent to planning.
+/// The calls that answer a sheet's lists.
+#[derive(Clone, Copy, Debug, PartialEq, Eq)]
+pub enum Call {
+    Plan,
+    Decide,
+    Seat,
+}
+
+impl Call {
+    pub const ALL: [Call; 3] = [Call::Plan, Call::Decide, Call::Seat];
+
+    /// Does it seat units and narrow windows, and take room for them?
+    pub fn seats(self) -> bool {
+        self != Call::Decide
+    }
+
+    /// Does it show a ring where there is no plan, and take room for it?
+    pub fn shows_ring(self) -> bool {
+        self != Call::Seat
+    }
+}
+
+/// The lengths of the rooms lent to planning; deciding and seating are lent some of them.
 #[derive(Clone, Copy, Debug, PartialEq, Eq)]
 pub struct Lengths {
     pub table: usize,
@@ -98,8 +121,8 @@ pub fn is_new(loader: u16, earlier: &[u16]) -> bool {
     1 <= loader && loader <= MAX_LOADER && !earlier.contains(&loader)
 }
 
-/// The first question that is answered no, or 0.
-pub fn planning_refusal(lists: &Lists, rooms: &Lengths) -> usize {
+/// The first question of those before 12 that is answered no, or 0.
+pub fn lists_refusal(lists: &Lists) -> usize {
     let (n, k) = (lists.first.len(), lists.from.len());
     if lists.loader.len() != n || lists.last.len() != n || lists.to.len() != k || lists.low.len() != k || lists.high.len() != k {
         return 13;
@@ -124,11 +147,23 @@ pub fn planning_refusal(lists: &Lists, rooms: &Lengths) -> usize {
     if !(0..k).all(|i| is_count(lists.low[i], lists.high[i])) {
         return 8;
     }
+    0
+}
+
+/// The first question that is answered no, or 0. A call asks 12 of the rooms that it takes, and of no other.
+pub fn refusal(call: Call, lists: &Lists, rooms: &Lengths) -> usize {
+    let number = lists_refusal(lists);
+    if number != 0 {
+        return number;
+    }
     let needed = Lengths::exact(&lists.sheet());
-    let enough = rooms.table >= needed.table
-        && rooms.plan >= needed.plan
-        && rooms.earliest >= needed.earliest
-        && rooms.latest >= needed.latest
-        && rooms.ring >= needed.ring;
+    let seats_fit = rooms.plan >= needed.plan && rooms.earliest >= needed.earliest && rooms.latest >= needed.latest;
+    let enough =
+        rooms.table >= needed.table && (!call.seats() || seats_fit) && (!call.shows_ring() || rooms.ring >= needed.ring);
     if enough { 0 } else { 12 }
+}
+
+/// The same of planning, and of printing before its 15.
+pub fn planning_refusal(lists: &Lists, rooms: &Lengths) -> usize {
+    refusal(Call::Plan, lists, rooms)
 }

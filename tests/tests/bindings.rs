@@ -6,7 +6,7 @@ use std::process::{Command, Stdio};
 
 use model::cases::{self, Says};
 use model::{enumerated, page};
-use tugrokt::{Answer, Refusal, Sheet};
+use tugrokt::{Answer, Decision, Refusal, Sheet};
 
 #[test]
 fn document_cases() {
@@ -21,6 +21,27 @@ fn document_cases() {
             }
             (Answer::None { ring }, Says::None(..)) => assert_eq!(case.sheet.ring_fault(&ring), None),
             (answer, says) => panic!("{}: {answer:?}, but {says:?}", case.name),
+        }
+    }
+}
+
+/// Deciding and seating give what planning gives: the counts or the ring, the plan or nothing.
+#[test]
+fn decisions_and_seats() {
+    for case in cases::all() {
+        let sheet = Sheet::read(&case.sheet.text()).unwrap();
+        match (sheet.plan().unwrap(), sheet.decide().unwrap(), sheet.seat().unwrap()) {
+            (Answer::Plan(plan), Decision::Fits(counts), Some(seated)) => {
+                assert_eq!((&counts, &seated), (&plan.counts, &plan), "{}", case.name);
+                let solved = enumerated::solve(&case.sheet).unwrap();
+                let w = case.sheet.boundaries();
+                for (first, last) in (1..w).flat_map(|first| (first..w).map(move |last| (first, last))) {
+                    let range = (-solved.table[last * w + first - 1] as u16, solved.table[(first - 1) * w + last] as u16);
+                    assert_eq!((counts.range(first, last), plan.range(first, last)), (range, range), "{}", case.name);
+                }
+            }
+            (Answer::None { ring }, Decision::None { ring: decided }, None) => assert_eq!(decided, ring, "{}", case.name),
+            other => panic!("{}: {other:?}", case.name),
         }
     }
 }
@@ -64,6 +85,9 @@ fn carried_units() {
     assert_eq!([0, 1].map(|unit| plan.is_carried(unit)), [false, true]);
     assert_eq!([plan.range(1, 3), plan.range(4, 4), plan.range(3, 4), plan.range(1, 4)], [(1, 1), (1, 1), (1, 2), (2, 2)]);
     assert_eq!(sheet.page().unwrap(), cases::P12_PAGE.replace("unit 1 ", "unit 4017 ").replace("unit 2 ", "unit 12 ").as_bytes());
+    let Decision::Fits(counts) = sheet.decide().unwrap() else { panic!("P12 fits") };
+    assert_eq!([counts.range(1, 3), counts.range(4, 4), counts.range(3, 4), counts.range(1, 4)], [(1, 1), (1, 1), (1, 2), (2, 2)]);
+    assert!(sheet.seat().unwrap().unwrap().is_carried(1));
     sheet.add_unit(1, 4, 4);
     assert_eq!(sheet.plan(), Err(Refusal { question: 7, line: 0 }));
 }
@@ -82,6 +106,21 @@ fn the_largest_rooms() {
     assert_eq!(plan(tugrokt::MAX_CELLS, tugrokt::MAX_BOUNDARIES), 0);
     assert_eq!(plan(tugrokt::MAX_CELLS - 1, tugrokt::MAX_BOUNDARIES), 12);
     assert_eq!(plan(tugrokt::MAX_CELLS, tugrokt::MAX_BOUNDARIES - 1), 12);
+    let decide = |table: usize, ring: usize| {
+        let (mut table, mut ring) = (vec![0; table], vec![0; ring]);
+        tugrokt::entry::decide(sheet.lists(), tugrokt::entry::DecideRooms { table: &mut table, ring: &mut ring }).number
+    };
+    assert_eq!(decide(tugrokt::MAX_CELLS, tugrokt::MAX_BOUNDARIES), 0);
+    assert_eq!(decide(tugrokt::MAX_CELLS - 1, tugrokt::MAX_BOUNDARIES), 12);
+    assert_eq!(decide(tugrokt::MAX_CELLS, tugrokt::MAX_BOUNDARIES - 1), 12);
+    let seat = |table: usize, units: usize| {
+        let (mut table, mut rooms) = (vec![0; table], [vec![0; units], vec![0; units], vec![0; units]]);
+        let [plan, earliest, latest] = &mut rooms;
+        tugrokt::entry::seat(sheet.lists(), tugrokt::entry::SeatRooms { table: &mut table, plan, earliest, latest }).number
+    };
+    assert_eq!(seat(tugrokt::MAX_CELLS, 1), 0);
+    assert_eq!(seat(tugrokt::MAX_CELLS - 1, 1), 12);
+    assert_eq!(seat(tugrokt::MAX_CELLS, 0), 12);
 }
 
 #[test]
@@ -92,6 +131,10 @@ fn refusals() {
     assert_eq!(Sheet::read(again), Err(Refusal { question: 16, line: 4 }));
     assert_eq!(Sheet::new(0).plan(), Err(Refusal { question: 6, line: 0 }));
     assert_eq!(Sheet::new(usize::MAX).plan(), Err(Refusal { question: 6, line: 0 }));
+    for span in [0, 49, usize::MAX] {
+        assert_eq!(Sheet::new(span).decide(), Err(Refusal { question: 6, line: 0 }));
+        assert_eq!(Sheet::new(span).seat(), Err(Refusal { question: 6, line: 0 }));
+    }
     let mut lopsided = Sheet::new(4);
     lopsided.first.push(1);
     assert_eq!(lopsided.plan(), Err(Refusal { question: 13, line: 0 }));
@@ -103,6 +146,8 @@ fn refusals() {
     assert_eq!(lopsided.plan(), Err(Refusal { question: 16, line: 0 }));
     lopsided.loader[1] = tugrokt::MAX_LOADER + 1;
     assert_eq!(lopsided.page(), Err(Refusal { question: 16, line: 0 }));
+    assert_eq!(lopsided.decide(), Err(Refusal { question: 16, line: 0 }));
+    assert_eq!(lopsided.seat(), Err(Refusal { question: 16, line: 0 }));
     assert_eq!(Refusal { question: 7, line: 3 }.to_string(), "(refused 7 (line 3))");
 }
 
@@ -162,18 +207,22 @@ fn replies_from_c() {
         };
         let end = 7 + sheet.page().unwrap().len();
         let planned = format!("planning 0 0 {ring}");
-        let full = [read.clone(), planned.clone(), format!("printing 0 0 {ring} {end}")];
+        let decided = format!("deciding 0 0 {ring}");
+        let seated = format!("seating 0 0 {}", (ring == 0) as usize);
+        let full = [read.clone(), planned.clone(), decided.clone(), seated.clone(), format!("printing 0 0 {ring} {end}")];
         assert_eq!(replies(&text, [units, 7, end]), full, "{}", case.name);
-        let short = [read.clone(), planned, "printing 15 0 0 7 unchanged".to_string()];
+        let short = [read.clone(), planned, decided.clone(), seated, "printing 15 0 0 7 unchanged".to_string()];
         assert_eq!(replies(&text, [units, 7, end - 1]), short, "{}", case.name);
         if units > 0 {
-            let narrow = [read, "planning 12 0 0 unchanged".to_string(), "printing 12 0 0 7 unchanged".to_string()];
-            assert_eq!(replies(&text, [units - 1, 7, end]), narrow, "{}", case.name);
+            // Deciding takes no room for units.
+            let [planned, seated, printed] = ["planning 12 0 0 unchanged", "seating 12 0 0 unchanged", "printing 12 0 0 7 unchanged"].map(str::to_string);
+            assert_eq!(replies(&text, [units - 1, 7, end]), [read, planned, decided, seated, printed], "{}", case.name);
         }
     }
     let refused = |number: usize, line: usize| {
         let read = format!("reading {number} {line} 0 0 0 unchanged");
-        [read, "planning 6 0 0 unchanged".to_string(), "printing 6 0 0 3 unchanged".to_string()]
+        let others = ["planning 6 0 0 unchanged", "deciding 6 0 0 unchanged", "seating 6 0 0 unchanged", "printing 6 0 0 3 unchanged"];
+        std::iter::once(read).chain(others.map(str::to_string)).collect::<Vec<_>>()
     };
     assert_eq!(replies(b"(sheet 4)\n(note)\n(unit 1 (window 4 3))\n", [300, 3, 100]), refused(7, 3));
     assert_eq!(replies(b"(sheet 4)\n(unit 5 (window 1 3))\n(unit 5 (window 1 3))\n", [300, 3, 100]), refused(16, 3));
@@ -191,6 +240,28 @@ fn planning_from_c() {
     let numbered = case("P2").numbered(&[4_017, 12]);
     assert_eq!(run(&numbered.text()), "unit 4017: slot 1, from 1 to 2\nunit 12: slot 3, from 3 to 4\n");
     assert_eq!(run(b"(sheet 49)\n"), "(refused 6 (line 1))\n");
+}
+
+/// The examples that decide: how full each slot can be, or the ring.
+fn decides(run: impl Fn(&[u8]) -> String) {
+    let case = |name: &str| run(&cases::named(name).sheet.text());
+    assert_eq!(case("P2"), "slot 1: 0 to 1\nslot 2: 0 to 1\nslot 3: 0 to 1\nslot 4: 0 to 1\n");
+    assert_eq!(case("P4"), "boundary 0\nboundary 3\n");
+    assert_eq!(case("P6"), "slot 1: 1 to 1\nslot 2: 0 to 1\nslot 3: 0 to 1\n");
+    assert_eq!(case("P11"), "slot 1: 0 to 1\nslot 2: 0 to 1\n");
+    assert_eq!(run(b"(sheet 49)\n"), "(refused 6 (line 1))\n");
+    assert_eq!(run(&[b'x'; 16_001]), "(refused 1 (line 0))\n");
+}
+
+#[test]
+fn deciding_from_c() {
+    let program = c_example("decide");
+    decides(|text| written(&mut Command::new(&program), text));
+}
+
+#[test]
+fn deciding_from_rust() {
+    decides(|text| rust_example("decide", text));
 }
 
 /// The examples that print a page, against the model.

@@ -164,7 +164,7 @@ fn worked_pages() {
     assert_eq!(first.as_bytes(), cases::named("P2").sheet.text());
     for (document, sheets) in [("README.md", vec![first.as_str()]), ("docs/RULES.md", vec![])] {
         let blocks = blocks(&read(document));
-        for expected in sheets.into_iter().chain([cases::P2_PAGE, cases::P4_PAGE, cases::P12_PAGE]) {
+        for expected in sheets.into_iter().chain([cases::P2_PAGE, cases::P2_FITS_PAGE, cases::P4_PAGE, cases::P12_PAGE]) {
             assert!(blocks.iter().any(|block| block == expected), "{document} does not have\n{expected}");
         }
     }

@@ -2,7 +2,7 @@
 
 use model::cases::{self, Says};
 use model::page::{self, Page};
-use model::questions::{is_new, is_stretch, is_window, planning_refusal, Lengths, Lists};
+use model::questions::{is_new, is_stretch, is_window, planning_refusal, refusal, Call, Lengths, Lists};
 use model::random::{any_sheet, largest_sheet, loaders, small_sheet, Random, Reach};
 use model::sheet::{Sheet, Solved};
 use model::{computed, effort, enumerated, seed};
@@ -202,6 +202,10 @@ fn both_halves_agree_on_small_sheets() {
                 let page = page::of_plan(&sheet, &solved);
                 assert_eq!(page::fault(&sheet, Some(&solved), &page), None);
                 let Some(Page::Plan { units, slots }) = page::parse(&page) else { panic!("case {i}") };
+                let ranges = slots.iter().map(|s| (s.least, s.greatest)).collect();
+                let fits = page::of_fits(&sheet, &solved);
+                assert_eq!(page::fits_fault(&sheet, Some(&solved), &fits), None);
+                assert_eq!(page::parse(&fits), Some(Page::Fits { units: units.len(), ranges }));
                 assert_eq!(units.iter().map(|u| u.slot).collect::<Vec<_>>(), solved.plan.iter().map(|&s| sheet.slot_at(s)).collect::<Vec<_>>());
                 let carried = units.iter().filter(|u| u.slot.is_none()).count();
                 assert_eq!(slots.iter().map(|s| s.count as usize).sum::<usize>() + carried, sheet.units.len());
@@ -213,6 +217,7 @@ fn both_halves_agree_on_small_sheets() {
                 assert_eq!(sheet.ring_fault(&ring), None, "seed {} case {i}: {sheet:?}", seed(1));
                 let page = page::of_ring(&sheet, &ring);
                 assert_eq!(page::fault(&sheet, None, &page), None);
+                assert_eq!(page::fits_fault(&sheet, None, &page), None);
                 let shortfall = -sheet.ring_sum(&ring) as u64;
                 assert_eq!(page::parse(&page), Some(Page::None { ring, shortfall }));
             }
@@ -410,4 +415,41 @@ fn planning_questions_keep_their_order() {
     assert_eq!((rooms.table, rooms.ring), (25, 5));
     assert_eq!(planning_refusal(&lists, &Lengths { ring: 4, ..rooms }), 12);
     assert_eq!(planning_refusal(&lists, &Lengths { table: 24, ..rooms }), 12);
+}
+
+/// The page of a sheet that fits has its head, a line for each slot and no other: none for the carried place, no unit and no count.
+#[test]
+fn pages_of_sheets_that_fit() {
+    for (name, page) in cases::FITS_PAGES {
+        let sheet = cases::named(name).sheet;
+        let solved = enumerated::solve(&sheet);
+        let fault = |page: &str| page::fits_fault(&sheet, solved.as_ref(), page.as_bytes());
+        assert_eq!(fault(page), None, "{name}");
+        if let Some(solved) = &solved {
+            assert!(fault(&String::from_utf8(page::of_plan(&sheet, solved)).unwrap()).is_some(), "{name}");
+            assert!(page::fault(&sheet, Some(solved), page.as_bytes()).is_some(), "{name}");
+        }
+        let carried = format!("{page}(slot {} (range 1 1))\n", sheet.carried_place());
+        for wrong in [carried, page.replace("fits", "plan"), page.replace("(range 0", "(count 0) (range 0"), page.replacen("\n", "\n\n", 1)] {
+            assert!(wrong == page || fault(&wrong).is_some(), "{name}: {wrong}");
+        }
+    }
+}
+
+/// Each call asks 12 of its own rooms, after all other questions.
+#[test]
+fn each_call_asks_for_its_own_rooms() {
+    let sheet = Sheet::new(3, &[(1, 3), (2, 2)], &[(1, 2, 0, 300)]);
+    let (lists, exact) = (Lists::from(&sheet), Lengths::exact(&sheet));
+    let answers = |lists: &Lists, rooms: Lengths| Call::ALL.map(|call| refusal(call, lists, &rooms));
+    assert_eq!(exact, Lengths { table: 25, plan: 2, earliest: 2, latest: 2, ring: 5 });
+    assert_eq!(answers(&lists, exact), [0, 0, 0]);
+    assert_eq!(answers(&lists, Lengths { table: 24, ..exact }), [12, 12, 12]);
+    assert_eq!(answers(&lists, Lengths { ring: 4, ..exact }), [12, 12, 0]);
+    for short in [Lengths { plan: 1, ..exact }, Lengths { earliest: 1, ..exact }, Lengths { latest: 1, ..exact }] {
+        assert_eq!(answers(&lists, short), [12, 0, 12], "{short:?}");
+    }
+    let mut wrong = lists.clone();
+    wrong.high[0] = 301;
+    assert_eq!(answers(&wrong, Lengths { table: 0, plan: 0, earliest: 0, latest: 0, ring: 0 }), [8, 8, 8]);
 }

@@ -29,9 +29,14 @@ fn plan() -> Command {
 
 /// Starts the command on a text. It stands in a file, so that nothing has to feed a pipe.
 fn start(name: &str, text: &[u8]) -> Child {
+    start_with(&[], name, text)
+}
+
+/// The same with these words.
+fn start_with(words: &[&str], name: &str, text: &[u8]) -> Child {
     let path = Path::new(env!("CARGO_TARGET_TMPDIR")).join(format!("{name}.sheet"));
     fs::write(&path, text).unwrap();
-    spawn(plan().stdin(File::open(path).unwrap()))
+    spawn(plan().args(words).stdin(File::open(path).unwrap()))
 }
 
 fn end(child: Child) -> (i32, String, String) {
@@ -50,13 +55,34 @@ fn the_status_is_the_answer() {
     assert_eq!(end(start("zero", b"(sheet 4)\0\n")), (2, "(refused 2 (line 1))\n".into(), String::new()));
 }
 
+/// With `fits` the page says whether there is a plan, and the status too; `plan` is what is asked without a word.
+#[test]
+fn the_word_is_handed_on() {
+    let (p2, p4) = (cases::named("P2").sheet.text(), cases::named("P4").sheet.text());
+    assert_eq!(end(start_with(&["fits"], "fits", &p2)), (0, cases::P2_FITS_PAGE.into(), String::new()));
+    assert_eq!(end(start_with(&["fits"], "fits_none", &p4)), (1, cases::P4_PAGE.into(), String::new()));
+    assert_eq!(end(start_with(&["fits"], "fits_refused", b"(sheet 49)\n")), (2, "(refused 6 (line 1))\n".into(), String::new()));
+    assert_eq!(end(start_with(&["fits"], "fits_empty", b"")), (2, "(refused 5 (line 0))\n".into(), String::new()));
+    assert_eq!(end(start_with(&["plan"], "word_plan", &p2)), (0, cases::P2_PAGE.into(), String::new()));
+    for words in [&["fit"][..], &["--help"], &[""], &["fits", ""], &["fits", "plan"], &["plan", "fits"], &["fits", "fits"]] {
+        let (status, page, said) = end(start_with(words, "no_word", &p2));
+        assert_eq!((status, page.as_str()), (3, ""), "{words:?}");
+        // The program's own lines with its words, and then the command's.
+        let (usage, last) = said.strip_suffix('\n').unwrap().rsplit_once('\n').expect("two lines");
+        assert!(usage.contains("plan") && usage.contains("fits"), "{said}");
+        assert_eq!(last, format!("plan: there is no page for: {}", words.join(" ")));
+    }
+}
+
 /// What cannot be read or written is said, and is no answer.
 #[test]
 fn reading_or_writing_fails() {
-    let folder = spawn(plan().stdin(File::open("/").unwrap()));
-    let (status, page, said) = end(folder);
-    assert_eq!((status, page.as_str()), (3, ""));
-    assert!(said.contains("plan: the sheet could not be read"), "{said}");
+    for words in [&[][..], &["plan"], &["fits"]] {
+        let folder = spawn(plan().args(words).stdin(File::open("/").unwrap()));
+        let (status, page, said) = end(folder);
+        assert_eq!((status, page.as_str()), (3, ""));
+        assert!(said.contains("plan: the sheet could not be read"), "{said}");
+    }
     for text in [cases::named("P2").sheet.text(), cases::named("P4").sheet.text(), b"(sheet 49)\n".to_vec()] {
         let path = Path::new(env!("CARGO_TARGET_TMPDIR")).join("full.sheet");
         fs::write(&path, text).unwrap();

@@ -1,7 +1,8 @@
-//! Planning from lists, through the border: reply and every place of every room against the model.
+//! Planning from lists, and deciding and seating from the same ones, through the border: reply and every place of every room against the
+//! model, and the three calls against each other. (`deciding.rs` has what only deciding and seating do.)
 
 use model::calls::planning_fault;
-use model::questions::{planning_refusal, Lengths, Lists};
+use model::questions::{lists_refusal, planning_refusal, Lengths, Lists};
 use model::random::{any_sheet, largest_sheet, loaders, paper_sheet, sheet_up_to, small_sheet, Random, Reach};
 use model::sheet::{carried_place, Sheet, Solved, Unit, MAX_SLOTS};
 use model::tally::{self, Tally, CARRIES, NONE, PLAN};
@@ -20,7 +21,7 @@ fn roomy(r: &mut Random, sheet: &Sheet) -> Lengths {
     }
 }
 
-/// Plans, counts the case, and fails where anything differs from the model.
+/// Plans, decides and seats, counts the case by the answer of planning, and fails where anything differs from the model.
 fn hold(tally: &mut Tally, lists: &Lists, lengths: &Lengths, solved: Option<&Solved>) {
     let case = tally.all();
     let refusal = planning_refusal(lists, lengths);
@@ -54,8 +55,8 @@ fn small_sheets_against_all_plans() {
         hold(&mut tally, &Lists::from(&sheet), &roomy(&mut r, &sheet), solved.as_ref());
     }
     tally.report();
-    for answer in [PLAN, CARRIES, NONE] {
-        assert!(10 * tally.count(answer) > tally.all(), "too few {answer}");
+    for (answer, share) in [(PLAN, 4), (NONE, 4), (CARRIES, 10)] {
+        assert!(share * tally.count(answer) > tally.all(), "too few {answer}");
     }
 }
 
@@ -552,7 +553,7 @@ fn refusals_at_random() {
                 }
             }
         }
-        let solved = if planning_refusal(&lists, &rooms) == 0 { computed::solve(&lists.sheet()) } else { None };
+        let solved = if lists_refusal(&lists) == 0 { computed::solve(&lists.sheet()) } else { None };
         hold(&mut tally, &lists, &rooms, solved.as_ref());
     }
     tally.report();

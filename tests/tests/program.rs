@@ -1,26 +1,32 @@
 //! The program, through pipes.
 
+use std::ffi::OsString;
 use std::fs;
+use std::os::unix::ffi::OsStringExt;
 use std::time::Duration;
 
 use model::damage::{any_text, note_of_depth, valid, with_notes};
-use model::program::{fault, output_fault, run};
+use model::program::{answer, answered_fault, fault, output_fault, run, run_with, Asked};
 use model::random::{any_sheet, largest_sheet, small_sheet, Random, Reach};
 use model::reading::read;
-use model::tally::{self, Tally, CARRIES};
-use model::{cases, effort, enumerated, page, seed};
+use model::tally::{self, Tally, CARRIES, NONE, PLAN};
+use model::{cases, effort, seed};
 
-/// Runs the program on a text, counts the case, and fails where anything differs from the model.
+/// Runs the program on a text, for its plan and for whether it fits, counts the case, and fails where anything differs from the model.
 fn hold(tally: &mut Tally, text: &[u8]) {
     let case = tally.all();
-    tally.add(read(text).map_or_else(|r| r.number, |_| 0), "answered");
-    if let Some(fault) = fault(text) {
+    let answer = answer(text);
+    match &answer {
+        Ok((sheet, solved)) => tally.add(0, tally::answer(sheet, solved.as_ref())),
+        Err(refusal) => tally.add(refusal.number, "refused"),
+    }
+    if let Some(fault) = answered_fault(text, &answer) {
         panic!("seed {} case {case}: {:?}\n{fault}", tally.seed(), String::from_utf8_lossy(text));
     }
 }
 
 fn written(text: &str) -> String {
-    String::from_utf8_lossy(&run(text.as_bytes(), &[], None)).into_owned()
+    String::from_utf8_lossy(&run(Asked::Plan, text.as_bytes(), &[], None)).into_owned()
 }
 
 #[test]
@@ -28,8 +34,41 @@ fn document_cases() {
     for case in cases::all() {
         assert_eq!(fault(&case.sheet.text()), None, "{}", case.name);
     }
-    for (name, page) in cases::PAGES {
-        assert_eq!(written(&String::from_utf8(cases::named(name).sheet.text()).unwrap()), page, "{name}");
+    for (asked, pages) in [(Asked::Plan, &cases::PAGES[..]), (Asked::Fits, &cases::FITS_PAGES[..])] {
+        for (name, page) in pages {
+            let written = run(asked, &cases::named(name).sheet.text(), &[], None);
+            assert_eq!(String::from_utf8_lossy(&written), *page, "{name} {asked:?}");
+        }
+    }
+}
+
+/// Without a word and with `plan` the program prints a plan. Any word but the two, and more than one, get no page, whatever the text is;
+/// standard error then names the words there are.
+#[test]
+fn words() {
+    let texts = [cases::named("P2").sheet.text(), cases::named("P4").sheet.text(), b"(sheet 49)\n".to_vec(), vec![b'x'; 16_001], vec![]];
+    for text in &texts {
+        let page = run(Asked::Plan, text, &[], None);
+        assert_eq!(run_with(&["plan"], text, &[], None), (page, String::new()));
+    }
+    let long = "fits".repeat(10_000);
+    let unknown = [
+        "", "f", "fit", "fitss", "fits ", " fits", "Fits", "FITS", "fots", "fits\n", "fits=1", "p", "pla", "plann", "plan ", " plan", "Plan", "plam", "slan",
+        "plan fits", "decide", "seat", "-h", "--help", "--", "(sheet 4)", &long,
+    ];
+    let two: [&[&str]; 10] = [
+        &["plan", "plan"], &["fits", "fits"], &["plan", "fits"], &["fits", "plan"], &["fits", ""], &["", "fits"], &["plan", ""], &["", ""],
+        &["fits", "no"], &["plan", "fits", "plan"],
+    ];
+    let mut all: Vec<Vec<OsString>> = unknown.iter().map(|word| vec![word.into()]).collect();
+    all.extend(two.iter().map(|words| words.iter().map(OsString::from).collect()));
+    all.extend([&b"fits\xff"[..], b"\xff", b"pl\xc3n"].map(|word| vec![OsString::from_vec(word.to_vec())]));
+    for words in all {
+        for text in &texts {
+            let (page, said) = run_with(&words, text, &[], None);
+            assert_eq!(page, b"", "{words:?}");
+            assert!(said.contains("plan") && said.contains("fits") && said.ends_with('\n'), "{words:?}: {said}");
+        }
     }
 }
 
@@ -98,14 +137,18 @@ fn loader_numbers() {
 /// The texts that the check runs the program on are as long as docs/ARCHITECTURE.md says, and their pages are the model's.
 #[test]
 fn texts_of_the_check() {
-    for (name, length) in [("wave", 147), ("wave_longest", 16_000), ("wave_too_long", 16_001)] {
-        let file = |kind: &str| fs::read(format!("{}/crates/{name}/{kind}", env!("ROOT"))).unwrap();
+    use Asked::{Fits, Plan};
+    for (name, asked, length) in [("wave", Plan, 147), ("wave_fits", Fits, 147), ("wave_longest", Plan, 16_000), ("wave_too_long", Plan, 16_001)] {
+        let path = |kind: &str| format!("{}/crates/{name}/{kind}", env!("ROOT"));
+        let file = |kind: &str| fs::read(path(kind)).unwrap();
+        let words = fs::read_to_string(path("args")).unwrap_or_default();
+        assert_eq!(words.split_whitespace().collect::<Vec<_>>(), asked.words(), "{name}");
         let text = file("stdin");
         assert_eq!(text.len(), length, "{name}");
-        assert_eq!(output_fault(&text, &file("stdout")), None, "{name}");
+        assert_eq!(output_fault(asked, &text, &file("stdout")), None, "{name}");
         // What is read of it before its last byte has another answer.
         if read(&text).is_err() {
-            assert_ne!(output_fault(&text[..length - 1], &file("stdout")), None, "{name}");
+            assert_ne!(output_fault(asked, &text[..length - 1], &file("stdout")), None, "{name}");
         }
     }
 }
@@ -124,12 +167,16 @@ fn short_reads() {
         };
         let small = text.len() < 400;
         let parts: Vec<usize> = (0..7).map(|_| if small { r.between(1, 9) } else { r.between(50, 900) }).collect();
-        let written = run(&text, &parts, pause);
-        let fault = output_fault(&text, &written);
-        assert_eq!(fault, None, "seed {} case {i}: {:?}", seed(401), String::from_utf8_lossy(&text));
+        for asked in [Asked::Plan, Asked::Fits] {
+            let written = run(asked, &text, &parts, pause);
+            let fault = output_fault(asked, &text, &written);
+            assert_eq!(fault, None, "seed {} case {i}: {:?}", seed(401), String::from_utf8_lossy(&text));
+        }
     }
     let p1 = cases::named("P1").sheet.text();
-    assert_eq!(output_fault(&p1, &run(&p1, &[1], pause)), None);
+    for asked in [Asked::Plan, Asked::Fits] {
+        assert_eq!(output_fault(asked, &p1, &run(asked, &p1, &[1], pause)), None);
+    }
 }
 
 /// Texts far longer than the program takes, also than a pipe holds.
@@ -137,10 +184,12 @@ fn short_reads() {
 fn texts_that_are_too_long() {
     for length in [16_001, 16_002, 32_000, 32_001, 65_536, 65_537, 200_000, 1_000_000] {
         for byte in [b'\n', b'x', 0, 255] {
-            assert_eq!(run(&vec![byte; length], &[], None), b"(refused 1 (line 0))\n", "{length}");
+            for asked in [Asked::Plan, Asked::Fits] {
+                assert_eq!(run(asked, &vec![byte; length], &[], None), b"(refused 1 (line 0))\n", "{length}");
+            }
         }
         let text = vec![b'x'; length];
-        assert_eq!(run(&text, &[1_000], None), b"(refused 1 (line 0))\n", "{length} in parts");
+        assert_eq!(run(Asked::Plan, &text, &[1_000], None), b"(refused 1 (line 0))\n", "{length} in parts");
     }
 }
 
@@ -149,14 +198,12 @@ fn texts_that_are_too_long() {
 fn small_sheets() {
     let mut tally = Tally::new("the program on small sheets, all plans tried", seed(405));
     for i in 0..effort(4_000) {
-        let sheet = small_sheet(&mut Random::of_case(seed(405), i));
-        let solved = enumerated::solve(&sheet);
-        tally.add(0, tally::answer(&sheet, solved.as_ref()));
-        let page = run(&sheet.text(), &[], None);
-        assert_eq!(page::fault(&sheet, solved.as_ref(), &page), None, "seed {} case {i}: {sheet:?}", seed(405));
+        hold(&mut tally, &small_sheet(&mut Random::of_case(seed(405), i)).text());
     }
     tally.report();
-    assert!(10 * tally.count(CARRIES) > tally.all(), "too few carry");
+    for (answer, share) in [(PLAN, 4), (NONE, 4), (CARRIES, 10)] {
+        assert!(share * tally.count(answer) > tally.all(), "too few {answer}");
+    }
 }
 
 #[test]
@@ -168,6 +215,9 @@ fn sheets_at_random() {
         hold(&mut tally, &with_notes(&mut r, &sheet));
     }
     tally.report();
+    for (answer, share) in [(PLAN, 4), (NONE, 10), (CARRIES, 20)] {
+        assert!(share * tally.count(answer) > tally.all(), "too few {answer}");
+    }
 }
 
 #[test]
@@ -188,5 +238,8 @@ fn damaged_texts() {
     tally.report();
     for number in [2, 3, 4, 5, 6, 7, 8, 11, 16] {
         assert!(2_000 * tally.refused_by(number) > tally.all(), "{number} refuses too seldom");
+    }
+    for answer in [PLAN, NONE] {
+        assert!(50 * tally.count(answer) > tally.all(), "too few {answer}");
     }
 }

@@ -238,7 +238,7 @@ fn loader_numbers_of_many_units() {
     }
     tally.report();
     for number in [4, 9, 16] {
-        assert!(100 * tally.refused_by(number) > tally.all(), "{number} refuses too seldom");
+        assert!(50 * tally.refused_by(number) > tally.all(), "{number} refuses too seldom");
     }
     assert!(10 * tally.count("read") > tally.all());
 }

@@ -1,5 +1,5 @@
 /*
- * Reads, plans and prints, and shows each reply field by field, as C sees it.
+ * Reads, plans, decides, seats and prints, and shows each reply field by field, as C sees it.
  *
  *     replies UNITS PLACE PAGE <sheet
  *
@@ -37,6 +37,7 @@ static const char *left(size_t number)
 /* The caller's own numbers on both sides of a reply, which no call may touch. */
 struct kept_reading { size_t before; struct tugrokt_reading reply; size_t after; };
 struct kept_planning { size_t before; struct tugrokt_planning reply; size_t after; };
+struct kept_seating { size_t before; struct tugrokt_seating reply; size_t after; };
 struct kept_printing { size_t before; struct tugrokt_printing reply; size_t after; };
 
 #define MARK ((size_t)0xdeadbeef)
@@ -45,6 +46,8 @@ int main(int argc, char **argv)
 {
     struct kept_reading read = { MARK, { MARK, MARK, MARK, MARK, MARK }, MARK };
     struct kept_planning planned = { MARK, { MARK, MARK, MARK }, MARK };
+    struct kept_planning decided = { MARK, { MARK, MARK, MARK }, MARK };
+    struct kept_seating seated = { MARK, { MARK, MARK, MARK }, MARK };
     struct kept_printing printed = { MARK, { MARK, MARK, MARK, MARK }, MARK };
     size_t text_length, units, place, page, n, r;
 
@@ -75,6 +78,18 @@ int main(int argc, char **argv)
            left(planned.reply.number));
 
     before = lent;
+    decided.reply = tugrokt_decide(read.reply.span, lent.loader, n, lent.first, n, lent.last, n, lent.from, r, lent.to, r, lent.low, r,
+                                   lent.high, r, lent.table, TUGROKT_MAX_CELLS, lent.ring, TUGROKT_MAX_BOUNDARIES);
+    printf("deciding %zu %zu %zu%s\n", decided.reply.number, decided.reply.line, decided.reply.length,
+           left(decided.reply.number));
+
+    before = lent;
+    seated.reply = tugrokt_seat(read.reply.span, lent.loader, n, lent.first, n, lent.last, n, lent.from, r, lent.to, r, lent.low, r,
+                                lent.high, r, lent.table, TUGROKT_MAX_CELLS, lent.plan, units, lent.earliest, units, lent.latest,
+                                units);
+    printf("seating %zu %zu %zu%s\n", seated.reply.number, seated.reply.line, seated.reply.planned, left(seated.reply.number));
+
+    before = lent;
     printed.reply = tugrokt_print(read.reply.span, lent.loader, n, lent.first, n, lent.last, n, lent.from, r, lent.to, r, lent.low, r,
                                   lent.high, r, lent.table, TUGROKT_MAX_CELLS, lent.plan, units, lent.earliest, units,
                                   lent.latest, units, lent.ring, TUGROKT_MAX_BOUNDARIES, lent.page, page, place);
@@ -82,6 +97,7 @@ int main(int argc, char **argv)
            left(printed.reply.number));
 
     return read.before == MARK && read.after == MARK && planned.before == MARK && planned.after == MARK &&
+                   decided.before == MARK && decided.after == MARK && seated.before == MARK && seated.after == MARK &&
                    printed.before == MARK && printed.after == MARK
                ? 0
                : 1;
