@@ -63,6 +63,10 @@ module _ (l : WrittenLists) (before : Rooms) (reply : says.Reply) (after : Rooms
       let left = all.none-otherwise (planned s) None l rooms before reply after call said e f in
       (length (left .0), left .2, ring-at (length (left .0)) (left .2))
 
+  -- None is said only where no plan is lawful.
+  pub none-unlawful : (k : ℕ) → reply ≡ says.none k → (x : List ℕ) → T (lawful s x) → ⊥
+  none-unlawful = all.none-unlawful (planned s) None l rooms before reply after call said
+
   pub call-planned : reply ≡ says.plan → Planned (planned s) s before reply after
   call-planned = laws.call-planned (planned s) None l rooms before reply after call said
 

@@ -64,6 +64,10 @@ module _ (l : WrittenLists) (before : DecideRooms) (reply : says.Reply) (after :
       let left = all.none-otherwise (decided s) None l rooms before reply after call said e f in
       (length (left .0), left .2, ring-at (length (left .0)) (left .2))
 
+  -- None is said only where no plan is lawful.
+  pub none-unlawful : (k : ℕ) → reply ≡ says.none k → (x : List ℕ) → T (lawful s x) → ⊥
+  none-unlawful = all.none-unlawful (decided s) None l rooms before reply after call said
+
   pub call-planned : reply ≡ says.plan → Planned (decided s) s before reply after
   call-planned = laws.call-planned (decided s) None l rooms before reply after call said
 

@@ -1,5 +1,5 @@
 -- Planning, deciding and seating agree: of the same lists, where none of the three calls is refused, the sheet fits exactly when it gets a plan, seating gets
--- one exactly when planning does, and then the table, the seats and the narrowed windows are the same.
+-- one exactly when planning does, and all or none of them say none; by a plan the table, the seats and the narrowed windows are the same.
 -- Key idea: each is the same definition of the sheet.
 use mathlib.Core.Path.{_≡_, sym, ap, _∙_}
 use mathlib.Core.Logic.{_↔_}
@@ -34,12 +34,18 @@ module _ (l : WrittenLists)
 
   module _ (beforeD : DecideRooms) (replyD : says.Reply) (afterD : DecideRooms)
       (callD : DecideSettled (conclusionIn l (decideLent beforeD)) (givenBy l) beforeD replyD afterD) (askedD : refusalIn l (decideLent beforeD) ≡ allYes) where
-    -- The sheet fits exactly when it gets a plan,
+    -- The sheet fits exactly when it gets a plan, does not exactly when planning says none,
     pub decide-agrees : (replyD ≡ says.plan) ↔ (reply ≡ says.plan)
     decide-agrees =
         let d = decides.fits-exactly-when-lawful l beforeD replyD afterD callD askedD in
         let p = plans.plan-exactly-when-lawful l before reply after call asked in
         (λ f. p .1 (d .0 f), λ f. d .1 (p .0 f))
+
+    pub decide-none-agrees : ((k : ℕ) × (replyD ≡ says.none k)) ↔ ((k : ℕ) × (reply ≡ says.none k))
+    decide-none-agrees = (
+      (λ f. let r = plans.ring-otherwise l before reply after call asked (decides.none-unlawful l beforeD replyD afterD callD (f .0) (f .1)) in (r .0, r .1)),
+      (λ f. let r = decides.ring-otherwise l beforeD replyD afterD callD askedD (plans.none-unlawful l before reply after call (f .0) (f .1)) in (r .0, r .1)),
+    )
 
     -- and its table is the same.
     pub decide-same-table : reply ≡ says.plan → take (places s) (afterD .table) ≡ take (places s) (after .table)
@@ -52,12 +58,18 @@ module _ (l : WrittenLists)
 
   module _ (beforeS : SeatRooms) (replyS : says.Reply) (afterS : SeatRooms)
       (callS : SeatSettled (conclusionIn l (seatLent beforeS)) (givenBy l) beforeS replyS afterS) (askedS : refusalIn l (seatLent beforeS) ≡ allYes) where
-    -- Seating gets a plan exactly when planning does,
+    -- Seating gets a plan exactly when planning does, and says none exactly when planning does,
     pub seat-agrees : (replyS ≡ says.plan) ↔ (reply ≡ says.plan)
     seat-agrees =
         let d = seats.plan-exactly-when-lawful l beforeS replyS afterS callS askedS in
         let p = plans.plan-exactly-when-lawful l before reply after call asked in
         (λ f. p .1 (d .0 f), λ f. d .1 (p .0 f))
+
+    pub seat-none-agrees : (replyS ≡ says.none 0) ↔ ((k : ℕ) × (reply ≡ says.none k))
+    seat-none-agrees = (
+      (λ f. let r = plans.ring-otherwise l before reply after call asked (seats.none-unlawful l beforeS replyS afterS callS 0 f) in (r .0, r .1)),
+      (λ f. seats.none-otherwise l beforeS replyS afterS callS askedS (plans.none-unlawful l before reply after call (f .0) (f .1)) .0),
+    )
 
     -- and then the table, the seats and the narrowed windows are the same.
     module _ (f : reply ≡ says.plan) where

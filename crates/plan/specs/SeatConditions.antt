@@ -56,6 +56,10 @@ module _ (l : WrittenLists) (before : SeatRooms) (reply : says.Reply) (after : S
   pub none-otherwise : refusalIn l (seatLent before) ≡ allYes → ((x : List ℕ) → T (lawful s x) → ⊥) → (reply ≡ says.none 0) × (after ≡ unseated s before)
   none-otherwise = all.none-otherwise (seated s) None l rooms before reply after call said
 
+  -- None is said only where no plan is lawful.
+  pub none-unlawful : (k : ℕ) → reply ≡ says.none k → (x : List ℕ) → T (lawful s x) → ⊥
+  none-unlawful = all.none-unlawful (seated s) None l rooms before reply after call said
+
   pub call-planned : reply ≡ says.plan → Planned (seated s) s before reply after
   call-planned = laws.call-planned (seated s) None l rooms before reply after call said
 

@@ -31,7 +31,7 @@ use Rattle.sheet.specs.Lists.{WrittenLists, givenBy}
 use Rattle.plan_solve.specs.Planning.{conclusionBy, SettledBy, WithRing, tableIn, planIn, earliestIn, latestIn}
 use Rattle.plan_solve.specs.Reply as says
 use Rattle.plan_solve.specs.Reply.{refusalOf}
-use Rattle.plan.specs.ConditionLaws.{Planned, Unplanned, call-refused, call-answered, call-planned}
+use Rattle.plan.specs.ConditionLaws.{Planned, Unplanned, call-refused, call-answered, call-planned, call-unplanned}
 
 -- ---- 1 and 2, of a call that has these rooms: how it leaves them by a plan, and what it replies and leaves by none, which is none
 module _ {R : Type 0} (planned : List ℤ → R → R) (None : R → says.Reply → R → Type 0) (l : WrittenLists) (rooms : Bool)
@@ -71,6 +71,10 @@ module _ {R : Type 0} (planned : List ℤ → R → R) (None : R → says.Reply 
       (λ (p : Planned planned s before reply after). let x = solved-plan s (entry (boundaries s) (p .table)) (p .solved) in absurd (f (x .0) (x .1)))
       (λ (r : Unplanned None s before reply after). r .left)
       (call-answered planned None l rooms before reply after call e)
+
+  -- None is said only where no plan is lawful.
+  pub none-unlawful : (k : ℕ) → reply ≡ says.none k → (x : List ℕ) → T (lawful s x) → ⊥
+  none-unlawful k f = call-unplanned planned None l rooms before reply after call said k f .unlawful
 
 -- ---- 2, the ring at the front of its room
 module _ {R : Type 0} (s : Sheet) (ringed : List ℕ → R → R) (ring : R → List ℕ) (front : (c : List ℕ) (r : R) → ring (ringed c r) ≡ onFront c (ring r))
