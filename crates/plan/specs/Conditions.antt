@@ -19,6 +19,7 @@ use Rattle.plan_ask.specs.Questions.{Rooms, planLent, roomsFit, refusal}
 use Rattle.plan_solve.specs.Planning.{conclusion, planned, ringed, WithRing, Settled}
 use Rattle.plan_solve.specs.Reply as says
 use Rattle.plan_solve.specs.Reply.{refusalOf}
+use Rattle.plan.specs.Statements.{SomeLawful, NoneLawful, AllEarliest, AllLatest, AllCounts, Soonest}
 use Rattle.plan.specs.ConditionLaws as laws
 use Rattle.plan.specs.ConditionLaws.{Planned}
 use Rattle.plan.specs.SharedConditions as all
@@ -48,7 +49,7 @@ module _ (l : WrittenLists) (before : Rooms) (reply : says.Reply) (after : Rooms
   refused-changes-nothing = all.refused-changes-nothing (planned s) None l rooms before reply after call said
 
   -- ---- 2. Plan or ring. A sheet that is not refused gets a plan exactly when some assignment meets all windows and all rules;
-  pub plan-exactly-when-lawful : refusal l before ≡ allYes → (reply ≡ says.plan) ↔ ((x : List ℕ) × T (lawful s x))
+  pub plan-exactly-when-lawful : refusal l before ≡ allYes → (reply ≡ says.plan) ↔ SomeLawful s
   plan-exactly-when-lawful = all.plan-exactly-when-lawful (planned s) None l rooms before reply after call said
 
   -- else it says none, and a ring of the sheet's own limits stands at the front of its room.
@@ -57,14 +58,14 @@ module _ (l : WrittenLists) (before : Rooms) (reply : says.Reply) (after : Rooms
       all.ring-at s (ringed s) (λ r. r .ring) (λ c r. refl) before reply after
       (laws.call-unplanned (planned s) None l rooms before reply after call said k f .left) k f
 
-  pub ring-otherwise : refusal l before ≡ allYes → ((x : List ℕ) → T (lawful s x) → ⊥)
+  pub ring-otherwise : refusal l before ≡ allYes → NoneLawful s
       → (k : ℕ) × (reply ≡ says.none k) × T (isRing s (take k (after .ring)))
   ring-otherwise e f =
       let left = all.none-otherwise (planned s) None l rooms before reply after call said e f in
       (length (left .0), left .2, ring-at (length (left .0)) (left .2))
 
   -- None is said only where no plan is lawful.
-  pub none-unlawful : (k : ℕ) → reply ≡ says.none k → (x : List ℕ) → T (lawful s x) → ⊥
+  pub none-unlawful : (k : ℕ) → reply ≡ says.none k → NoneLawful s
   none-unlawful = all.none-unlawful (planned s) None l rooms before reply after call said
 
   pub call-planned : reply ≡ says.plan → Planned (planned s) s before reply after
@@ -75,24 +76,18 @@ module _ (l : WrittenLists) (before : Rooms) (reply : says.Reply) (after : Rooms
     P = call-planned planned?
 
     -- Each narrowed window runs from the earliest slot the unit has in any lawful plan
-    pub earliest-slot : (j : ℕ) → j < length (s .units)
-        → ((x : List ℕ) → T (lawful s x) → getD (after .earliest) j 0 ≤ getD x j 0)
-        × ((x : List ℕ) × T (lawful s x) × (getD (after .earliest) j 0 ≡ getD x j 0))
+    pub earliest-slot : AllEarliest s (after .earliest)
     earliest-slot = all.earliest-slot s (entry (boundaries s) (P .table)) (P .solved) (before .earliest) (after .earliest) (ap (λ r. r .earliest) (P .left))
 
     -- to the latest.
-    pub latest-slot : (j : ℕ) → j < length (s .units)
-        → ((x : List ℕ) → T (lawful s x) → getD x j 0 ≤ getD (after .latest) j 0)
-        × ((x : List ℕ) × T (lawful s x) × (getD (after .latest) j 0 ≡ getD x j 0))
+    pub latest-slot : AllLatest s (after .latest)
     latest-slot = all.latest-slot s (entry (boundaries s) (P .table)) (P .solved) (before .latest) (after .latest) (ap (λ r. r .latest) (P .left))
 
     -- ---- 3. Counts. The greatest and the least of a stretch, read off the table as planning leaves it.
 
     -- For every stretch, those that end with the carried place included, a whole number is the count of some lawful plan exactly when it is from the least to
     -- the greatest.
-    pub counts : (a b : Boundary) → a < b → b ≤ top s → (k : ℤ)
-        → ((x : List ℕ) × T (lawful s x) × (pos (countIn (slotAfter a) (slotBefore b) x) ≡ k))
-        ↔ ((negℤ (entry (boundaries s) (after .table) b a) ≤ℤ k) × (k ≤ℤ entry (boundaries s) (after .table) a b))
+    pub counts : AllCounts s (after .table)
     counts = all.counts s (P .table) (P .size) (P .solved) (before .table) (after .table) (ap (λ r. r .table) (P .left))
 
     pub plan-at : take (length (s .units)) (after .plan) ≡ printedPlan s
@@ -106,6 +101,5 @@ module _ (l : WrittenLists) (before : Rooms) (reply : says.Reply) (after : Rooms
     plan-fair = all.plan-fair s (entry (boundaries s) (P .table)) (P .solved) (before .plan) (after .plan) (ap (λ r. r .plan) (P .left))
 
     -- and by the end of each slot, the carried place included, no lawful plan has more deliveries.
-    pub plan-soonest : (x : List ℕ) → T (lawful s x) → (t : Slot) → 1 ≤ t → t ≤ slotBefore (top s)
-        → countIn 1 t x ≤ countIn 1 t (take (length (s .units)) (after .plan))
+    pub plan-soonest : Soonest s (take (length (s .units)) (after .plan))
     plan-soonest = all.plan-soonest s (entry (boundaries s) (P .table)) (P .solved) (before .plan) (after .plan) (ap (λ r. r .plan) (P .left))

@@ -19,6 +19,7 @@ use Rattle.plan_ask.specs.Questions.{DecideRooms, decideLent, roomsFit, refusal
 use Rattle.plan_solve.specs.Planning.{conclusionIn, decided, contradicted, WithRing, DecideSettled}
 use Rattle.plan_solve.specs.Reply as says
 use Rattle.plan_solve.specs.Reply.{refusalOf}
+use Rattle.plan.specs.Statements.{SomeLawful, NoneLawful, AllCounts}
 use Rattle.plan.specs.ConditionLaws as laws
 use Rattle.plan.specs.ConditionLaws.{Planned}
 use Rattle.plan.specs.SharedConditions as all
@@ -49,7 +50,7 @@ module _ (l : WrittenLists) (before : DecideRooms) (reply : says.Reply) (after :
   refused-changes-nothing = all.refused-changes-nothing (decided s) None l rooms before reply after call said
 
   -- ---- 2. Fits or ring. A sheet that is not refused fits exactly when some assignment meets all windows and all rules;
-  pub fits-exactly-when-lawful : refusalIn l (decideLent before) ≡ allYes → (reply ≡ says.plan) ↔ ((x : List ℕ) × T (lawful s x))
+  pub fits-exactly-when-lawful : refusalIn l (decideLent before) ≡ allYes → (reply ≡ says.plan) ↔ SomeLawful s
   fits-exactly-when-lawful = all.plan-exactly-when-lawful (decided s) None l rooms before reply after call said
 
   -- else it says none, and a ring of the sheet's own limits stands at the front of its room.
@@ -58,14 +59,14 @@ module _ (l : WrittenLists) (before : DecideRooms) (reply : says.Reply) (after :
       all.ring-at s (contradicted s) (λ r. r .ring) (λ c r. refl) before reply after
       (laws.call-unplanned (decided s) None l rooms before reply after call said k f .left) k f
 
-  pub ring-otherwise : refusalIn l (decideLent before) ≡ allYes → ((x : List ℕ) → T (lawful s x) → ⊥)
+  pub ring-otherwise : refusalIn l (decideLent before) ≡ allYes → NoneLawful s
       → (k : ℕ) × (reply ≡ says.none k) × T (isRing s (take k (after .ring)))
   ring-otherwise e f =
       let left = all.none-otherwise (decided s) None l rooms before reply after call said e f in
       (length (left .0), left .2, ring-at (length (left .0)) (left .2))
 
   -- None is said only where no plan is lawful.
-  pub none-unlawful : (k : ℕ) → reply ≡ says.none k → (x : List ℕ) → T (lawful s x) → ⊥
+  pub none-unlawful : (k : ℕ) → reply ≡ says.none k → NoneLawful s
   none-unlawful = all.none-unlawful (decided s) None l rooms before reply after call said
 
   pub call-planned : reply ≡ says.plan → Planned (decided s) s before reply after
@@ -78,7 +79,5 @@ module _ (l : WrittenLists) (before : DecideRooms) (reply : says.Reply) (after :
 
     -- For every stretch, those that end with the carried place included, a whole number is the count of some lawful plan exactly when it is from the least to
     -- the greatest.
-    pub counts : (a b : Boundary) → a < b → b ≤ top s → (k : ℤ)
-        → ((x : List ℕ) × T (lawful s x) × (pos (countIn (slotAfter a) (slotBefore b) x) ≡ k))
-        ↔ ((negℤ (entry (boundaries s) (after .table) b a) ≤ℤ k) × (k ≤ℤ entry (boundaries s) (after .table) a b))
+    pub counts : AllCounts s (after .table)
     counts = all.counts s (P .table) (P .size) (P .solved) (before .table) (after .table) (ap (λ r. r .table) (P .left))

@@ -1,3 +1,4 @@
+pub mod Statements
 pub mod ConditionLaws
 pub mod SharedConditions
 pub mod Conditions

@@ -31,6 +31,7 @@ use Rattle.sheet.specs.Lists.{WrittenLists, givenBy}
 use Rattle.plan_solve.specs.Planning.{conclusionBy, SettledBy, WithRing, tableIn, planIn, earliestIn, latestIn}
 use Rattle.plan_solve.specs.Reply as says
 use Rattle.plan_solve.specs.Reply.{refusalOf}
+use Rattle.plan.specs.Statements.{SomeLawful, NoneLawful, AllEarliest, AllLatest, AllCounts, Soonest}
 use Rattle.plan.specs.ConditionLaws.{Planned, Unplanned, call-refused, call-answered, call-planned, call-unplanned}
 
 -- ---- 1 and 2, of a call that has these rooms: how it leaves them by a plan, and what it replies and leaves by none, which is none
@@ -56,7 +57,7 @@ module _ {R : Type 0} (planned : List ℤ → R → R) (None : R → says.Reply 
   refused-changes-nothing q n e = call-refused planned None l rooms before reply after call q n e .1
 
   -- A sheet that is not refused gets a plan exactly when some assignment meets all windows and all rules;
-  pub plan-exactly-when-lawful : refusalBy l rooms ≡ allYes → (reply ≡ says.plan) ↔ ((x : List ℕ) × T (lawful s x))
+  pub plan-exactly-when-lawful : refusalBy l rooms ≡ allYes → (reply ≡ says.plan) ↔ SomeLawful s
   plan-exactly-when-lawful e = (
     (λ f. let p = call-planned planned None l rooms before reply after call said f in solved-plan s (entry (boundaries s) (p .table)) (p .solved)),
     (λ x. ⊎-elim (λ (p : Planned planned s before reply after). p .is)
@@ -65,7 +66,7 @@ module _ {R : Type 0} (planned : List ℤ → R → R) (None : R → says.Reply 
   )
 
   -- else none.
-  pub none-otherwise : refusalBy l rooms ≡ allYes → ((x : List ℕ) → T (lawful s x) → ⊥) → None before reply after
+  pub none-otherwise : refusalBy l rooms ≡ allYes → NoneLawful s → None before reply after
   none-otherwise e f =
       ⊎-elim
       (λ (p : Planned planned s before reply after). let x = solved-plan s (entry (boundaries s) (p .table)) (p .solved) in absurd (f (x .0) (x .1)))
@@ -73,7 +74,7 @@ module _ {R : Type 0} (planned : List ℤ → R → R) (None : R → says.Reply 
       (call-answered planned None l rooms before reply after call e)
 
   -- None is said only where no plan is lawful.
-  pub none-unlawful : (k : ℕ) → reply ≡ says.none k → (x : List ℕ) → T (lawful s x) → ⊥
+  pub none-unlawful : (k : ℕ) → reply ≡ says.none k → NoneLawful s
   none-unlawful k f = call-unplanned planned None l rooms before reply after call said k f .unlawful
 
 -- ---- 2, the ring at the front of its room
@@ -100,11 +101,7 @@ module _ (s : Sheet) (t : List ℤ) (size : length t ≡ places s) (solved : Sol
       ap (λ r. entry (boundaries s) r a b) is
       ∙ List·getD-append t (drop (places s) room) (pos 0) (a * boundaries s + b) (omega (arith, size, row-inside a (boundaries s) (omega arith)))
 
-  -- For every stretch, those that end with the carried place included, a whole number is the count of some lawful plan exactly when it is from the least to
-  -- the greatest.
-  pub counts : (a b : Boundary) → a < b → b ≤ top s → (k : ℤ)
-      → ((x : List ℕ) × T (lawful s x) × (pos (countIn (slotAfter a) (slotBefore b) x) ≡ k))
-      ↔ ((negℤ (entry (boundaries s) left b a) ≤ℤ k) × (k ≤ℤ entry (boundaries s) left a b))
+  pub counts : AllCounts s left
   counts a b h hb k =
       let D = entry (boundaries s) t in
       let r = range s D solved a b h hb (up k) in
@@ -129,7 +126,7 @@ module _ (s : Sheet) (D : Weights) (solved : Solved s D) (room left : List ℕ) 
   abbrev n : ℕ
   n = length (s .units)
 
-  some : (x : List ℕ) × T (lawful s x)
+  some : SomeLawful s
   some = solved-plan s D solved
 
   slot-at : (f : ℕ → ℕ) (j : ℕ) → j < n → getD (map f (unitPlaces s) ++ drop n room) j 0 ≡ f j
@@ -137,18 +134,14 @@ module _ (s : Sheet) (D : Weights) (solved : Solved s D) (room left : List ℕ) 
       List·getD-append (map f (unitPlaces s)) (drop n room) 0 j (omega (arith, length-values f 0 n)) ∙ values-at f 0 n j 0 h ∙ ap f (omega arith)
 
   -- Each narrowed window runs from the earliest slot the unit has in any lawful plan
-  pub earliest-slot : left ≡ earliestIn s room → (j : ℕ) → j < n
-      → ((x : List ℕ) → T (lawful s x) → getD left j 0 ≤ getD x j 0)
-      × ((x : List ℕ) × T (lawful s x) × (getD left j 0 ≡ getD x j 0))
+  pub earliest-slot : left ≡ earliestIn s room → AllEarliest s left
   unfolding earliestSlots
   earliest-slot is j h =
       let at : getD left j 0 ≡ earliest s j = ap (λ r. getD r j 0) is ∙ slot-at (earliest s) j h in
       (λ x k. omega (arith, at, earliest-bound s x k j), (let y = earliest-attained s (some .0) (some .1) j in (y .0, y .1, at ∙ y .2)))
 
   -- to the latest.
-  pub latest-slot : left ≡ latestIn s room → (j : ℕ) → j < n
-      → ((x : List ℕ) → T (lawful s x) → getD x j 0 ≤ getD left j 0)
-      × ((x : List ℕ) × T (lawful s x) × (getD left j 0 ≡ getD x j 0))
+  pub latest-slot : left ≡ latestIn s room → AllLatest s left
   unfolding latestSlots
   latest-slot is j h =
       let at : getD left j 0 ≡ latest s j = ap (λ r. getD r j 0) is ∙ slot-at (latest s) j h in
@@ -177,5 +170,5 @@ module _ (s : Sheet) (D : Weights) (solved : Solved s D) (room left : List ℕ) 
     plan-fair = subst (λ (x : List ℕ). T (fair s x)) (sym plan-at) (printed .order)
 
     -- and by the end of each slot, the carried place included, no lawful plan has more deliveries.
-    pub plan-soonest : (x : List ℕ) → T (lawful s x) → (t : Slot) → 1 ≤ t → t ≤ slotBefore (top s) → countIn 1 t x ≤ countIn 1 t (take n left)
+    pub plan-soonest : Soonest s (take n left)
     plan-soonest x k t h ht = omega (arith, greatestIn-bound s x k 1 t, printed .early t h ht, ap (countIn 1 t) plan-at)
