@@ -4,16 +4,12 @@
 use mathlib.Core.Path.{_≡_, refl, ap}
 use mathlib.Core.Logic.{_↔_}
 use mathlib.Core.Bool.{Bool}
-use mathlib.Core.List.{List}
-use Prim.Native.Nat.{ℕ, _≤_, _<_}
+use Prim.Native.Nat.{ℕ}
 use lib.Dec.{T}
-use lib.ListN.{length, getD, take}
-use lib.IntN.{ℤ, pos, negℤ}
-use lib.Signed.{_≤ℤ_}
+use lib.ListN.{length, take}
 use Rattle.network.specs.Table.{entry}
 use Rattle.questions.specs.Questions.{no, allYes}
-use Rattle.slots.specs.Slots.{Slot, Boundary, slotBefore, slotAfter}
-use Rattle.sheet.specs.Sheet.{Sheet, top, boundaries, isRing, lawful, fair, countIn, printedPlan}
+use Rattle.sheet.specs.Sheet.{Sheet, boundaries, isRing, lawful, fair, printedPlan}
 use Rattle.sheet.specs.Lists.{WrittenLists, givenBy}
 use Rattle.plan_ask.specs.Questions.{Rooms, planLent, roomsFit, refusal}
 use Rattle.plan_solve.specs.Planning.{conclusion, planned, ringed, WithRing, Settled}

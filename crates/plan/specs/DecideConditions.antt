@@ -4,16 +4,11 @@
 use mathlib.Core.Path.{_≡_, refl, ap}
 use mathlib.Core.Logic.{_↔_}
 use mathlib.Core.Bool.{Bool}
-use mathlib.Core.List.{List}
-use Prim.Native.Nat.{ℕ, _≤_, _<_}
+use Prim.Native.Nat.{ℕ}
 use lib.Dec.{T}
 use lib.ListN.{length, take}
-use lib.IntN.{ℤ, pos, negℤ}
-use lib.Signed.{_≤ℤ_}
-use Rattle.network.specs.Table.{entry}
 use Rattle.questions.specs.Questions.{no, allYes}
-use Rattle.slots.specs.Slots.{Boundary, slotBefore, slotAfter}
-use Rattle.sheet.specs.Sheet.{Sheet, top, boundaries, isRing, lawful, countIn}
+use Rattle.sheet.specs.Sheet.{Sheet, isRing}
 use Rattle.sheet.specs.Lists.{WrittenLists, givenBy}
 use Rattle.plan_ask.specs.Questions.{DecideRooms, decideLent, roomsFit, refusalIn}
 use Rattle.plan_solve.specs.Planning.{conclusionIn, decided, contradicted, WithRing, DecideSettled}

@@ -4,16 +4,12 @@
 use mathlib.Core.Path.{_≡_, ap}
 use mathlib.Core.Logic.{_↔_}
 use mathlib.Core.Bool.{Bool}
-use mathlib.Core.List.{List}
-use Prim.Native.Nat.{ℕ, _≤_, _<_}
+use Prim.Native.Nat.{ℕ}
 use lib.Dec.{T}
-use lib.ListN.{length, getD, take}
-use lib.IntN.{ℤ, pos, negℤ}
-use lib.Signed.{_≤ℤ_}
+use lib.ListN.{length, take}
 use Rattle.network.specs.Table.{entry}
 use Rattle.questions.specs.Questions.{no, allYes}
-use Rattle.slots.specs.Slots.{Slot, Boundary, slotBefore, slotAfter}
-use Rattle.sheet.specs.Sheet.{Sheet, top, boundaries, lawful, fair, countIn, printedPlan}
+use Rattle.sheet.specs.Sheet.{Sheet, boundaries, lawful, fair, printedPlan}
 use Rattle.sheet.specs.Lists.{WrittenLists, givenBy}
 use Rattle.plan_ask.specs.Questions.{SeatRooms, seatLent, roomsFit, refusalIn}
 use Rattle.plan_solve.specs.Planning.{conclusionIn, seated, unseated, SeatNone, SeatSettled}

@@ -10,8 +10,7 @@ use native.Mathlib.Omega.{arith}
 use lib.Dec.{T}
 use lib.ListN.{length, getD, take, drop, List·getD-append}
 use lib.Seq.{take-at}
-use lib.IntN.{ℤ, pos, negℤ}
-use lib.Signed.{_≤ℤ_}
+use lib.IntN.{ℤ, pos}
 use Rattle.integers.specs.Parts.{up, dn, ints, neg, nonneg}
 use Rattle.lists.specs.Lists.{onFront}
 use Rattle.lists.specs.Values.{values-at, length-values, length-listOf}
@@ -19,7 +18,6 @@ use Rattle.network.specs.Network.{Weights}
 use Rattle.network.specs.Table.{entry}
 use Rattle.network.specs.TableLaws.{row-inside}
 use Rattle.questions.specs.Questions.{Verdict, no, allYes}
-use Rattle.slots.specs.Slots.{Slot, Boundary, slotBefore, slotAfter}
 use Rattle.sheet.specs.Sheet.{Sheet, top, boundaries, isRing, unitPlaces, lawful, fair, countIn, leastIn}
 use Rattle.sheet.specs.Sheet.{earliest, latest, earliestSlots, latestSlots, printedPlan}
 use Rattle.sheet.specs.PlanLaws.{lawful-iff, earliest-bound, earliest-attained, latest-bound, latest-attained, greatestIn-bound}

@@ -5,17 +5,14 @@ use mathlib.Core.Path.{_≡_, refl, sym, ap, _∙_, subst}
 use mathlib.Core.Logic.{_⊎_, inl, inr, ⊎-elim, _↔_}
 use mathlib.Core.Bool.{Bool, true, false}
 use mathlib.Core.List.{List}
-use Prim.Native.Nat.{ℕ, _+_, _≤_, _<_}
+use Prim.Native.Nat.{ℕ, _+_, _≤_}
 use native.Mathlib.Omega.{arith}
 use lib.Dec.{T}
 use lib.ListN.{length, take}
-use lib.IntN.{ℤ, pos, negℤ}
-use lib.Signed.{_≤ℤ_}
 use borrow.Author.Tests.{leb-true, le-leb}
 use Rattle.network.specs.Table.{entry}
 use Rattle.questions.specs.Questions.{no, allYes}
-use Rattle.slots.specs.Slots.{Boundary, slotBefore, slotAfter}
-use Rattle.sheet.specs.Sheet.{Sheet, top, boundaries, lawful, countIn, printedPlan}
+use Rattle.sheet.specs.Sheet.{Sheet, boundaries, lawful, printedPlan}
 use Rattle.sheet.specs.Lists.{WrittenLists, givenBy}
 use Rattle.plan_ask.specs.Questions.{Rooms, planLent, roomsFit, refusal}
 use Rattle.plan_ask.specs.AskingLaws.{lists-read, units-length}
@@ -23,6 +20,7 @@ use Rattle.plan_ask.specs.Asking.{Listed}
 use Rattle.plan_ask.specs.SolvableLaws.{asked-lists}
 use Rattle.plan_solve.specs.Planning.{conclusion, Settled}
 use Rattle.plan_solve.specs.Reply as planning
+use Rattle.plan.specs.Statements.{SomeLawful, NoneLawful, AllCounts}
 use Rattle.plan.specs.Conditions as plans
 use Rattle.print_bytes.specs.Writing.{Room, Written}
 use Rattle.pages.specs.Page.{maxPage}
@@ -195,7 +193,7 @@ module _ (l : WrittenLists) (before : Rooms) (page : List ℕ) (at : ℕ) (reply
 
   -- A sheet that is not refused gets the page of a plan exactly when some assignment meets all windows and all rules;
   pub plan-exactly-when-lawful : refusalOf reply ≡ allYes
-      → ((next : ℕ) × (reply ≡ says.plan next) × PlanPage ks s (take n (after .plan)) (answerOn left at next)) ↔ ((x : List ℕ) × T (lawful s x))
+      → ((next : ℕ) × (reply ≡ says.plan next) × PlanPage ks s (take n (after .plan)) (answerOn left at next)) ↔ SomeLawful s
   plan-exactly-when-lawful answered = (λ p. (take n (after .plan), p .2 .legal), λ x. go (x .0) (x .1) way)
     where
       go : (x : List ℕ) → T (lawful s x) → Way → (next : ℕ) × (reply ≡ says.plan next) × PlanPage ks s (take n (after .plan)) (answerOn left at next)
@@ -205,7 +203,7 @@ module _ (l : WrittenLists) (before : Rooms) (page : List ℕ) (at : ℕ) (reply
       go x h (full y short r e p) = let z : _≡_ {A = ℕ} 0 1 = cc in absurd (omega arith)
 
   -- else the page of a ring of the sheet's own limits.
-  pub ring-otherwise : refusalOf reply ≡ allYes → ((x : List ℕ) → T (lawful s x) → ⊥)
+  pub ring-otherwise : refusalOf reply ≡ allYes → NoneLawful s
       → (k next : ℕ) × (reply ≡ says.none k next) × NonePage s (take k (after .ring)) (answerOn left at next)
   ring-otherwise answered unlawful = go way
     where
@@ -217,8 +215,6 @@ module _ (l : WrittenLists) (before : Rooms) (page : List ℕ) (at : ℕ) (reply
 
   -- ---- 3. Counts. For every stretch, of slots or up to the carried place, a whole number is the count of some lawful plan exactly when it is from the least
   -- to the greatest, read off the table as printing leaves it. (The slot lines and the printed plan: `page-of-a-plan`.)
-  pub counts : (next : ℕ) → reply ≡ says.plan next → (a b : Boundary) → a < b → b ≤ top s → (k : ℤ)
-      → ((x : List ℕ) × T (lawful s x) × (pos (countIn (slotAfter a) (slotBefore b) x) ≡ k))
-      ↔ ((negℤ (entry (boundaries s) (after .table) b a) ≤ℤ k) × (k ≤ℤ entry (boundaries s) (after .table) a b))
+  pub counts : (next : ℕ) → reply ≡ says.plan next → AllCounts s (after .table)
   counts next f =
       plans.counts l before (says.planningOf reply) after (leaves-as-planning (ap refusalOf f)) (ap says.planningOf f)

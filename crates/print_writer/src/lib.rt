@@ -2,8 +2,8 @@ ghost use mathlib.Core.Path.{_≡_};
 ghost use Rattle.print_bytes.specs.Writing.{Room, Written};
 ghost use Rattle.print_writer.specs.Advanced.{advanced};
 
-// A writer holds the page that is lent to it and the place of the next byte; nothing else of `print` touches a lent page. Its functions are thin: `put` takes it
-// apart, has the bytes copied onto the slice from the place on, and hands it back at the place just past them. `write` serves every caller: its
+// A writer holds the page that is lent to it and the place of the next byte; nothing else of `print` touches a lent page. Its functions are thin: `put` takes
+// it apart, has the bytes copied onto the slice from the place on, and hands it back at the place just past them. `write` serves every caller: its
 // parameters are plain.
 pub struct Writer<'a> {
     pub page: &'a mut [u8],
