@@ -72,7 +72,5 @@ module _ (l : WrittenLists) (before : DecideRooms) (reply : says.Reply) (after :
     P : Planned (decided s) s before reply after
     P = call-planned fits?
 
-    -- For every stretch, those that end with the carried place included, a whole number is the count of some lawful plan exactly when it is from the least to
-    -- the greatest.
     pub counts : AllCounts s (after .table)
     counts = all.counts s (P .table) (P .size) (P .solved) (before .table) (after .table) (ap (λ r. r .table) (P .left))

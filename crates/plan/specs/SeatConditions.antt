@@ -73,9 +73,6 @@ module _ (l : WrittenLists) (before : SeatRooms) (reply : says.Reply) (after : S
     latest-slot = all.latest-slot s (entry (boundaries s) (P .table)) (P .solved) (before .latest) (after .latest) (ap (λ r. r .latest) (P .left))
 
     -- ---- 3. Counts. The greatest and the least of a stretch, read off the table as seating leaves it.
-
-    -- For every stretch, those that end with the carried place included, a whole number is the count of some lawful plan exactly when it is from the least to
-    -- the greatest.
     pub counts : AllCounts s (after .table)
     counts = all.counts s (P .table) (P .size) (P .solved) (before .table) (after .table) (ap (λ r. r .table) (P .left))
 
