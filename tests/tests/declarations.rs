@@ -113,9 +113,11 @@ fn rattle(name: &str) -> String {
     files.iter().map(|f| fs::read_to_string(f).unwrap()).collect()
 }
 
-/// What a Rattle crate exports.
+/// What a Rattle crate exports; the structs of its replies may stand in a crate of their own.
 fn exported(name: &str) -> Declared {
-    declared(&rattle(name), "extern \"C\" fn ")
+    let replies = format!("{name}_replies");
+    let replies = if root().join("crates").join(&replies).exists() { rattle(&replies) } else { String::new() };
+    declared(&(rattle(name) + &replies), "extern \"C\" fn ")
 }
 
 /// How a type of Rattle's that is passed by value is written: a number, or one of the structs.

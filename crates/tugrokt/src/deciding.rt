@@ -1,34 +1,8 @@
-ghost use mathlib.Core.Path.{_≡_};
 ghost use Rattle.sheet.specs.Lists.{writtenLists, givenBy};
 ghost use Rattle.plan_ask.specs.Questions.{decideRooms, decideLent};
 ghost use Rattle.plan_solve.specs.Planning.{conclusionIn};
-ghost use Rattle.plan_solve.specs.Reply.{decisionReply};
-ghost use Rattle.tugrokt.specs.Numbers.{planningOf, DecideTold};
-use crate::planning::Planning;
-use plan_solve::Decision;
-
-// The reply as numbers: those of planning, whose plan is that the sheet fits.
-fn numbers_of(decision: Decision) -> Planning
-    ensures { λ r. ⌜ r ≡ planningOf (decisionReply decision) ⌝ }
-{
-    match decision {
-        Decision::Refused(refusal) => Planning {
-            number: refusal.number,
-            line: refusal.line,
-            length: 0,
-        },
-        Decision::Fits => Planning {
-            number: 0,
-            line: 0,
-            length: 0,
-        },
-        Decision::None(k) => Planning {
-            number: 0,
-            line: 0,
-            length: k,
-        },
-    }
-}
+ghost use Rattle.tugrokt.specs.Told.{DecideTold};
+use tugrokt_replies::planning::Planning;
 
 // Decides from lists whether the sheet fits.
 #[no_mangle]
@@ -51,5 +25,5 @@ pub extern "C" fn tugrokt_decide(
         ⌜ DecideTold (conclusionIn l (decideLent before)) (givenBy l) before r (decideRooms (now (table .exit)) (now (ring .exit))) ⌝ }
 {
     let decision = plan::decide(span, loader, first, last, from, to, low, high, table, ring);
-    numbers_of(decision)
+    tugrokt_replies::deciding::numbers_of(decision)
 }

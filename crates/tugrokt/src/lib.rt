@@ -1,7 +1,5 @@
-// The entries for other languages: slices and numbers in, and a reply that is a struct of numbers by value. Nothing but the lent rooms is written.
-//
-// In each reply the number is that of the question that was answered no, and the line is the one that the refusal names. What a reply does not have is
-// 0. A new field stands at the end, so that the fields before it keep their places.
+// The entries for other languages: slices and numbers in, and a reply that is a struct of numbers by value (`tugrokt_replies`). Nothing but the lent rooms is
+// written.
 pub mod deciding;
 pub mod planning;
 pub mod printing;

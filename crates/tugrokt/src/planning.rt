@@ -1,41 +1,8 @@
-ghost use mathlib.Core.Path.{_≡_};
 ghost use Rattle.sheet.specs.Lists.{writtenLists, givenBy};
 ghost use Rattle.plan_ask.specs.Questions.{lent};
 ghost use Rattle.plan_solve.specs.Planning.{conclusion};
-ghost use Rattle.plan_solve.specs.Reply.{replyOf};
-ghost use Rattle.tugrokt.specs.Numbers.{planningOf, PlanTold};
-use plan_solve::Answer;
-
-// What planning replies: the length of the ring, which a plan does not have.
-#[repr(C)]
-pub struct Planning {
-    pub number: usize,
-    pub line: usize,
-    pub length: usize,
-}
-
-// The reply as numbers.
-fn numbers_of(answer: Answer) -> Planning
-    ensures { λ r. ⌜ r ≡ planningOf (replyOf answer) ⌝ }
-{
-    match answer {
-        Answer::Refused(refusal) => Planning {
-            number: refusal.number,
-            line: refusal.line,
-            length: 0,
-        },
-        Answer::Plan => Planning {
-            number: 0,
-            line: 0,
-            length: 0,
-        },
-        Answer::None(k) => Planning {
-            number: 0,
-            line: 0,
-            length: k,
-        },
-    }
-}
+ghost use Rattle.tugrokt.specs.Told.{PlanTold};
+use tugrokt_replies::planning::Planning;
 
 // Plans from lists.
 #[no_mangle]
@@ -76,5 +43,5 @@ pub extern "C" fn tugrokt_plan(
         latest,
         ring,
     );
-    numbers_of(answer)
+    tugrokt_replies::planning::numbers_of(answer)
 }

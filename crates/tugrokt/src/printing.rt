@@ -1,44 +1,7 @@
-ghost use mathlib.Core.Path.{_≡_};
 ghost use Rattle.sheet.specs.Lists.{writtenLists};
 ghost use Rattle.plan_ask.specs.Questions.{lent};
-ghost use Rattle.print.specs.Reply.{replyOf};
-ghost use Rattle.tugrokt.specs.Numbers.{printingOf, PrintTold};
-use print::Printed;
-
-// What printing replies: the length of the ring, and the place just past the answer, or the place that was given where the call was refused.
-#[repr(C)]
-pub struct Printing {
-    pub number: usize,
-    pub line: usize,
-    pub length: usize,
-    pub place: usize,
-}
-
-// The reply as numbers, to a call that was given this place.
-fn numbers_of(at: usize, printed: Printed) -> Printing
-    ensures { λ r. ⌜ r ≡ printingOf at (replyOf printed) ⌝ }
-{
-    match printed {
-        Printed::Refused(refusal) => Printing {
-            number: refusal.number,
-            line: refusal.line,
-            length: 0,
-            place: at,
-        },
-        Printed::Plan(next) => Printing {
-            number: 0,
-            line: 0,
-            length: 0,
-            place: next,
-        },
-        Printed::None(k, next) => Printing {
-            number: 0,
-            line: 0,
-            length: k,
-            place: next,
-        },
-    }
-}
+ghost use Rattle.tugrokt.specs.Told.{PrintTold};
+use tugrokt_replies::printing::Printing;
 
 // Plans from lists, and prints the answer on the page from the place on.
 #[no_mangle]
@@ -82,5 +45,5 @@ pub extern "C" fn tugrokt_print(
         page,
         place,
     );
-    numbers_of(place, printed)
+    tugrokt_replies::printing::numbers_of(place, printed)
 }

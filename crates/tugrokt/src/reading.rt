@@ -1,39 +1,8 @@
 ghost use mathlib.Core.Path.{_≡_};
-ghost use Rattle.read_ask.specs.Reading.{reading, rooms, replyOf};
+ghost use Rattle.read_ask.specs.Reading.{reading, rooms};
 ghost use Rattle.read.specs.Rooms.{sizesOf, roomsAfter};
-ghost use Rattle.tugrokt.specs.Numbers.{readingOf};
-
-// What reading replies: the span and the numbers of units and rules of the sheet that was read.
-#[repr(C)]
-pub struct Reading {
-    pub number: usize,
-    pub line: usize,
-    pub span: usize,
-    pub units: usize,
-    pub rules: usize,
-}
-
-// The reply as numbers.
-fn numbers_of(reply: read_ask::Reading) -> Reading
-    ensures { λ r. ⌜ r ≡ readingOf (replyOf reply) ⌝ }
-{
-    match reply {
-        read_ask::Reading::Refused(refusal) => Reading {
-            number: refusal.number,
-            line: refusal.line,
-            span: 0,
-            units: 0,
-            rules: 0,
-        },
-        read_ask::Reading::Sheet(s) => Reading {
-            number: 0,
-            line: 0,
-            span: s.span,
-            units: s.units,
-            rules: s.rules,
-        },
-    }
-}
+ghost use Rattle.tugrokt_replies.specs.Numbers.{readingOf};
+use tugrokt_replies::reading::Reading;
 
 // Reads a sheet from its text into the lent lists.
 #[no_mangle]
@@ -55,5 +24,5 @@ pub extern "C" fn tugrokt_read(
         (now (from .entry)) (now (to .entry)) (now (low .entry)) (now (high .entry))) ⌝ }
 {
     let reply = read::read(text, loader, first, last, from, to, low, high);
-    numbers_of(reply)
+    tugrokt_replies::reading::numbers_of(reply)
 }

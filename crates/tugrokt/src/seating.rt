@@ -1,41 +1,8 @@
-ghost use mathlib.Core.Path.{_≡_};
 ghost use Rattle.sheet.specs.Lists.{writtenLists, givenBy};
 ghost use Rattle.plan_ask.specs.Questions.{seatRooms, seatLent};
 ghost use Rattle.plan_solve.specs.Planning.{conclusionIn};
-ghost use Rattle.plan_solve.specs.Reply.{seatReply};
-ghost use Rattle.tugrokt.specs.Numbers.{seatingOf, SeatTold};
-use plan_solve::SeatAnswer;
-
-// What seating replies: 1 for a plan, and 0 for none.
-#[repr(C)]
-pub struct Seating {
-    pub number: usize,
-    pub line: usize,
-    pub planned: usize,
-}
-
-// The reply as numbers.
-fn numbers_of(answer: SeatAnswer) -> Seating
-    ensures { λ r. ⌜ r ≡ seatingOf (seatReply answer) ⌝ }
-{
-    match answer {
-        SeatAnswer::Refused(refusal) => Seating {
-            number: refusal.number,
-            line: refusal.line,
-            planned: 0,
-        },
-        SeatAnswer::Plan => Seating {
-            number: 0,
-            line: 0,
-            planned: 1,
-        },
-        SeatAnswer::None => Seating {
-            number: 0,
-            line: 0,
-            planned: 0,
-        },
-    }
-}
+ghost use Rattle.tugrokt.specs.Told.{SeatTold};
+use tugrokt_replies::seating::Seating;
 
 // Seats the units of a sheet in lists, and narrows their windows.
 #[no_mangle]
@@ -74,5 +41,5 @@ pub extern "C" fn tugrokt_seat(
         earliest,
         latest,
     );
-    numbers_of(answer)
+    tugrokt_replies::seating::numbers_of(answer)
 }

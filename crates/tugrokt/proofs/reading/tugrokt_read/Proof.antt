@@ -1,7 +1,7 @@
 -- The call of read, with its reply as numbers.
 use borrow.Author.Needs.{needs}
 use mathlib.Core.Path.{ap, _∙_}
-use Rattle.tugrokt.specs.Numbers.{readingOf}
+use Rattle.tugrokt_replies.specs.Numbers.{readingOf}
 use Rattle.tugrokt.proofs.reading.tugrokt_read.Statement.{statement}
 use Rattle.tugrokt.proofs.reading.tugrokt_read.Tie as tie
 

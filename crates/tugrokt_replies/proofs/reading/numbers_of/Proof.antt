@@ -3,9 +3,9 @@ use borrow.Author.Needs.{needs}
 use mathlib.Core.Path.{_≡_, sym, ap}
 use Rattle.read_ask.specs.Reading.{replyOf}
 use Rattle.read_ask.specs.declared.Reading.{Reading}
-use Rattle.tugrokt.specs.Numbers.{readingOf}
-use Rattle.tugrokt.proofs.reading.numbers_of.Statement.{statement}
-use Rattle.tugrokt.proofs.reading.numbers_of.Tie as tie
+use Rattle.tugrokt_replies.specs.Numbers.{readingOf}
+use Rattle.tugrokt_replies.proofs.reading.numbers_of.Statement.{statement}
+use Rattle.tugrokt_replies.proofs.reading.numbers_of.Tie as tie
 
 same-numbers : {a b : Reading} → a ≡ b → readingOf (replyOf b) ≡ readingOf (replyOf a)
 same-numbers e = sym (ap (λ (a : Reading). readingOf (replyOf a)) e)

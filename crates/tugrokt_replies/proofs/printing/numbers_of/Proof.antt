@@ -4,9 +4,9 @@ use mathlib.Core.Path.{_≡_, sym, ap}
 use Prim.Native.Nat.{ℕ}
 use Rattle.print.specs.Reply.{replyOf}
 use Rattle.print.specs.declared.Printed.{Printed}
-use Rattle.tugrokt.specs.Numbers.{printingOf}
-use Rattle.tugrokt.proofs.printing.numbers_of.Statement.{statement}
-use Rattle.tugrokt.proofs.printing.numbers_of.Tie as tie
+use Rattle.tugrokt_replies.specs.Numbers.{printingOf}
+use Rattle.tugrokt_replies.proofs.printing.numbers_of.Statement.{statement}
+use Rattle.tugrokt_replies.proofs.printing.numbers_of.Tie as tie
 
 same-numbers : (at : ℕ) {p q : Printed} → p ≡ q → printingOf at (replyOf q) ≡ printingOf at (replyOf p)
 same-numbers at e = sym (ap (λ (p : Printed). printingOf at (replyOf p)) e)

@@ -3,9 +3,9 @@ use borrow.Author.Needs.{needs}
 use mathlib.Core.Path.{_≡_, sym, ap}
 use Rattle.plan_solve.specs.Reply.{replyOf}
 use Rattle.plan_solve.specs.declared.Answer.{Answer}
-use Rattle.tugrokt.specs.Numbers.{planningOf}
-use Rattle.tugrokt.proofs.planning.numbers_of.Statement.{statement}
-use Rattle.tugrokt.proofs.planning.numbers_of.Tie as tie
+use Rattle.tugrokt_replies.specs.Numbers.{planningOf}
+use Rattle.tugrokt_replies.proofs.planning.numbers_of.Statement.{statement}
+use Rattle.tugrokt_replies.proofs.planning.numbers_of.Tie as tie
 
 same-numbers : {a b : Answer} → a ≡ b → planningOf (replyOf b) ≡ planningOf (replyOf a)
 same-numbers e = sym (ap (λ (a : Answer). planningOf (replyOf a)) e)

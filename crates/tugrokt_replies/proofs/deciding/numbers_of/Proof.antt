@@ -3,9 +3,9 @@ use borrow.Author.Needs.{needs}
 use mathlib.Core.Path.{_≡_, sym, ap}
 use Rattle.plan_solve.specs.Reply.{decisionReply}
 use Rattle.plan_solve.specs.declared.Decision.{Decision}
-use Rattle.tugrokt.specs.Numbers.{planningOf}
-use Rattle.tugrokt.proofs.deciding.numbers_of.Statement.{statement}
-use Rattle.tugrokt.proofs.deciding.numbers_of.Tie as tie
+use Rattle.tugrokt_replies.specs.Numbers.{planningOf}
+use Rattle.tugrokt_replies.proofs.deciding.numbers_of.Statement.{statement}
+use Rattle.tugrokt_replies.proofs.deciding.numbers_of.Tie as tie
 
 same-numbers : {a b : Decision} → a ≡ b → planningOf (decisionReply b) ≡ planningOf (decisionReply a)
 same-numbers e = sym (ap (λ (a : Decision). planningOf (decisionReply a)) e)

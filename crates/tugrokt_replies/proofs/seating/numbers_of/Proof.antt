@@ -3,9 +3,9 @@ use borrow.Author.Needs.{needs}
 use mathlib.Core.Path.{_≡_, sym, ap}
 use Rattle.plan_solve.specs.Reply.{seatReply}
 use Rattle.plan_solve.specs.declared.SeatAnswer.{SeatAnswer}
-use Rattle.tugrokt.specs.Numbers.{seatingOf}
-use Rattle.tugrokt.proofs.seating.numbers_of.Statement.{statement}
-use Rattle.tugrokt.proofs.seating.numbers_of.Tie as tie
+use Rattle.tugrokt_replies.specs.Numbers.{seatingOf}
+use Rattle.tugrokt_replies.proofs.seating.numbers_of.Statement.{statement}
+use Rattle.tugrokt_replies.proofs.seating.numbers_of.Tie as tie
 
 same-numbers : {a b : SeatAnswer} → a ≡ b → seatingOf (seatReply b) ≡ seatingOf (seatReply a)
 same-numbers e = sym (ap (λ (a : SeatAnswer). seatingOf (seatReply a)) e)

@@ -1,0 +1,31 @@
+-- Replies as numbers, for callers in other languages: 0 for what a reply does not have. Definitions only.
+use Prim.Native.Nat.{ℕ}
+use Rattle.read_ask.specs.Reading as reading
+use Rattle.plan_solve.specs.Reply as planning
+use Rattle.print.specs.Reply as printing
+use Rattle.tugrokt_replies.specs.declared.reading.Reading.{Reading}
+use Rattle.tugrokt_replies.specs.declared.planning.Planning.{Planning}
+use Rattle.tugrokt_replies.specs.declared.printing.Printing.{Printing}
+use Rattle.tugrokt_replies.specs.declared.seating.Seating.{Seating}
+
+abbrev pub readingOf : reading.Reply → Reading
+readingOf (reading.refused q n) = record { number = q; line = n; span = 0; units = 0; rules = 0 }
+readingOf (reading.read p u r) = record { number = 0; line = 0; span = p; units = u; rules = r }
+
+-- planning and deciding
+abbrev pub planningOf : planning.Reply → Planning
+planningOf (planning.refused q n) = record { number = q; line = n; length = 0 }
+planningOf planning.plan = record { number = 0; line = 0; length = 0 }
+planningOf (planning.none k) = record { number = 0; line = 0; length = k }
+
+-- seating: 1 for a plan, and 0 for none, whose reply has no ring
+abbrev pub seatingOf : planning.Reply → Seating
+seatingOf (planning.refused q n) = record { number = q; line = n; planned = 0 }
+seatingOf planning.plan = record { number = 0; line = 0; planned = 1 }
+seatingOf (planning.none k) = record { number = 0; line = 0; planned = 0 }
+
+-- the place of a refusal is the one that was given
+abbrev pub printingOf : ℕ → printing.Reply → Printing
+printingOf at (printing.refused q n) = record { number = q; line = n; length = 0; place = at }
+printingOf at (printing.plan next) = record { number = 0; line = 0; length = 0; place = next }
+printingOf at (printing.none k next) = record { number = 0; line = 0; length = k; place = next }
