@@ -66,7 +66,7 @@ fn put_ring(
         ⌜ Written (now (page .entry)) 0 (ringBytes s (now (ring .entry))) (now (page .exit)) r ⌝ }
 {
     limits::fill::fill_limits(span, first, last, from, to, low, high, table);
-    print_page::put_none(page, 0, table, sheet::boundaries(span), ring)
+    print_none::put_none(page, 0, table, sheet::boundaries(span), ring)
 }
 
 // The plan of a sheet, or a ring.

@@ -14,8 +14,8 @@ ghost use Rattle.print.specs.Printing.{holds as holdsAnswer, Asked, Prin
 ghost use Rattle.print.specs.Reply as says;
 ghost use Rattle.lists.specs.Lists.{onFront};
 use plan_solve::Fit;
+use print_none::MAX_RING_PAGE;
 use print_page::MAX_PAGE;
-use print_page::MAX_RING_PAGE;
 use questions::Checked;
 use questions::Refusal;
 use sheet::Sheet;
@@ -125,7 +125,7 @@ fn print_ring(
         (lent (now (table .exit)) [] [] [] (now (ring .exit))) (now (page .exit)) ⌝ }
 {
     let mut answer = [0u8; MAX_RING_PAGE];
-    let length = print_page::put_none(&mut answer, 0, limits, w, found);
+    let length = print_none::put_none(&mut answer, 0, limits, w, found);
     if holds(page.len(), at, length) {
         network::clear(w * w, table);
         lists::copy_list(found, ring);

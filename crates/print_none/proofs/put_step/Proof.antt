@@ -15,8 +15,8 @@ use Rattle.forms.specs.Words.{text}
 use Rattle.print_bytes.specs.Writing.{Room, Written, atMostLine, atLeastLine}
 use Rattle.pages.specs.Page.{stepLine}
 use Rattle.pages.specs.PageLaws.{step-forward, step-backward}
-use Rattle.print_page.proofs.put_step.Statement.{statement}
-use Rattle.print_page.proofs.put_step.Tie as tie
+use Rattle.print_none.proofs.put_step.Statement.{statement}
+use Rattle.print_none.proofs.put_step.Tie as tie
 
 abbrev limits : tie.Start → Weights
 limits c = entry (c .args .w) (now (c .args .limits))

@@ -8,8 +8,8 @@ use Rattle.forms.specs.Words.{text}
 use Rattle.print_bytes.specs.Writing.{noneHead, shortfallLine}
 use Rattle.print_bytes.specs.WritingLaws.{Pending, pending-whole, pending-room, pending-after, pending-nothing}
 use Rattle.pages.specs.Page.{ringLines, shortfallOf, nonePage}
-use Rattle.print_page.proofs.put_none.Statement.{statement}
-use Rattle.print_page.proofs.put_none.Tie as tie
+use Rattle.print_none.proofs.put_none.Statement.{statement}
+use Rattle.print_none.proofs.put_none.Tie as tie
 
 begun : (c : tie.Start) →
     let a = c .args in

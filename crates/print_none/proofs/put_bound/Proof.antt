@@ -3,8 +3,8 @@ use mathlib.Core.Path.{refl}
 use native.Mathlib.Omega.{arith}
 use borrow.Author.Needs.{needs}
 use Rattle.forms.specs.Words.{text}
-use Rattle.print_page.proofs.put_bound.Statement.{statement}
-use Rattle.print_page.proofs.put_bound.Tie as tie
+use Rattle.print_none.proofs.put_bound.Statement.{statement}
+use Rattle.print_none.proofs.put_bound.Tie as tie
 
 pub put-bound-spec : {M : Type 1} → statement M
 unfolding text

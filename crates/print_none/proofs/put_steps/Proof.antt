@@ -11,8 +11,8 @@ use Rattle.network.specs.Table.{entry}
 use Rattle.pages.specs.Page.{ringLines, stepLines, stepLine}
 use Rattle.print_bytes.specs.WritingLaws.{Pending, pending-whole, pending-room, pending-after, pending-nothing}
 use Rattle.pages.specs.PageLaws.{ring-start, ring-next, ring-end}
-use Rattle.print_page.proofs.put_steps.Statement.{statement}
-use Rattle.print_page.proofs.put_steps.Tie as tie
+use Rattle.print_none.proofs.put_steps.Statement.{statement}
+use Rattle.print_none.proofs.put_steps.Tie as tie
 
 abbrev Inv-loop : tie.InvT-loop
 Inv-loop page₀ at limits w ring last next₀ i₀ page next i =

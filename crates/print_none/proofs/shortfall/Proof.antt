@@ -13,8 +13,8 @@ use Rattle.network.specs.Network.{Weights}
 use Rattle.network.specs.Table.{entry}
 use Rattle.sheet.specs.Sizes.{maxCount}
 use Rattle.pages.specs.PageLaws.{step-inside, Walked, walked-none, walked-next, walked-all}
-use Rattle.print_page.proofs.shortfall.Statement.{statement}
-use Rattle.print_page.proofs.shortfall.Tie as tie
+use Rattle.print_none.proofs.shortfall.Statement.{statement}
+use Rattle.print_none.proofs.shortfall.Tie as tie
 
 abbrev Inv-loop : tie.InvT-loop
 Inv-loop limits w ring last rise₀ fall₀ i₀ rise fall i =
