@@ -1,5 +1,5 @@
 ghost use mathlib.Core.Path.{_≡_};
-ghost use Rattle.read_ask.specs.Reading.{reading, replyOf};
+ghost use Rattle.read_ask.specs.Reading.{replyOf};
 ghost use Rattle.tugrokt_replies.specs.Numbers.{readingOf};
 
 // What reading replies: the span and the numbers of units and rules of the sheet that was read.
