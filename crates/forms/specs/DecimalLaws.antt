@@ -10,7 +10,7 @@ use native.Mathlib.Decide.{decLe}
 use lib.ListN.{length, length-append}
 use borrow.Author.Tests.{lt-ltb, le-ltb, le-leb}
 use Rattle.forms.specs.Words.{zeroDigit}
-use Rattle.forms.specs.Form.{Piece, word, number, isDigit, some, value, valueFrom, written}
+use Rattle.forms.specs.Form.{Piece, word, number, anyBytes, isDigit, some, value, valueFrom, written}
 use Rattle.forms.specs.FormLaws.{Digits, Number, Suits}
 use Rattle.forms.specs.Decimal.{digit, digitsWithin, digits, formLine}
 
@@ -100,6 +100,7 @@ abbrev pub numbersIn : List Piece → ℕ
 numbersIn [] = 0
 numbersIn (word w ∷ f) = numbersIn f
 numbersIn (number ∷ f) = suc (numbersIn f)
+numbersIn (anyBytes ∷ f) = numbersIn f
 
 pub suits-digits : (f : List Piece) (ns : List ℕ) → length ns ≡ numbersIn f → Suits f (map digits ns)
 suits-digits [] [] h = tt
@@ -107,6 +108,7 @@ suits-digits [] (n ∷ ns) h = absurd (omega arith)
 suits-digits (word w ∷ f) ns h = suits-digits f ns h
 suits-digits (number ∷ f) [] h = absurd (omega arith)
 suits-digits (number ∷ f) (n ∷ ns) h = (number-digits n, suits-digits f ns (omega arith))
+suits-digits (anyBytes ∷ f) ns h = suits-digits f ns h
 
 -- ---- how long they are
 
@@ -141,6 +143,7 @@ longest [] ks = 1
 longest (word w ∷ f) ks = length w + longest f ks
 longest (number ∷ f) [] = 1
 longest (number ∷ f) (k ∷ ks) = k + longest f ks
+longest (anyBytes ∷ f) ks = longest f ks
 
 pub line-short : (f : List Piece) (ns ks : List ℕ) → Below ns ks → length (formLine f ns) ≤ longest f ks
 unfolding written
@@ -155,3 +158,4 @@ line-short (number ∷ f) (n ∷ ns) (suc k ∷ ks) h =
 line-short (number ∷ f) [] (k ∷ ks) h = absurd h
 line-short (number ∷ f) (n ∷ ns) [] h = absurd h
 line-short (number ∷ f) (n ∷ ns) (zero ∷ ks) h = absurd h
+line-short (anyBytes ∷ f) ns ks h = line-short f ns ks h

@@ -53,10 +53,11 @@ plain (b ∷ l) = leb (length (b ∷ l)) maxDigits && (not (some l) || not (eqb 
 
 -- ---- forms
 
--- a form is words and numbers, one after the other
+-- a form is words and numbers, one after the other; `anyBytes` is what stands up to the line's end, and only a note has it, as its last piece
 pub data Piece : Type 0 where
   word : List ℕ → Piece
   number : Piece
+  anyBytes : Piece
 
 -- a form written out with the digits of its numbers
 unfoldable pub written : List Piece → List (List ℕ) → List ℕ
@@ -64,6 +65,7 @@ written [] ns = []
 written (word w ∷ f) ns = w ++ written f ns
 written (number ∷ f) [] = []
 written (number ∷ f) (n ∷ ns) = n ++ written f ns
+written (anyBytes ∷ f) ns = written f ns
 
 abbrev pub startsWith : List ℕ → List ℕ → Bool
 startsWith [] l = true
@@ -71,14 +73,16 @@ startsWith (x ∷ w) [] = false
 startsWith (x ∷ w) (b ∷ l) = eqb x b && startsWith w l
 
 -- Whether a line is of a form: its words as shown, and one or more digits for each number.
--- FormLaws: these are the lines that the form can be written out to.
+-- FormLaws: for a form of words and numbers these are the lines that it can be written out to.
 unfoldable pub matches : List Piece → List ℕ → Bool
 matches [] l = not (some l)
 matches (word w ∷ f) l = startsWith w l && matches f (drop (length w) l)
 matches (number ∷ f) l = some (leading l) && matches f (past l)
+matches (anyBytes ∷ f) l = true
 
 -- the digits of each number of a line of a form
 unfoldable pub numbers : List Piece → List ℕ → List (List ℕ)
 numbers [] l = []
 numbers (word w ∷ f) l = numbers f (drop (length w) l)
 numbers (number ∷ f) l = leading l ∷ numbers f (past l)
+numbers (anyBytes ∷ f) l = []

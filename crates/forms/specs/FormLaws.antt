@@ -13,8 +13,10 @@ use borrow.Author.Tests.{eqb-true, eq-eqb, not-true}
 use Rattle.lists.specs.Lists.{every}
 use Rattle.lists.specs.Members.{false-not-true, and-left, and-right}
 use Rattle.forms.specs.Words.{text}
-use Rattle.forms.specs.Form.{isDigit, some, leading, past, Piece, word, number, startsWith, matches, numbers, written}
-use Rattle.forms.specs.Forms.{sheetForm, unitForm, ruleForm}
+use Rattle.forms.specs.Form.{isDigit, some, leading, past, Piece, word, number, anyBytes, startsWith, matches, numbers, written}
+use Rattle.forms.specs.Forms.{spanFormOf, unitFormOf, ruleFormOf}
+use Rattle.forms.specs.declared.House.{House}
+use Rattle.forms.specs.declared.House.the-variants.{Ours, Partner}
 
 -- ---- digits
 
@@ -64,6 +66,14 @@ Suits [] (n ∷ ns) = ⊥
 Suits (word w ∷ f) ns = Suits f ns
 Suits (number ∷ f) [] = ⊥
 Suits (number ∷ f) (n ∷ ns) = Number n × Suits f ns
+Suits (anyBytes ∷ f) ns = Suits f ns
+
+-- a form of words and numbers alone
+abbrev pub fixed : List Piece → Bool
+fixed [] = true
+fixed (word w ∷ f) = fixed f
+fixed (number ∷ f) = fixed f
+fixed (anyBytes ∷ f) = false
 
 starts : (w l : List ℕ) → startsWith w l ≡ true → w ++ drop (length w) l ≡ l
 starts [] l h = refl
@@ -71,36 +81,40 @@ starts (x ∷ w) [] h = false-not-true h
 starts (x ∷ w) (b ∷ l) h =
     ap₂ (λ (y : ℕ) (m : List ℕ). y ∷ m) (eqb-true x b (and-left (eqb x b) (startsWith w l) h)) (starts w l (and-right (eqb x b) (startsWith w l) h))
 
-pub is-written : (f : List Piece) (l : List ℕ) → matches f l ≡ true → written f (numbers f l) ≡ l
+pub is-written : (f : List Piece) (l : List ℕ) → fixed f ≡ true → matches f l ≡ true → written f (numbers f l) ≡ l
 unfolding matches numbers written
-is-written [] [] h = refl
-is-written [] (b ∷ l) h = false-not-true h
-is-written (word w ∷ f) l h =
-    let rest = drop (length w) l in
-    ap (λ (m : List ℕ). w ++ m) (is-written f rest (and-right (startsWith w l) (matches f rest) h))
-    ∙ starts w l (and-left (startsWith w l) (matches f rest) h)
-is-written (number ∷ f) l h =
-    ap (λ (m : List ℕ). leading l ++ m) (is-written f (past l) (and-right (some (leading l)) (matches f (past l)) h)) ∙ leading-past l
+is-written [] [] e h = refl
+is-written [] (b ∷ l) e h = false-not-true h
+is-written (word w ∷ f) l e h =
+    let m = drop (length w) l in
+    ap (λ (k : List ℕ). w ++ k) (is-written f m e (and-right (startsWith w l) (matches f m) h))
+    ∙ starts w l (and-left (startsWith w l) (matches f m) h)
+is-written (number ∷ f) l e h =
+    ap (λ (m : List ℕ). leading l ++ m) (is-written f (past l) e (and-right (some (leading l)) (matches f (past l)) h)) ∙ leading-past l
+is-written (anyBytes ∷ f) l e h = false-not-true e
 
-pub has-numbers : (f : List Piece) (l : List ℕ) → matches f l ≡ true → Suits f (numbers f l)
+pub has-numbers : (f : List Piece) (l : List ℕ) → fixed f ≡ true → matches f l ≡ true → Suits f (numbers f l)
 unfolding matches numbers
-has-numbers [] l h = tt
-has-numbers (word w ∷ f) l h = has-numbers f (drop (length w) l) (and-right (startsWith w l) (matches f (drop (length w) l)) h)
-has-numbers (number ∷ f) l h = (
+has-numbers [] l e h = tt
+has-numbers (word w ∷ f) l e h = has-numbers f (drop (length w) l) e (and-right (startsWith w l) (matches f (drop (length w) l)) h)
+has-numbers (number ∷ f) l e h = (
   record { digits = leading-digits l; not-empty = and-left (some (leading l)) (matches f (past l)) h },
-  has-numbers f (past l) (and-right (some (leading l)) (matches f (past l)) h),
+  has-numbers f (past l) e (and-right (some (leading l)) (matches f (past l)) h),
 )
+has-numbers (anyBytes ∷ f) l e h = false-not-true e
 
 -- ---- a form written out with numbers is a line of the form, with these numbers
 
--- in a form, a number is followed by the end, or by a word that starts with no digit
+-- in a form of words and numbers alone, a number is followed by the end, or by a word that starts with no digit
 abbrev pub separated : List Piece → Bool
 separated [] = true
 separated (word w ∷ f) = separated f
 separated (number ∷ []) = true
 separated (number ∷ (number ∷ f)) = false
+separated (number ∷ (anyBytes ∷ f)) = false
 separated (number ∷ (word [] ∷ f)) = false
 separated (number ∷ (word (b ∷ w) ∷ f)) = not (isDigit b) && separated f
+separated (anyBytes ∷ f) = false
 
 -- a text that starts with no digit
 abbrev Stops : List ℕ → Type 0
@@ -124,12 +138,14 @@ stops : (f : List Piece) (ns : List (List ℕ)) → separated (number ∷ f) ≡
 unfolding written
 stops [] ns h = tt
 stops (number ∷ f) ns h = false-not-true h
+stops (anyBytes ∷ f) ns h = false-not-true h
 stops (word [] ∷ f) ns h = false-not-true h
 stops (word (b ∷ w) ∷ f) ns h = not-true (isDigit b) (and-left (not (isDigit b)) (separated f) h)
 
 separated-tail : (f : List Piece) → separated (number ∷ f) ≡ true → separated f ≡ true
 separated-tail [] h = refl
 separated-tail (number ∷ f) h = false-not-true h
+separated-tail (anyBytes ∷ f) h = false-not-true h
 separated-tail (word [] ∷ f) h = false-not-true h
 separated-tail (word (b ∷ w) ∷ f) h = and-right (not (isDigit b)) (separated f) h
 
@@ -150,6 +166,7 @@ written-matches (word w ∷ f) ns h s =
     let r = written-matches f ns h s in
     let d = drop-append-seam w (written f ns) in
     record { matched = rw d (rw (starts-own w (written f ns)) (r .matched)); found = rw d (r .found) }
+written-matches (anyBytes ∷ f) ns h s = false-not-true h
 written-matches (number ∷ f) [] h s = absurd s
 written-matches (number ∷ f) (n ∷ ns) h s =
     let w = stops f ns h in
@@ -159,9 +176,10 @@ written-matches (number ∷ f) (n ∷ ns) h s =
     record { matched = rw (a, b) (rw (s .0 .not-empty) (r .matched)); found = rw (a, b) (ap (λ (ms : List (List ℕ)). n ∷ ms) (r .found)) }
 
 -- so it is of the lines of a sheet
-pub sheet-separated : every separated (sheetForm ∷ unitForm ∷ ruleForm ∷ []) ≡ true
+pub sheet-separated : (h : House) → every separated (spanFormOf h ∷ unitFormOf h ∷ ruleFormOf h ∷ []) ≡ true
 unfolding text
-sheet-separated = refl
+sheet-separated Ours = refl
+sheet-separated Partner = refl
 
 -- ---- a form written out is no line of another form
 
@@ -181,6 +199,9 @@ formsApart (word v ∷ g) (number ∷ f) = false
 formsApart (number ∷ g) [] = false
 formsApart (number ∷ g) (word w ∷ f) = false
 formsApart (number ∷ g) (number ∷ f) = formsApart g f
+formsApart (anyBytes ∷ g) f = false
+formsApart (word v ∷ g) (anyBytes ∷ f) = false
+formsApart (number ∷ g) (anyBytes ∷ f) = false
 
 -- past two words that are the same the rest is read, by m
 past-words : (v w : List ℕ) (rest : Bool) (t : List ℕ) (m : List ℕ → Bool) → T (wordsApart v w rest) → (T rest → m t ≡ false)
@@ -205,6 +226,9 @@ apart-unmatched (word v ∷ g) (word w ∷ f) ns h e s =
 apart-unmatched (word v ∷ g) (number ∷ f) ns h e s = absurd h
 apart-unmatched (number ∷ g) [] ns h e s = absurd h
 apart-unmatched (number ∷ g) (word w ∷ f) ns h e s = absurd h
+apart-unmatched (anyBytes ∷ g) f ns h e s = absurd h
+apart-unmatched (word v ∷ g) (anyBytes ∷ f) ns h e s = absurd h
+apart-unmatched (number ∷ g) (anyBytes ∷ f) ns h e s = absurd h
 apart-unmatched (number ∷ g) (number ∷ f) [] h e s = absurd s
 apart-unmatched (number ∷ g) (number ∷ f) (n ∷ ns) h e s =
     let a = leading-of n (written f ns) (s .0 .digits) (stops f ns e) in

@@ -2,9 +2,21 @@
 -- from here. A form is changed in its one line; for a line of a sheet `scripts/grid_tables.py` then makes the form reader's constants anew.
 use mathlib.Core.List.{List, [], _∷_}
 use Rattle.forms.specs.Words.{text}
-use Rattle.forms.specs.Form.{Piece, word, number}
+use Rattle.forms.specs.Form.{Piece, word, number, anyBytes}
+use Rattle.forms.specs.declared.House.{House}
+use Rattle.forms.specs.declared.House.the-variants.{Ours, Partner}
 
--- ---- a sheet
+-- ---- a note, in any sheet
+
+-- (note and a space, and any bytes
+abbrev pub noteForm : List Piece
+noteForm = word (text "(note ") ∷ anyBytes ∷ []
+
+-- (note) and any bytes: question 11 asks that there are none
+abbrev pub shortNoteForm : List Piece
+shortNoteForm = word (text "(note)") ∷ anyBytes ∷ []
+
+-- ---- a sheet of our own
 
 -- (sheet N)
 abbrev pub sheetForm : List Piece
@@ -18,6 +30,35 @@ unitForm = word (text "(unit ") ∷ number ∷ word (text " (window ") ∷ numbe
 abbrev pub ruleForm : List Piece
 ruleForm =
     word (text "(rule (slots ") ∷ number ∷ word (text " ") ∷ number ∷ word (text ") (count ") ∷ number ∷ word (text " ") ∷ number ∷ word (text "))") ∷ []
+
+-- ---- a sheet of the partner house: a job is a unit by its first slot and how many slots long its window is, a limit a rule without a low
+
+-- (day N)
+abbrev pub dayForm : List Piece
+dayForm = word (text "(day ") ∷ number ∷ word (text ")") ∷ []
+
+-- (job N (start N) (hours N))
+abbrev pub jobForm : List Piece
+jobForm = word (text "(job ") ∷ number ∷ word (text " (start ") ∷ number ∷ word (text ") (hours ") ∷ number ∷ word (text "))") ∷ []
+
+-- (limit (from N) (hours N) (most N))
+abbrev pub limitForm : List Piece
+limitForm =
+    word (text "(limit (from ") ∷ number ∷ word (text ") (hours ") ∷ number ∷ word (text ") (most ") ∷ number ∷ word (text "))") ∷ []
+
+-- ---- the lines of a sheet, by its house
+
+abbrev pub spanFormOf : House → List Piece
+spanFormOf Ours = sheetForm
+spanFormOf Partner = dayForm
+
+abbrev pub unitFormOf : House → List Piece
+unitFormOf Ours = unitForm
+unitFormOf Partner = jobForm
+
+abbrev pub ruleFormOf : House → List Piece
+ruleFormOf Ours = ruleForm
+ruleFormOf Partner = limitForm
 
 -- ---- the page of a plan
 
