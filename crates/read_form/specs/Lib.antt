@@ -1,4 +1,3 @@
 pub mod Kinds
-pub mod Number
 pub mod Grid
 pub mod GridLaws

@@ -1,27 +1,24 @@
--- What a line is, by its bytes, and question 11. Definitions only.
-use Prim.Native.Nat.{ℕ}
-use mathlib.Core.Bool.{Bool, true, _||_, cond}
-use mathlib.Core.List.{List, [], _∷_, _++_}
+-- What a line is, by its bytes and its house, and question 11. Definitions only.
+use Prim.Native.Nat.{ℕ, _+_, _-_}
+use mathlib.Core.Bool.{Bool, true}
+use mathlib.Core.List.{List, []}
 use lib.ListN.{drop, getD}
-use Rattle.forms.specs.Words.{space, closing, openNote}
-use Rattle.forms.specs.Form.{startsWith, numbers}
-use Rattle.forms.specs.Forms.{sheetForm, unitForm, ruleForm}
+use Rattle.forms.specs.Form.{value, numbers}
+use Rattle.forms.specs.Forms.{spanFormOf, unitFormOf, ruleFormOf}
+use Rattle.forms.specs.declared.House.{House}
+use Rattle.forms.specs.declared.House.the-variants.{Ours, Partner}
 use Rattle.read_form.specs.Kinds.{formOf}
 use Rattle.read_form.specs.declared.Kind.{Kind}
 use Rattle.read_form.specs.declared.Kind.the-variants as Kind
 use Rattle.read_notes.specs.Note.{matched}
 
--- a note, a form with the digits of its numbers, or neither
+-- a note, a form with the digits of its numbers, which question 4 is asked of, and what they say, or neither
 pub data Content : Type 0 where
   note : Content
-  sheet : (span : List ℕ) → Content
-  unit : (loader first last : List ℕ) → Content
-  rule : (from to low high : List ℕ) → Content
+  sheet : (digits : List (List ℕ)) (span : ℕ) → Content
+  unit : (digits : List (List ℕ)) (loader first last : ℕ) → Content
+  rule : (digits : List (List ℕ)) (from to low high : ℕ) → Content
   other : Content
-
--- it starts with `(note` and then a space or a closing bracket
-unfoldable pub isNote : List ℕ → Bool
-isNote line = startsWith (openNote ++ (space ∷ [])) line || startsWith (openNote ++ (closing ∷ [])) line
 
 -- past the note's own bracket, that one is open
 unfoldable pub noteMatched : List ℕ → Bool
@@ -30,35 +27,44 @@ noteMatched line = matched (drop 1 line) 1
 -- question 11
 abbrev pub bracketsMatch : Content → List ℕ → Bool
 bracketsMatch note line = noteMatched line
-bracketsMatch (sheet p) line = true
-bracketsMatch (unit k f l) line = true
-bracketsMatch (rule a b lo hi) line = true
+bracketsMatch (sheet ds p) line = true
+bracketsMatch (unit ds k f l) line = true
+bracketsMatch (rule ds a b lo hi) line = true
 bracketsMatch other line = true
 
--- a line of a form, by the digits of its numbers
-abbrev pub sheetContent : List ℕ → Content
-sheetContent line = sheet (getD (numbers sheetForm line) 0 [])
+-- the value of the i-th number, from 0
+abbrev pub valueAt : List (List ℕ) → ℕ → ℕ
+valueAt ds i = value (getD ds i [])
 
-abbrev pub unitContent : List ℕ → Content
-unitContent line = let ns = numbers unitForm line in unit (getD ns 0 []) (getD ns 1 []) (getD ns 2 [])
+-- the last slot of a stretch by its first and how many slots long it is: one of no slots ends before it starts
+abbrev pub lastOf : ℕ → ℕ → ℕ
+lastOf start hours = start + hours - 1
 
-abbrev pub ruleContent : List ℕ → Content
-ruleContent line = let ns = numbers ruleForm line in rule (getD ns 0 []) (getD ns 1 []) (getD ns 2 []) (getD ns 3 [])
+-- a unit by the digits of its numbers: loader, first and last slot, or loader, start and hours
+abbrev pub unitSaid : House → List (List ℕ) → Content
+unitSaid Ours ds = unit ds (valueAt ds 0) (valueAt ds 1) (valueAt ds 2)
+unitSaid Partner ds = unit ds (valueAt ds 0) (valueAt ds 1) (lastOf (valueAt ds 1) (valueAt ds 2))
 
-abbrev pub formContent : Kind → List ℕ → Content
-formContent Kind.Sheet line = sheetContent line
-formContent Kind.Unit line = unitContent line
-formContent Kind.Rule line = ruleContent line
-formContent Kind.Unprintable line = other
-formContent Kind.Other line = other
+-- a rule: first and last slot, low and high, or start, hours and most
+abbrev pub ruleSaid : House → List (List ℕ) → Content
+ruleSaid Ours ds = rule ds (valueAt ds 0) (valueAt ds 1) (valueAt ds 2) (valueAt ds 3)
+ruleSaid Partner ds = rule ds (valueAt ds 0) (lastOf (valueAt ds 0) (valueAt ds 1)) 0 (valueAt ds 2)
 
-unfoldable pub contentOf : List ℕ → Content
-contentOf line = cond (isNote line) note (formContent (formOf line) line)
+abbrev pub formContent : House → Kind → List ℕ → Content
+formContent h Kind.Note line = note
+formContent h Kind.Sheet line = let ds = numbers (spanFormOf h) line in sheet ds (valueAt ds 0)
+formContent h Kind.Unit line = unitSaid h (numbers (unitFormOf h) line)
+formContent h Kind.Rule line = ruleSaid h (numbers (ruleFormOf h) line)
+formContent h Kind.Unprintable line = other
+formContent h Kind.Other line = other
+
+unfoldable pub contentOf : House → List ℕ → Content
+contentOf h line = formContent h (formOf h line) line
 
 -- the digits of each number of a line
 abbrev pub numbersIn : Content → List (List ℕ)
 numbersIn note = []
-numbersIn (sheet p) = p ∷ []
-numbersIn (unit k f l) = k ∷ f ∷ l ∷ []
-numbersIn (rule a b lo hi) = a ∷ b ∷ lo ∷ hi ∷ []
+numbersIn (sheet ds p) = ds
+numbersIn (unit ds k f l) = ds
+numbersIn (rule ds a b lo hi) = ds
 numbersIn other = []

@@ -6,10 +6,10 @@ use mathlib.Core.Path.{_≡_, sym, _∙_}
 use lib.ListN.{length, drop}
 use borrow.Author.Tests.{not-true, not-false}
 use Rattle.forms.specs.Form.{leading}
-use Rattle.read_form.specs.Number.{numberRead}
-use Rattle.read_form.proofs.NumberLaws.{more, none-end, none-other, begins, stops-end, stops-other, bad-zero, bad-long, goes-on}
-use Rattle.read_form.proofs.number_at.Statement.{statement}
-use Rattle.read_form.proofs.number_at.Tie as tie
+use Rattle.read_number.specs.Number.{numberRead}
+use Rattle.read_number.proofs.NumberLaws.{more, none-end, none-other, begins, stops-end, stops-other, bad-zero, bad-long, goes-on}
+use Rattle.read_number.proofs.number_at.Statement.{statement}
+use Rattle.read_number.proofs.number_at.Tie as tie
 
 abbrev Inv-loop : tie.InvT-loop
 Inv-loop s at value₀ i₀ value i = (i ≤ length s) × (more value i (leading (drop i s)) ≡ numberRead (leading (drop at s)) at)

@@ -15,9 +15,9 @@ use borrow.Author.Tests.{eqb-true, eqb-false, le-leb, lt-leb, leb-true}
 use Rattle.forms.specs.Form.{isDigit, leading, some, plain, valueFrom}
 use Rattle.forms.specs.FormLaws.{Digits, leading-digits}
 use Rattle.lists.specs.Members.{and-left, and-right}
-use Rattle.read_form.specs.Number.{numberRead}
-use Rattle.read_form.specs.declared.Number.{Number}
-use Rattle.read_form.specs.declared.Number.the-variants.{Plain, Faulty}
+use Rattle.read_number.specs.Number.{numberRead}
+use Rattle.read_number.specs.declared.Number.{Number}
+use Rattle.read_number.specs.declared.Number.the-variants.{Plain, Faulty}
 
 -- with the value v read up to the place i: what further digits make of it
 unfoldable pub more : ℕ → ℕ → List ℕ → Number

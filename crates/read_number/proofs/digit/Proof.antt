@@ -2,9 +2,9 @@
 use native.Mathlib.Omega.{arith}
 use mathlib.Core.Path.{refl}
 use borrow.Author.Needs.{needs}
-use Rattle.read_form.proofs.NumberLaws.{digit-bounds}
-use Rattle.read_form.proofs.digit.Statement.{statement}
-use Rattle.read_form.proofs.digit.Tie as tie
+use Rattle.read_number.proofs.NumberLaws.{digit-bounds}
+use Rattle.read_number.proofs.digit.Statement.{statement}
+use Rattle.read_number.proofs.digit.Tie as tie
 
 pub digit-spec : {M : Type 1} → statement M
 digit-spec = tie.close (tie.spec (λ c. omega (arith, digit-bounds (c .args .b) (c .pre))) (λ c. search needs)

@@ -4,8 +4,8 @@ use mathlib.Core.Bool.{cond}
 use mathlib.Core.List.{List}
 use lib.ListN.{length}
 use Rattle.forms.specs.Form.{plain, value}
-use Rattle.read_form.specs.declared.Number.{Number}
-use Rattle.read_form.specs.declared.Number.the-variants.{Plain, Faulty}
+use Rattle.read_number.specs.declared.Number.{Number}
+use Rattle.read_number.specs.declared.Number.the-variants.{Plain, Faulty}
 
 -- the number with these digits, which starts at a place
 unfoldable pub numberRead : List ℕ → ℕ → Number
