@@ -1,7 +1,8 @@
 // The form reader: over which states a line is read byte by byte, and what it then is. The tables of the states are in grid_ours and grid_partner.
 ghost use mathlib.Core.Path.{_≡_};
 ghost use Prim.Native.Nat.{_<_};
-ghost use Rattle.read_form.specs.Grid.{classes, classCount, classOf, ends, entryOf, kindOfCode, stateCount};
+ghost use Rattle.read_form.specs.Grid.{classes, classCount, classOf, entryOf, kindOfCode, stateCount, Tables};
+ghost use Rattle.forms.specs.declared.House.{House};
 
 pub mod classes;
 pub mod words;
@@ -44,9 +45,9 @@ fn class_of(table: &[u8; 256], b: u8) -> usize
     c as usize
 }
 
-// One step of the form reader: the state after one byte more.
+// One step of the form reader: the state after one byte more. The tables are those of either house.
 pub fn next_state(grid: &Grid, table: &[u8; 256], state: usize, b: u8) -> usize
-    requires { ⌜ (now table ≡ classes) × (state < stateCount) ⌝ }
+    requires { ⌜ ((h : House) × Tables h (now grid) (now table)) × (state < stateCount) ⌝ }
     ensures { λ r. ⌜ r ≡ entryOf (now (grid .entry)) state (classOf b) ⌝ }
 {
     let c = class_of(table, b);

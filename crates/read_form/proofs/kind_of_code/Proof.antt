@@ -1,31 +1,16 @@
+-- Each arm is the kind of its code.
+use mathlib.Core.Path.{sym, ap}
+use borrow.Author.Tests.{ne-eqb}
+use Rattle.read_form.specs.Grid.{kindOfCode}
 use Rattle.read_form.proofs.kind_of_code.Statement.{statement}
 use Rattle.read_form.proofs.kind_of_code.Tie as tie
-use Rattle.read_form.proofs.kind_of_code.Reads as reads
-use Rattle.read_form.proofs.kind_of_code.Lts as lts
 
--- src/lib.rt:58:1
-returns : tie.Need-returns
-returns c = ?
-
--- src/lib.rt:58:1
-returns-2 : tie.Need-returns-2
-returns-2 c = ?
-
--- src/lib.rt:58:1
-returns-3 : tie.Need-returns-3
-returns-3 c = ?
-
--- src/lib.rt:58:1
-returns-4 : tie.Need-returns-4
-returns-4 c = ?
-
--- src/lib.rt:58:1
-returns-5 : tie.Need-returns-5
-returns-5 c = ?
-
--- src/lib.rt:58:1
-returns-6 : tie.Need-returns-6
-returns-6 c = ?
+last : tie.Need-returns-6
+last c =
+    let q = c .before .args .state in
+    let r = c .match .rest in
+    simp (ne-eqb q 0 (r .0 .0 .0 .0 .1), ne-eqb q 1 (r .0 .0 .0 .1), ne-eqb q 2 (r .0 .0 .1), ne-eqb q 3 (r .0 .1), ne-eqb q 4 (r .1))
 
 pub kind-of-code-spec : {M : Type 1} → statement M
-kind-of-code-spec = tie.close (tie.spec returns returns-2 returns-3 returns-4 returns-5 returns-6)
+kind-of-code-spec = tie.close (tie.spec (λ c. ap kindOfCode (sym (c .match .keys1))) (λ c. ap kindOfCode (sym (c .match .keys2)))
+    (λ c. ap kindOfCode (sym (c .match .keys3))) (λ c. ap kindOfCode (sym (c .match .keys4))) (λ c. ap kindOfCode (sym (c .match .keys5))) last)

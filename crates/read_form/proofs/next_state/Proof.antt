@@ -1,34 +1,23 @@
+-- The entry read is the one of the grid at the state and the byte's class. It fits its type, because every entry of a house's grid is a state.
+use Prim.Native.Nat.{ℕ, _<_}
+use mathlib.Core.Path.{_≡_, ap, sym, subst, _∙_}
+use mathlib.Core.List.{List}
+use native.Mathlib.Omega.{arith}
 use borrow.Author.Needs.{needs}
+use Rattle.read_form.specs.Grid.{entryOf, classOf, stateCount}
+use Rattle.read_form.specs.GridLaws.{next-inside}
 use Rattle.read_form.proofs.next_state.Statement.{statement}
 use Rattle.read_form.proofs.next_state.Tie as tie
-use Rattle.read_form.proofs.next_state.Reads as reads
-use Rattle.read_form.proofs.next_state.Lts as lts
-use Rattle.read_form.proofs.class_of.Reads as class-of-reads
 
--- src/lib.rt:52:9
-class-of-requires : tie.Need-class-of-requires
-class-of-requires c κs = search needs
-
--- src/lib.rt:53:16
-mul-next : tie.Need-mul-next
-mul-next c = search needs
-
--- src/lib.rt:53:16
-index-1-next : tie.Need-index-1-next
-index-1-next c = search needs
-
--- src/lib.rt:53:16
-index-2-next : tie.Need-index-2-next
-index-2-next c = search needs
-
--- src/lib.rt:54:5
-cast-result : tie.Need-cast-result
-cast-result c = ?
-
--- src/lib.rt:48:1
 returns : tie.Need-returns
-returns c = ?
+returns c = let a = c .before .before .args in ap (entryOf (a .grid .now) (a .state)) (c .before .class-of .ensures .0)
+
+small : tie.Need-cast-result
+small c =
+    let a = c .before .before .args in
+    let p = c .before .before .pre in
+    let e = ap (λ (g : List (List ℕ)). entryOf g (a .state) (classOf (a .b))) (p .0 .1 .is-grid) in
+    omega (arith, returns c ∙ e, next-inside (p .0 .0) (a .state) (p .1) (a .b))
 
 pub next-state-spec : {M : Type 1} → statement M
-next-state-spec =
-    tie.close (tie.spec class-of-requires mul-next index-1-next index-2-next cast-result returns)
+next-state-spec = tie.close (tie.spec (λ c κs. c .pre .0 .1 .is-classes) (λ c. search needs) (λ c. c .before .pre .1) (λ c. c .class-of .ensures .1) small returns)
