@@ -166,25 +166,48 @@ placeIn same (y ∷ ys) x = let rest = suc (placeIn same ys x) in cond (same y x
 abbrev padded : {A : Type 0} → ℕ → A → List A → List A
 padded n x xs = xs ++ replicate (n - length xs) x
 
--- how many states there are, and how many of them are those of a line that has ended
+-- whether the digits that follow are all that these signs have in front
+abbrev pub inDigits : List Sign → Bool
+inDigits [] = false
+inDigits (byte x ∷ t) = false
+inDigits (digit ∷ t) = false
+inDigits (more ∷ t) = true
+inDigits (free ∷ t) = false
+
+-- a state in which a number has begun
+abbrev pub inNumber : State → Bool
+inNumber (ended k) = false
+inNumber unprintable = false
+inNumber (going []) = false
+inNumber (going (way k t ∷ ws)) = inDigits t
+
+-- how many states there are; those of a line that has ended have the numbers below `ends`, and those in which a number has begun come next, below `stops`
 abbrev pub stateCount : ℕ
-stateCount = 81
+stateCount = 82
 
 abbrev pub ends : ℕ
 ends = 6
 
--- A state's number is its place here. First the ended ones, so that their numbers are the codes of the kinds; then where no form goes on, where a byte
--- was not printable, the start and what follows it in each form.
+abbrev pub stops : ℕ
+stops = 14
+
+-- it stands where a house has fewer numbers than the other, and no line leads to it
+abbrev noNumber : State
+noNumber = going (way Other (more ∷ []) ∷ [])
+
+-- A state's number is its place here. First the ended ones, so that their numbers are the codes of the kinds; then those of each form's numbers, in the
+-- order of the forms; then where no form goes on, where a byte was not printable, the start and what follows it in each form.
 unfoldable pub states : House → List State
 states h =
     let shapes = shapesOf h in
     let start = going (startWays shapes) in
+    let reached = once sameState (start ∷ joined (map (λ s. trail start (sample (s .form))) shapes)) in
     padded stateCount (going [])
-    (ended Unprintable ∷ ended Note ∷ ended Sheet ∷ ended Unit ∷ ended Rule ∷ ended Other ∷ going [] ∷ unprintable ∷
-    once sameState (start ∷ joined (map (λ s. trail start (sample (s .form))) shapes)))
+    (ended Unprintable ∷ ended Note ∷ ended Sheet ∷ ended Unit ∷ ended Rule ∷ ended Other ∷
+    (padded (stops - ends) noNumber (keep inNumber reached) ++ (going [] ∷ unprintable ∷ keep (λ s. not (inNumber s)) reached)))
 
 abbrev pub start : ℕ
-start = 8
+start = 16
 
 abbrev pub placeOf : House → State → ℕ
 placeOf h s = placeIn sameState (states h) s

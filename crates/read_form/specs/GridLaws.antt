@@ -34,7 +34,7 @@ word-fits (x ∷ w) t [] = refl
 word-fits (x ∷ w) t (b ∷ l) =
     ap (λ (v : Bool). eqb x b && v) (word-fits w t l) ∙ sym (and-assoc (eqb x b) (startsWith w l) (fits t (drop (length w) l)))
 
-signs-fit : (f : List Piece) (l : List ℕ) → fits (signs f) l ≡ matches f l
+pub signs-fit : (f : List Piece) (l : List ℕ) → fits (signs f) l ≡ matches f l
 unfolding fits matches leading past
 signs-fit [] l = refl
 signs-fit (word w ∷ f) l = word-fits w (signs f) l ∙ ap (λ (v : Bool). startsWith w l && v) (signs-fit f (drop (length w) l))
@@ -384,7 +384,7 @@ module _ (h : House) (q : ℕ) (hq : q < stateCount) where
         subst (λ n. nextOf h q (classOf b) < n) (states-length h)
         (rw next-is (place-inside sameState same-state (states h) (follows (stateAt h q) b) next-member))
 
-    next-state : stateAt h (nextOf h q (classOf b)) ≡ follows (stateAt h q) b
+    pub next-state : stateAt h (nextOf h q (classOf b)) ≡ follows (stateAt h q) b
     next-state = rw next-is (placed sameState same-state (states h) (follows (stateAt h q) b) (going []) next-member)
 
     -- a line goes on up to its line feed
@@ -423,9 +423,14 @@ shapes-fit (s ∷ ss) l = ap₂ (λ (m : Bool) (k : Kind). cond m (s .kind) k) (
 pub start-inside : (ends ≤ start) × (start < stateCount)
 start-inside = (omega arith, omega arith)
 
+pub start-state : (h : House) → stateAt h start ≡ going (startWays (shapesOf h))
+unfolding states over text
+start-state Ours = refl
+start-state Partner = refl
+
 start-kind : (h : House) (l : List ℕ) → kindFrom (stateAt h start) l ≡ kindOf h l
-unfolding kindOf states
-start-kind h l = ap (λ (k : Kind). cond (printable l) k Unprintable) (shapes-fit (shapesOf h) l)
+unfolding kindOf
+start-kind h l = ap (λ s. kindFrom s l) (start-state h) ∙ ap (λ (k : Kind). cond (printable l) k Unprintable) (shapes-fit (shapesOf h) l)
 
 -- a line has not ended before its line feed
 pub run-going : (h : House) (l : List ℕ) (q : ℕ) → ends ≤ q → q < stateCount → feedless l ≡ true → (ends ≤ runOf h q l) × (runOf h q l < stateCount)

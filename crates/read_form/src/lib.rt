@@ -10,10 +10,10 @@ pub mod words;
 // How many classes of bytes and how many reading states there are.
 pub const CLASSES: usize = 32;
 
-pub const STATES: usize = 81;
+pub const STATES: usize = 82;
 
 // The state in which the first byte of a line is read. A state below ENDS says that the line has ended, and what it is.
-pub const START: usize = 8;
+pub const START: usize = 16;
 
 pub const ENDS: usize = 6;
 
