@@ -2,16 +2,16 @@
 -- Key idea: what a line is, is the same read from a state as read past its first byte from the state that follows (`in-line-law`). A byte and the
 -- byte that stands for its class lead to the same state (`follows-same`). It is left that every state that follows over such a byte has a number: one
 -- test over all states and classes, which is computed for each house (`numbered`).
-use Prim.Native.Nat.{ℕ, zero, suc, _-_, _<_, _≤_}
+use Prim.Native.Nat.{ℕ, zero, suc, _+_, _-_, _*_, _<_, _≤_}
 use mathlib.Core.Path.{_≡_, refl, sym, ap, ap₂, subst, _∙_}
 use mathlib.Core.Bool.{Bool, true, false, _&&_, _||_, not, cond, and-assoc}
 use mathlib.Core.List.{List, [], _∷_, _++_, map}
 use native.Mathlib.Omega.{arith}
-use lib.ListN.{length, getD, drop, length-drop}
-use lib.Seq.{getD-drop}
+use lib.ListN.{length, getD, drop, length-drop, length-map, List·getD-append}
+use lib.Seq.{getD-drop, getD-append-add}
 use lib.Dec.{T, eqb, eqb→eq, ltb→lt}
 use borrow.Author.Tests.{ne-eqb}
-use Rattle.lists.specs.Lists.{every, consIf}
+use Rattle.lists.specs.Lists.{every, consIf, joined}
 use Rattle.lists.specs.Members.{left, right, and-left, and-right, every-at}
 use Rattle.forms.specs.Words.{lineFeed, zeroDigit, text}
 use Rattle.forms.specs.Form.{isPrintable, isDigit, printable, some, leading, past, Piece, word, number, anyBytes, startsWith, matches}
@@ -306,6 +306,17 @@ at-map f [] i d e h = absurd (omega arith)
 at-map f (x ∷ xs) zero d e h = refl
 at-map f (x ∷ xs) (suc i) d e h = at-map f xs i d e (omega arith)
 
+-- an entry of rows that stand one after the other
+module _ {A : Type 0} (row : A → List ℕ) (long : (x : A) → length (row x) ≡ classCount) where
+  joined-at : (xs : List A) (q c : ℕ) (d : A) → q < length xs → c < classCount
+      → getD (joined (map row xs)) (q * classCount + c) 0 ≡ getD (row (getD xs q d)) c 0
+  joined-at [] q c d hq hc = absurd (omega arith)
+  joined-at (x ∷ xs) zero c d hq hc =
+      ap (λ (k : ℕ). getD (row x ++ joined (map row xs)) k 0) (omega arith) ∙ List·getD-append (row x) (joined (map row xs)) 0 c (rw (long x) hc)
+  joined-at (x ∷ xs) (suc q) c d hq hc =
+      ap (λ (k : ℕ). getD (row x ++ joined (map row xs)) k 0) (omega (arith, long x))
+      ∙ getD-append-add (row x) (joined (map row xs)) (q * classCount + c) 0 ∙ joined-at xs q c d (omega arith) hc
+
 -- ---- the states of a line that has not ended
 
 abbrev goesOn : State → Bool
@@ -369,8 +380,8 @@ module _ (h : House) (q : ℕ) (hq : q < stateCount) where
     next-is : nextOf h q (classOf b) ≡ placeOf h (follows (stateAt h q) b)
     unfolding grid
     next-is =
-        ap (λ (row : List ℕ). getD row (classOf b) 0)
-        (at-map (λ s. map (λ x. placeOf h (follows s x)) classBytes) (states h) q (going []) [] in-states)
+        joined-at (λ s. map (λ x. placeOf h (follows s x)) classBytes) (λ s. length-map classBytes (λ x. placeOf h (follows s x)) ∙ class-bytes) (states h) q
+        (classOf b) (going []) in-states (class-small b)
         ∙ at-map (λ x. placeOf h (follows (stateAt h q) x)) classBytes (classOf b) 0 0 in-classes ∙ ap (placeOf h) class-follows
 
     next-member : T (memberBy sameState (states h) (follows (stateAt h q) b))
