@@ -1,4 +1,4 @@
-"""Writes the constants of the form reader, from the forms in crates/forms/specs/Forms.antt that crates/read_form/specs/Kinds.antt lists. In the repository's root:
+"""Writes the constants of the form reader, from the forms in crates/forms/specs/Forms.antt that crates/read_form/specs/Kinds.antt lists. In the root:
 
     python3 scripts/grid_tables.py
 

@@ -285,7 +285,7 @@ same-state (going vs) (ended k) h = absurd h
 same-state (going vs) unprintable h = absurd h
 same-state (going vs) (going ws) h = ap going (same-all sameWay same-way vs ws h)
 
--- ---- the grid follows the states
+-- ---- every state that follows has a number
 
 -- what a state looks at has a class of its own, and every state that follows has a number
 abbrev tested : House → State → Bool
@@ -402,7 +402,7 @@ module _ (h : House) (q : ℕ) (hq : q < stateCount) where
     pub next-going : ends ≤ q → eqb b lineFeed ≡ false → ends ≤ nextOf h q (classOf b)
     next-going o e = rw next-is (open-place h (follows (stateAt h q) b) (open-follows (stateAt h q) b (open-state o) e))
 
-  pub feed-ends : nextOf h q (classOf lineFeed) ≡ code (kindFrom (stateAt h q) [])
+  feed-ends : nextOf h q (classOf lineFeed) ≡ code (kindFrom (stateAt h q) [])
   feed-ends = next-is lineFeed ∙ ended-place h (kindFrom (stateAt h q) [])
 
   -- the line feed ends it
@@ -411,19 +411,19 @@ module _ (h : House) (q : ℕ) (hq : q < stateCount) where
 
 -- ---- lines
 
-abbrev pub feedless : List ℕ → Bool
-feedless l = every (λ b. not (eqb b lineFeed)) l
+abbrev pub noFeed : List ℕ → Bool
+noFeed l = every (λ b. not (eqb b lineFeed)) l
 
-no-feed : (b : ℕ) (l : List ℕ) → feedless (b ∷ l) ≡ true → eqb b lineFeed ≡ false
-no-feed b l e = fails (eqb b lineFeed) (subst T (sym (and-left (not (eqb b lineFeed)) (feedless l) e)) tt)
+first-no-feed : (b : ℕ) (l : List ℕ) → noFeed (b ∷ l) ≡ true → eqb b lineFeed ≡ false
+first-no-feed b l e = fails (eqb b lineFeed) (subst T (sym (and-left (not (eqb b lineFeed)) (noFeed l) e)) tt)
 
-reads : (h : House) (l : List ℕ) (q : ℕ) → q < stateCount → feedless l ≡ true → nextOf h (runOf h q l) (classOf lineFeed) ≡ code (kindFrom (stateAt h q) l)
+reads : (h : House) (l : List ℕ) (q : ℕ) → q < stateCount → noFeed l ≡ true → nextOf h (runOf h q l) (classOf lineFeed) ≡ code (kindFrom (stateAt h q) l)
 unfolding runOf
 reads h [] q i e = feed-ends h q i
 reads h (b ∷ l) q i e =
-    reads h l (nextOf h q (classOf b)) (next-inside h q i b) (and-right (not (eqb b lineFeed)) (feedless l) e)
+    reads h l (nextOf h q (classOf b)) (next-inside h q i b) (and-right (not (eqb b lineFeed)) (noFeed l) e)
     ∙ ap (λ (s : State). code (kindFrom s l)) (next-state h q i b)
-    ∙ ap (λ (f : Bool). code (kindFrom (cond f (ended (kindFrom (stateAt h q) [])) (inLine (stateAt h q) b)) l)) (no-feed b l e)
+    ∙ ap (λ (f : Bool). code (kindFrom (cond f (ended (kindFrom (stateAt h q) [])) (inLine (stateAt h q) b)) l)) (first-no-feed b l e)
     ∙ ap code (in-line-law (stateAt h q) b l)
 
 shapes-fit : (ss : List Shape) (l : List ℕ) → firstOf (startWays ss) l ≡ firstShape ss l
@@ -439,12 +439,12 @@ unfolding kindOf states
 start-kind h l = ap (λ (k : Kind). cond (printable l) k Unprintable) (shapes-fit (shapesOf h) l)
 
 -- a line has not ended before its line feed
-pub run-going : (h : House) (l : List ℕ) (q : ℕ) → ends ≤ q → q < stateCount → feedless l ≡ true → (ends ≤ runOf h q l) × (runOf h q l < stateCount)
+pub run-going : (h : House) (l : List ℕ) (q : ℕ) → ends ≤ q → q < stateCount → noFeed l ≡ true → (ends ≤ runOf h q l) × (runOf h q l < stateCount)
 unfolding runOf
 run-going h [] q o i e = (o, i)
 run-going h (b ∷ l) q o i e =
-    run-going h l (nextOf h q (classOf b)) (next-going h q i b o (no-feed b l e)) (next-inside h q i b) (and-right (not (eqb b lineFeed)) (feedless l) e)
+    run-going h l (nextOf h q (classOf b)) (next-going h q i b o (first-no-feed b l e)) (next-inside h q i b) (and-right (not (eqb b lineFeed)) (noFeed l) e)
 
 -- the state past a line's feed is the code of what the line is
-pub grid-reads : (h : House) (l : List ℕ) → feedless l ≡ true → nextOf h (runOf h start l) (classOf lineFeed) ≡ code (kindOf h l)
+pub grid-reads : (h : House) (l : List ℕ) → noFeed l ≡ true → nextOf h (runOf h start l) (classOf lineFeed) ≡ code (kindOf h l)
 grid-reads h l e = reads h l start (start-inside .1) e ∙ ap code (start-kind h l)
