@@ -1,8 +1,8 @@
-"""Writes the constants of the form reader, from the forms in crates/forms/specs/Forms.antt that crates/read_form/specs/Kinds.antt lists. In the repository's root:
+"""Writes the constants of the form reader, from the forms in crates/forms/specs/Forms.antt that crates/read_form/specs/Kinds.antt lists. In the root:
 
     python3 scripts/grid_tables.py
 
-It writes src/words.rt and src/classes.rt of crates/read_form, and src/rows.rt of crates/grid_ours and crates/grid_partner. States and classes are numbered
+It writes src/words.rt and src/tables.rt of crates/read_form, and src/tables.rt of crates/grid_ours and crates/grid_partner. States and classes are numbered
 as crates/read_form/specs/Grid.antt numbers them, and the check proves that the tables are those that Grid.antt computes.
 """
 import pathlib
@@ -90,10 +90,10 @@ def class_of(b):
     return classes.index(byte if byte in classes else OTHER)
 
 
-def array(numbers, indent=""):
-    """As rt fmt writes it: in one line, or where that is too long one number a line."""
-    line = "[" + ", ".join(map(str, numbers)) + "]"
-    return line if len(line) <= 60 else "[\n" + "".join("%s    %d,\n" % (indent, n) for n in numbers) + indent + "]"
+def table(path, head, name, kind, numbers):
+    """A constant array, as a string of bytes with a row of CLASSES bytes in each line."""
+    rows = ["".join("\\x%02x" % n for n in numbers[i : i + CLASSES]) for i in range(0, len(numbers), CLASSES)]
+    write(path, '// %s\npub const %s: %s = *b"\\\n    %s";\n' % (head, name, kind, "\\\n    ".join(rows)))
 
 
 def write(path, text):
@@ -110,6 +110,15 @@ def word_constants():
     return text
 
 
-print(STATES, len(shown), [len(states(house)) for house in HOUSES])
+def grid(house):
+    """The states' rows, one after the other, as many as the house with more states has."""
+    found = states(house)
+    padded = found + [()] * (STATES - len(found))
+    return [found.index(follows(state, byte)) for state in padded for byte in classes]
+
+
 write("read_form/src/words.rt", word_constants())
-write("read_form/src/classes.rt", "// The class of each byte, made by scripts/grid_tables.py.\npub const CLASS_OF: [u8; 256] = %s;\n" % array([class_of(b) for b in range(256)]))
+table("read_form/src/tables.rt", "The class of each byte, made by scripts/grid_tables.py.", "CLASS_OF", "[u8; 256]", [class_of(b) for b in range(256)])
+for house, crate in HOUSES.items():
+    head = "What may follow what: a row for each state, a column for each class, made by scripts/grid_tables.py.\nuse read_form::Grid;\n"
+    table(crate + "/src/tables.rt", head, "TABLE", "Grid", grid(house))

@@ -4,7 +4,7 @@ ghost use Prim.Native.Nat.{_<_};
 ghost use Rattle.read_form.specs.Grid.{classes, classCount, classOf, entryOf, kindOfCode, stateCount, Tables};
 ghost use Rattle.forms.specs.declared.House.{House};
 
-pub mod classes;
+pub mod tables;
 pub mod words;
 
 // How many classes of bytes and how many reading states there are.
@@ -17,8 +17,8 @@ pub const START: usize = 16;
 
 pub const ENDS: usize = 6;
 
-// The state that follows each state over each class of bytes.
-pub type Grid = [[u8; CLASSES]; STATES];
+// The state that follows each state over each class of bytes, a row for each state. One list: a check of rows in an array takes twice the time.
+pub type Grid = [u8; STATES * CLASSES];
 
 // What a line is, as far as its bytes alone tell.
 pub enum Kind {
@@ -34,7 +34,7 @@ pub enum Kind {
 pub fn class_table() -> [u8; 256]
     ensures { λ r. ⌜ r ≡ classes ⌝ }
 {
-    classes::CLASS_OF
+    tables::CLASS_OF
 }
 
 fn class_of(table: &[u8; 256], b: u8) -> usize
@@ -51,7 +51,7 @@ pub fn next_state(grid: &Grid, table: &[u8; 256], state: usize, b: u8) -> usize
     ensures { λ r. ⌜ r ≡ entryOf (now (grid .entry)) state (classOf b) ⌝ }
 {
     let c = class_of(table, b);
-    let next = grid[state][c];
+    let next = grid[state * CLASSES + c];
     next as usize
 }
 
