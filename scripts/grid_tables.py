@@ -2,8 +2,8 @@
 
     python3 scripts/grid_tables.py
 
-It writes src/words.rt and src/tables.rt of crates/read_form, and src/tables.rt of crates/grid_ours and crates/grid_partner. States and classes are numbered
-as crates/read_form/specs/Grid.antt numbers them, and the check proves that the tables are those that Grid.antt computes.
+It writes src/tables.rt of crates/read_form, crates/grid_ours and crates/grid_partner. States and classes are numbered as crates/read_form/specs/Grid.antt
+numbers them, and the check proves that the tables are those that Grid.antt computes.
 """
 import pathlib
 import re
@@ -11,7 +11,7 @@ import re
 CRATES = pathlib.Path(__file__).resolve().parent.parent / "crates"
 forms_text = (CRATES / "forms/specs/Forms.antt").read_text()
 kinds_text = (CRATES / "read_form/specs/Kinds.antt").read_text()
-UNPRINTABLE, LINE_FEED, OTHER, CLASSES = "\0", "\n", "!", 32
+UNPRINTABLE, LINE_FEED, OTHER, CLASSES, NUMBERS = "\0", "\n", "!", 32, 8
 KINDS = ["Unprintable", "Note", "Sheet", "Unit", "Rule", "Other"]
 
 
@@ -66,16 +66,23 @@ def follows(state, byte):
     return UNPRINTABLE if UNPRINTABLE in (state, byte) else over(state, byte)
 
 
+def in_number(state):
+    return state != UNPRINTABLE and state[:1] != () and state[0][1][:1] == ("more",)
+
+
 def states(house):
+    """Ended lines, numbers that have begun, where no form goes on, where a byte was not printable, and what else is reached."""
     start = tuple((kind, signs(name)) for kind, name in shapes(house))
-    found = KINDS + [(), UNPRINTABLE, start]
+    reached = [start]
     for _, name in shapes(house):
         state = start
         for byte in sample(name):
             state = follows(state, byte)
-            if state not in found:
-                found.append(state)
-    return found
+            if state not in reached:
+                reached.append(state)
+    numbers = [state for state in reached if in_number(state)]
+    numbers += [(("Other", ("more",)),)] * (NUMBERS - len(numbers))
+    return KINDS + numbers + [(), UNPRINTABLE] + [state for state in reached if not in_number(state)]
 
 
 HOUSES = {"Ours": "grid_ours", "Partner": "grid_partner"}
@@ -90,24 +97,13 @@ def class_of(b):
     return classes.index(byte if byte in classes else OTHER)
 
 
-def table(path, head, name, kind, numbers):
-    """A constant array, as a string of bytes with a row of CLASSES bytes in each line."""
-    rows = ["".join("\\x%02x" % n for n in numbers[i : i + CLASSES]) for i in range(0, len(numbers), CLASSES)]
-    write(path, '// %s\npub const %s: %s = *b"\\\n    %s";\n' % (head, name, kind, "\\\n    ".join(rows)))
+def rows(numbers):
+    """Strings of CLASSES bytes."""
+    return ["".join("\\x%02x" % n for n in numbers[i : i + CLASSES]) for i in range(0, len(numbers), CLASSES)]
 
 
 def write(path, text):
     (CRATES / path).write_text(text)
-
-
-def word_constants():
-    text = "// The lengths of the words before the numbers of each form, made by scripts/grid_tables.py.\n"
-    for house in HOUSES:
-        for name in (name for _, name in shapes(house) if "number" in pieces(name)):
-            form = pieces(name)
-            before = [len(w) for w, p in zip(form, form[1:]) if p == "number"]
-            text += "".join("\npub const %s_WORD_%d: usize = %d;\n" % (name[:-4].upper(), i, n) for i, n in enumerate(before, 1))
-    return text
 
 
 def grid(house):
@@ -117,8 +113,14 @@ def grid(house):
     return [found.index(follows(state, byte)) for state in padded for byte in classes]
 
 
-write("read_form/src/words.rt", word_constants())
-table("read_form/src/tables.rt", "The class of each byte, made by scripts/grid_tables.py.", "CLASS_OF", "[u8; 256]", [class_of(b) for b in range(256)])
+write(
+    "read_form/src/tables.rt",
+    '// The class of each byte, made by scripts/grid_tables.py.\npub const CLASS_OF: [u8; 256] = *b"\\\n    %s";\n'
+    % "\\\n    ".join(rows([class_of(b) for b in range(256)])),
+)
 for house, crate in HOUSES.items():
-    head = "What may follow what: a row for each state, a column for each class, made by scripts/grid_tables.py.\nuse read_form::Grid;\n"
-    table(crate + "/src/tables.rt", head, "TABLE", "Grid", grid(house))
+    write(
+        crate + "/src/tables.rt",
+        "// What may follow what: a row for each state, a column for each class, made by scripts/grid_tables.py.\nuse read_form::Grid;\n\n"
+        "pub const TABLE: Grid = [\n%s];\n" % "".join('    *b"%s",\n' % row for row in rows(grid(house))),
+    )

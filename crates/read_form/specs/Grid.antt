@@ -1,7 +1,7 @@
 -- The reading states of the form reader and its tables, computed from the forms of a house. A state is the ways in which a line may still go on, and a
 -- byte takes it to the ways that go on over that byte; the line feed takes it to what the line is. The code's constants are these tables (class_table,
 -- and the crates grid_ours and grid_partner); GridLaws proves what they read.
-use Prim.Native.Nat.{ℕ, zero, suc, _+_, _-_, _*_}
+use Prim.Native.Nat.{ℕ, zero, suc, _-_}
 use mathlib.Core.Bool.{Bool, true, false, _&&_, _||_, not, cond}
 use mathlib.Core.List.{List, [], _∷_, _++_, map}
 use mathlib.Core.Path.{_≡_}
@@ -239,16 +239,16 @@ classOf b = placeIn eqb classBytes (standIn b)
 
 -- ---- the tables
 
--- a row for each state, a column for each class, row after row: the number of the state that follows
-unfoldable pub grid : House → List ℕ
-grid h = joined (map (λ s. map (λ b. placeOf h (follows s b)) classBytes) (states h))
+-- a row for each state, a column for each class: the number of the state that follows
+unfoldable pub grid : House → List (List ℕ)
+grid h = map (λ s. map (λ b. placeOf h (follows s b)) classBytes) (states h)
 
 unfoldable pub classes : List ℕ
 classes = listOf 256 classOf
 
 -- the entry of a grid for a state and a class
-abbrev pub entryOf : List ℕ → ℕ → ℕ → ℕ
-entryOf g q c = getD g (q * classCount + c) 0
+abbrev pub entryOf : List (List ℕ) → ℕ → ℕ → ℕ
+entryOf g q c = getD (getD g q []) c 0
 
 abbrev pub nextOf : House → ℕ → ℕ → ℕ
 nextOf h q c = entryOf (grid h) q c
@@ -259,6 +259,6 @@ runOf h q [] = q
 runOf h q (b ∷ l) = runOf h (nextOf h q (classOf b)) l
 
 -- a grid and classes are the tables of a house
-pub record Tables (h : House) (g : List ℕ) (k : List ℕ) : Type 0 where
+pub record Tables (h : House) (g : List (List ℕ)) (k : List ℕ) : Type 0 where
   pub is-grid : g ≡ grid h
   pub is-classes : k ≡ classes

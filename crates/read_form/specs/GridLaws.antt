@@ -2,16 +2,16 @@
 -- Key idea: what a line is, is the same read from a state as read past its first byte from the state that follows (`in-line-law`). A byte and the
 -- byte that stands for its class lead to the same state (`follows-same`). It is left that every state that follows over such a byte has a number: one
 -- test over all states and classes, which is computed for each house (`numbered`).
-use Prim.Native.Nat.{ℕ, zero, suc, _+_, _-_, _*_, _<_, _≤_}
+use Prim.Native.Nat.{ℕ, zero, suc, _-_, _<_, _≤_}
 use mathlib.Core.Path.{_≡_, refl, sym, ap, ap₂, subst, _∙_}
 use mathlib.Core.Bool.{Bool, true, false, _&&_, _||_, not, cond, and-assoc}
 use mathlib.Core.List.{List, [], _∷_, _++_, map}
 use native.Mathlib.Omega.{arith}
-use lib.ListN.{length, getD, drop, length-drop, length-map, List·getD-append}
-use lib.Seq.{getD-drop, getD-append-add}
+use lib.ListN.{length, getD, drop, length-drop}
+use lib.Seq.{getD-drop}
 use lib.Dec.{T, eqb, eqb→eq, ltb→lt}
 use borrow.Author.Tests.{ne-eqb}
-use Rattle.lists.specs.Lists.{every, consIf, joined}
+use Rattle.lists.specs.Lists.{every, consIf}
 use Rattle.lists.specs.Members.{left, right, and-left, and-right, every-at}
 use Rattle.forms.specs.Words.{lineFeed, zeroDigit, text}
 use Rattle.forms.specs.Form.{isPrintable, isDigit, printable, some, leading, past, Piece, word, number, anyBytes, startsWith, matches}
@@ -285,7 +285,7 @@ same-state (going vs) (ended k) h = absurd h
 same-state (going vs) unprintable h = absurd h
 same-state (going vs) (going ws) h = ap going (same-all sameWay same-way vs ws h)
 
--- ---- every state that follows has a number
+-- ---- the grid follows the states
 
 -- what a state looks at has a class of its own, and every state that follows has a number
 abbrev tested : House → State → Bool
@@ -305,17 +305,6 @@ at-map : {A B : Type 0} (f : A → B) (xs : List A) (i : ℕ) (d : A) (e : B) �
 at-map f [] i d e h = absurd (omega arith)
 at-map f (x ∷ xs) zero d e h = refl
 at-map f (x ∷ xs) (suc i) d e h = at-map f xs i d e (omega arith)
-
--- an entry of rows that stand one after the other
-module _ {A : Type 0} (row : A → List ℕ) (long : (x : A) → length (row x) ≡ classCount) where
-  joined-at : (xs : List A) (q c : ℕ) (d : A) → q < length xs → c < classCount
-      → getD (joined (map row xs)) (q * classCount + c) 0 ≡ getD (row (getD xs q d)) c 0
-  joined-at [] q c d hq hc = absurd (omega arith)
-  joined-at (x ∷ xs) zero c d hq hc =
-      ap (λ (k : ℕ). getD (row x ++ joined (map row xs)) k 0) (omega arith) ∙ List·getD-append (row x) (joined (map row xs)) 0 c (rw (long x) hc)
-  joined-at (x ∷ xs) (suc q) c d hq hc =
-      ap (λ (k : ℕ). getD (row x ++ joined (map row xs)) k 0) (omega (arith, long x))
-      ∙ getD-append-add (row x) (joined (map row xs)) (q * classCount + c) 0 ∙ joined-at xs q c d (omega arith) hc
 
 -- ---- the states of a line that has not ended
 
@@ -380,8 +369,8 @@ module _ (h : House) (q : ℕ) (hq : q < stateCount) where
     next-is : nextOf h q (classOf b) ≡ placeOf h (follows (stateAt h q) b)
     unfolding grid
     next-is =
-        joined-at (λ s. map (λ x. placeOf h (follows s x)) classBytes) (λ s. length-map classBytes (λ x. placeOf h (follows s x)) ∙ class-bytes) (states h) q
-        (classOf b) (going []) in-states (class-small b)
+        ap (λ (row : List ℕ). getD row (classOf b) 0)
+        (at-map (λ s. map (λ x. placeOf h (follows s x)) classBytes) (states h) q (going []) [] in-states)
         ∙ at-map (λ x. placeOf h (follows (stateAt h q) x)) classBytes (classOf b) 0 0 in-classes ∙ ap (placeOf h) class-follows
 
     next-member : T (memberBy sameState (states h) (follows (stateAt h q) b))
@@ -402,7 +391,7 @@ module _ (h : House) (q : ℕ) (hq : q < stateCount) where
     pub next-going : ends ≤ q → eqb b lineFeed ≡ false → ends ≤ nextOf h q (classOf b)
     next-going o e = rw next-is (open-place h (follows (stateAt h q) b) (open-follows (stateAt h q) b (open-state o) e))
 
-  feed-ends : nextOf h q (classOf lineFeed) ≡ code (kindFrom (stateAt h q) [])
+  pub feed-ends : nextOf h q (classOf lineFeed) ≡ code (kindFrom (stateAt h q) [])
   feed-ends = next-is lineFeed ∙ ended-place h (kindFrom (stateAt h q) [])
 
   -- the line feed ends it
@@ -411,19 +400,19 @@ module _ (h : House) (q : ℕ) (hq : q < stateCount) where
 
 -- ---- lines
 
-abbrev pub noFeed : List ℕ → Bool
-noFeed l = every (λ b. not (eqb b lineFeed)) l
+abbrev pub feedless : List ℕ → Bool
+feedless l = every (λ b. not (eqb b lineFeed)) l
 
-first-no-feed : (b : ℕ) (l : List ℕ) → noFeed (b ∷ l) ≡ true → eqb b lineFeed ≡ false
-first-no-feed b l e = fails (eqb b lineFeed) (subst T (sym (and-left (not (eqb b lineFeed)) (noFeed l) e)) tt)
+no-feed : (b : ℕ) (l : List ℕ) → feedless (b ∷ l) ≡ true → eqb b lineFeed ≡ false
+no-feed b l e = fails (eqb b lineFeed) (subst T (sym (and-left (not (eqb b lineFeed)) (feedless l) e)) tt)
 
-reads : (h : House) (l : List ℕ) (q : ℕ) → q < stateCount → noFeed l ≡ true → nextOf h (runOf h q l) (classOf lineFeed) ≡ code (kindFrom (stateAt h q) l)
+reads : (h : House) (l : List ℕ) (q : ℕ) → q < stateCount → feedless l ≡ true → nextOf h (runOf h q l) (classOf lineFeed) ≡ code (kindFrom (stateAt h q) l)
 unfolding runOf
 reads h [] q i e = feed-ends h q i
 reads h (b ∷ l) q i e =
-    reads h l (nextOf h q (classOf b)) (next-inside h q i b) (and-right (not (eqb b lineFeed)) (noFeed l) e)
+    reads h l (nextOf h q (classOf b)) (next-inside h q i b) (and-right (not (eqb b lineFeed)) (feedless l) e)
     ∙ ap (λ (s : State). code (kindFrom s l)) (next-state h q i b)
-    ∙ ap (λ (f : Bool). code (kindFrom (cond f (ended (kindFrom (stateAt h q) [])) (inLine (stateAt h q) b)) l)) (first-no-feed b l e)
+    ∙ ap (λ (f : Bool). code (kindFrom (cond f (ended (kindFrom (stateAt h q) [])) (inLine (stateAt h q) b)) l)) (no-feed b l e)
     ∙ ap code (in-line-law (stateAt h q) b l)
 
 shapes-fit : (ss : List Shape) (l : List ℕ) → firstOf (startWays ss) l ≡ firstShape ss l
@@ -444,12 +433,12 @@ unfolding kindOf
 start-kind h l = ap (λ s. kindFrom s l) (start-state h) ∙ ap (λ (k : Kind). cond (printable l) k Unprintable) (shapes-fit (shapesOf h) l)
 
 -- a line has not ended before its line feed
-pub run-going : (h : House) (l : List ℕ) (q : ℕ) → ends ≤ q → q < stateCount → noFeed l ≡ true → (ends ≤ runOf h q l) × (runOf h q l < stateCount)
+pub run-going : (h : House) (l : List ℕ) (q : ℕ) → ends ≤ q → q < stateCount → feedless l ≡ true → (ends ≤ runOf h q l) × (runOf h q l < stateCount)
 unfolding runOf
 run-going h [] q o i e = (o, i)
 run-going h (b ∷ l) q o i e =
-    run-going h l (nextOf h q (classOf b)) (next-going h q i b o (first-no-feed b l e)) (next-inside h q i b) (and-right (not (eqb b lineFeed)) (noFeed l) e)
+    run-going h l (nextOf h q (classOf b)) (next-going h q i b o (no-feed b l e)) (next-inside h q i b) (and-right (not (eqb b lineFeed)) (feedless l) e)
 
 -- the state past a line's feed is the code of what the line is
-pub grid-reads : (h : House) (l : List ℕ) → noFeed l ≡ true → nextOf h (runOf h start l) (classOf lineFeed) ≡ code (kindOf h l)
+pub grid-reads : (h : House) (l : List ℕ) → feedless l ≡ true → nextOf h (runOf h start l) (classOf lineFeed) ≡ code (kindOf h l)
 grid-reads h l e = reads h l start (start-inside .1) e ∙ ap code (start-kind h l)

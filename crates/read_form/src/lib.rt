@@ -5,20 +5,22 @@ ghost use Rattle.read_form.specs.Grid.{classes, classCount, classOf, ent
 ghost use Rattle.forms.specs.declared.House.{House};
 
 pub mod tables;
-pub mod words;
 
 // How many classes of bytes and how many reading states there are.
 pub const CLASSES: usize = 32;
 
 pub const STATES: usize = 82;
 
-// The state in which the first byte of a line is read. A state below ENDS says that the line has ended, and what it is.
+// The state in which the first byte of a line is read. A state below ENDS says that the line has ended, and what it is; one from there on and below STOPS
+// that a number has begun, and which.
 pub const START: usize = 16;
 
 pub const ENDS: usize = 6;
 
-// The state that follows each state over each class of bytes, a row for each state. One list: a check of rows in an array takes twice the time.
-pub type Grid = [u8; STATES * CLASSES];
+pub const STOPS: usize = 14;
+
+// The state that follows each state over each class of bytes.
+pub type Grid = [[u8; CLASSES]; STATES];
 
 // What a line is, as far as its bytes alone tell.
 pub enum Kind {
@@ -51,7 +53,7 @@ pub fn next_state(grid: &Grid, table: &[u8; 256], state: usize, b: u8) -> usize
     ensures { λ r. ⌜ r ≡ entryOf (now (grid .entry)) state (classOf b) ⌝ }
 {
     let c = class_of(table, b);
-    let next = grid[state * CLASSES + c];
+    let next = grid[state][c];
     next as usize
 }
 
