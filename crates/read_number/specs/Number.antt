@@ -6,6 +6,10 @@ use lib.ListN.{length}
 use Rattle.forms.specs.Form.{plain, value}
 use Rattle.read_number.specs.declared.Number.{Number}
 
+-- the largest number of four digits
+abbrev pub maxNumber : ℕ
+maxNumber = 9999
+
 abbrev pub numberWith : ℕ → Bool → ℕ → Number
 numberWith v p next = record { value = v; plain = p; next = next }
 

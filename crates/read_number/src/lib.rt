@@ -4,7 +4,7 @@ ghost use Prim.Native.Nat.{_+_, _-_, _≤_};
 ghost use lib.ListN.{length, drop, getD};
 ghost use Rattle.forms.specs.Form.{isDigit, leading};
 ghost use Rattle.forms.specs.Lines.{hasFeed};
-ghost use Rattle.read_number.specs.Number.{numberWith, numberRead};
+ghost use Rattle.read_number.specs.Number.{maxNumber, numberWith, numberRead};
 
 // A number's value, whether it has at most four digits and no needless zero (question 4), and the place past its digits. One that has more has the
 // value 0.
@@ -50,6 +50,7 @@ fn faulty(s: &[u8], at: usize) -> Number
 pub fn number_at(s: &[u8], at: usize) -> Number
     requires { ⌜ (hasFeed (drop at (now s)) ≡ true) × (isDigit (getD (now s) at 0) ≡ true) ⌝ }
     ensures { λ r. ⌜ r ≡ numberRead (leading (drop at (now (s .entry)))) at ⌝ }
+    ensures { λ r. ⌜ r .value ≤ maxNumber ⌝ }
 {
     let one = digit(s[at]);
     let second = s[at + 1];
