@@ -1,17 +1,23 @@
 ghost use mathlib.Core.Path.{_≡_};
+ghost use mathlib.Core.Bool.{true, false, cond};
 ghost use Prim.Native.Nat.{_+_, _≤_, _<_};
 ghost use lib.ListN.{length, drop};
-ghost use Rattle.forms.specs.Form.{startsWith};
-ghost use Rattle.read_form.specs.Kinds.{kindOf};
-ghost use Rattle.read_form.specs.Grid.{Tables};
-ghost use Rattle.forms.specs.Lines.{firstLine, hasFeed};
+ghost use Rattle.forms.specs.Lines.{hasFeed, wholeLines};
+ghost use Rattle.forms.specs.declared.House.{House};
 ghost use Rattle.forms.specs.LinesLaws.{lineEnd};
-ghost use Rattle.read_line.specs.Content.{isNote, noteMatched, sheetContent, unitContent, ruleContent, formContent};
-ghost use Rattle.read_line.specs.Line.{said, lineOf, pairOf, pairEnd, printableKind};
+ghost use Rattle.read_form.specs.Kinds.{kindOf};
+ghost use Rattle.read_form.specs.Grid.{start, stateCount, runOf, Tables};
+ghost use Rattle.read_form.specs.Met.{met};
+ghost use Rattle.read_number.specs.Number.{maxNumber};
+ghost use Rattle.read_line.specs.Content.{noteMatched, lastOf};
+ghost use Rattle.read_line.specs.Line.{lineOf};
+ghost use Rattle.read_line.specs.Scan.{Resumes, StopsAt, ScannedAs, Small, unitBy, ruleBy, lineBy};
+use forms::House;
+use read_form::ENDS;
 use read_form::Grid;
 use read_form::Kind;
-use read_form::Number;
-use read_form::tables;
+use read_form::START;
+use read_form::STOPS;
 use read_notes::End;
 
 // What one line says, or the question it fails. A unit has its loader number and the first and last slot of its window.
@@ -23,232 +29,84 @@ pub enum Line {
     Rule(u16, u16, u16, u16),
 }
 
-// Where a line ends, and what its bytes are.
-pub struct Scanned {
-    pub end: usize,
-    pub kind: Kind,
-}
-
 // A line, and the place where the next one starts.
 pub struct Found {
     pub line: Line,
     pub next: usize,
 }
 
-// Two numbers and the place past them, or that question 4 is answered no.
-pub enum Pair {
-    Both {
-        first: u16,
-        second: u16,
-        next: usize,
-    },
-    Faulty,
+// Where reading a line stops: the place of its line feed or of a number's first digit, and the state past that byte.
+struct Stop {
+    place: usize,
+    state: usize,
 }
 
-// The form reader over the bytes from a place to the next line feed or the text's end.
-fn scan(text: &[u8], at: usize, grid: &Grid, table: &[u8; 256]) -> Scanned
-    requires { ⌜ (at ≤ length (now text)) × Tables (now grid) (now table) ⌝ }
-    ensures { λ r. ⌜ (r .end ≡ lineEnd (now (text .entry)) at) × (r .kind ≡ kindOf (firstLine (drop at (now (text .entry))))) ⌝ }
+// Where a line ends, what its bytes are, and whether its numbers pass question 4.
+struct Scanned {
+    end: usize,
+    kind: Kind,
+    plain: bool,
+}
+
+// How many values a line's numbers have room for: one for each state in which a number has begun.
+const NUMBERS: usize = STOPS - ENDS;
+
+// Just past the last line feed of a text. Up to there every line has its own, so that no byte of it is asked whether the text ends.
+pub fn lines_end(text: &[u8]) -> usize
+    ensures { λ r. ⌜ r ≡ wholeLines (now (text .entry)) ⌝ }
 {
-    let mut state = tables::START;
-    let mut i = at;
-    while i < text.len() {
-        let b = text[i];
-        if b == b'\n' {
+    let mut n = text.len();
+    while 0 < n {
+        if text[n - 1] == b'\n' {
             break;
         }
-        state = read_form::next_state(grid, table, state, b);
-        i += 1;
+        n -= 1;
     }
-    Scanned {
-        end: i,
-        kind: read_form::kind_at(state),
-    }
+    n
 }
 
-fn starts_with(s: &[u8], word: &[u8]) -> bool
-    ensures { λ r. ⌜ r ≡ startsWith (now (word .entry)) (now (s .entry)) ⌝ }
+// The form reader from a place on, up to the line feed or the next number.
+fn to_stop(text: &[u8], at: usize, from: usize, grid: &Grid, table: &[u8; 256]) -> Stop
+    requires { ⌜ Resumes (now text) at from × ((h : House) × Tables h (now grid) (now table)) ⌝ }
+    ensures { λ r. ⌜ ((h : House) → Tables h (now (grid .entry)) (now (table .entry)) → StopsAt h (now (text .entry)) at from (r .place) (r .state)) ⌝ }
 {
-    let mut i: usize = 0;
-    while i < word.len() {
-        if s.len() <= i {
-            return false;
-        }
-        if s[i] != word[i] {
-            return false;
+    let mut state = from;
+    let mut i = at;
+    loop {
+        state = read_form::next_state(grid, table, state, text[i]);
+        if state < STOPS {
+            break;
         }
         i += 1;
     }
-    true
+    Stop { place: i, state }
 }
 
-fn is_note(s: &[u8]) -> bool
-    ensures { λ r. ⌜ r ≡ isNote (now (s .entry)) ⌝ }
+// The line that starts at a place. Its numbers are read where they are met, each into the place of its state.
+fn scan(text: &[u8], at: usize, grid: &Grid, table: &[u8; 256], values: &mut [u16; NUMBERS]) -> Scanned
+    requires { ⌜ (hasFeed (drop at (now text)) ≡ true) × ((h : House) × Tables h (now grid) (now table)) × Small (now values) ⌝ }
+    ensures { λ r. ⌜ ((h : House) → Tables h (now (grid .entry)) (now (table .entry))
+        → ScannedAs h (now (text .entry)) at (r .end) (r .kind) (r .plain) (now (values .entry)) (now (values .exit))) ⌝ }
+    ensures { λ _. ⌜ Small (now (values .exit)) ⌝ }
 {
-    if starts_with(s, b"(note ") {
-        return true;
-    }
-    starts_with(s, b"(note)")
-}
-
-// Question 11.
-fn note_matched(s: &[u8]) -> bool
-    requires { ⌜ 1 ≤ length (now s) ⌝ }
-    ensures { λ r. ⌜ r ≡ noteMatched (now (s .entry)) ⌝ }
-{
-    let end = read_notes::list_end(s, 1, 1);
-    match end {
-        End::At(place) => place == s.len(),
-        End::Unmatched => false,
-    }
-}
-
-// Two numbers that are so many bytes apart, from a place on; few, so that no place wraps.
-fn pair_at(s: &[u8], at: usize, apart: usize) -> Pair
-    requires { ⌜ apart < 256 ⌝ }
-    ensures { λ r. ⌜ r ≡ pairOf (drop at (now (s .entry))) apart at ⌝ }
-    ensures { λ r. ⌜ pairEnd r ≤ length (now (s .entry)) ⌝ }
-{
-    let one = read_form::number_at(s, at);
-    match one {
-        Number::Plain {
-            value: first,
-            next: middle,
-        } => {
-            let two = read_form::number_at(s, middle + apart);
-            match two {
-                Number::Plain {
-                    value: second,
-                    next,
-                } => Pair::Both {
-                    first,
-                    second,
-                    next,
-                },
-                Number::Faulty => Pair::Faulty,
-            }
+    let mut state = START;
+    let mut i = at;
+    let mut plain = true;
+    loop {
+        let stop = to_stop(text, i, state, grid, table);
+        if stop.state < ENDS {
+            return Scanned {
+                end: stop.place,
+                kind: read_form::kind_of_code(stop.state),
+                plain,
+            };
         }
-        Number::Faulty => Pair::Faulty,
-    }
-}
-
-fn sheet_line(s: &[u8]) -> Line
-    ensures { λ r. ⌜ r ≡ said (sheetContent (now (s .entry))) ⌝ }
-{
-    let span = read_form::number_at(s, tables::SHEET_WORD_1);
-    match span {
-        Number::Plain { value, next: _ } => Line::Sheet(value),
-        Number::Faulty => Line::Refused(4),
-    }
-}
-
-fn unit_line(s: &[u8]) -> Line
-    ensures { λ r. ⌜ r ≡ said (unitContent (now (s .entry))) ⌝ }
-{
-    let number = read_form::number_at(s, tables::UNIT_WORD_1);
-    match number {
-        Number::Plain {
-            value: loader,
-            next,
-        } => {
-            let window = pair_at(s, next + tables::UNIT_WORD_2, tables::UNIT_WORD_3);
-            match window {
-                Pair::Both {
-                    first,
-                    second: last,
-                    next: _,
-                } => Line::Unit(loader, first, last),
-                Pair::Faulty => Line::Refused(4),
-            }
+        let number = read_number::number_at(text, stop.place);
+        values[stop.state - ENDS] = number.value;
+        if !number.plain {
+            plain = false;
         }
-        Number::Faulty => Line::Refused(4),
-    }
-}
-
-fn rule_line(s: &[u8]) -> Line
-    ensures { λ r. ⌜ r ≡ said (ruleContent (now (s .entry))) ⌝ }
-{
-    let slots = pair_at(s, tables::RULE_WORD_1, tables::RULE_WORD_2);
-    match slots {
-        Pair::Both {
-            first: from,
-            second: to,
-            next,
-        } => {
-            let count = pair_at(s, next + tables::RULE_WORD_3, tables::RULE_WORD_4);
-            match count {
-                Pair::Both {
-                    first: low,
-                    second: high,
-                    next: _,
-                } => Line::Rule(from, to, low, high),
-                Pair::Faulty => Line::Refused(4),
-            }
-        }
-        Pair::Faulty => Line::Refused(4),
-    }
-}
-
-// Questions 3 and 4 of a line that is no note and has its line feed.
-fn form_line(s: &[u8], kind: Kind) -> Line
-    ensures { λ r. ⌜ r ≡ said (formContent kind (now (s .entry))) ⌝ }
-{
-    match kind {
-        Kind::Sheet => sheet_line(s),
-        Kind::Unit => unit_line(s),
-        Kind::Rule => rule_line(s),
-        Kind::Unprintable => Line::Refused(3),
-        Kind::Other => Line::Refused(3),
-    }
-}
-
-fn is_printable(kind: Kind) -> bool
-    ensures { λ r. ⌜ r ≡ printableKind kind ⌝ }
-{
-    match kind {
-        Kind::Unprintable => false,
-        Kind::Sheet => true,
-        Kind::Unit => true,
-        Kind::Rule => true,
-        Kind::Other => true,
-    }
-}
-
-// Questions 2, 11, 3 and 4 of a line, in this order.
-fn read_line(s: &[u8], kind: Kind, ended: bool) -> Line
-    requires { ⌜ kind ≡ kindOf (now s) ⌝ }
-    ensures { λ r. ⌜ r ≡ lineOf (now (s .entry)) ended ⌝ }
-{
-    if !is_printable(kind) {
-        return Line::Refused(2);
-    }
-    if is_note(s) {
-        if !note_matched(s) {
-            return Line::Refused(11);
-        }
-        if ended {
-            return Line::Note;
-        }
-        return Line::Refused(3);
-    }
-    if !ended {
-        return Line::Refused(3);
-    }
-    form_line(s, kind)
-}
-
-// The line that starts at a place of a text.
-pub fn line_at(text: &[u8], at: usize, grid: &Grid, table: &[u8; 256]) -> Found
-    requires { ⌜ (at ≤ length (now text)) × Tables (now grid) (now table) ⌝ }
-    ensures { λ r. ⌜ r .line ≡ lineOf (firstLine (drop at (now (text .entry)))) (hasFeed (drop at (now (text .entry)))) ⌝ }
-    ensures { λ r. ⌜ r .next ≡ lineEnd (now (text .entry)) at + 1 ⌝ }
-{
-    let found = scan(text, at, grid, table);
-    let end = found.end;
-    let kind = found.kind;
-    let part = &text[at..end];
-    Found {
-        line: read_line(part, kind, end < text.len()),
-        next: end + 1,
+        state = stop.state;
+        i = number.next;
     }
 }

@@ -1,33 +1,75 @@
--- The invariant (`Scanning`): from here on the line ends where it ends from its start, and the state that the rest leads to tells the line's kind.
--- At the line feed or the text's end nothing is left, and `grid-reads` says what the state tells.
-use Prim.Native.Nat.{_-_}
-use mathlib.Core.Path.{refl, sym, _∙_}
-use mathlib.Core.Logic.{⊎-elim}
-use native.Mathlib.Omega.{arith}
-use lib.ListN.{length}
-use Rattle.read_form.specs.GridLaws.{start-inside}
-use Rattle.read_line.proofs.LineLaws.{Scanning, scan-past, scan-feed, scan-byte, scan-done}
 use Rattle.read_line.proofs.scan.Statement.{statement}
 use Rattle.read_line.proofs.scan.Tie as tie
+use Rattle.read_line.proofs.scan.Reads as reads
+use Rattle.read_line.proofs.scan.Lts as lts
+use Rattle.read_form.proofs.kind_of_code.Reads as kind-of-code-reads
+use Rattle.read_line.proofs.to_stop.Reads as to-stop-reads
+use Rattle.read_number.proofs.number_at.Reads as number-at-reads
 
 abbrev Inv-loop : tie.InvT-loop
-Inv-loop text at grid table state₀ i₀ state i = Scanning text at i state
+Inv-loop text at grid table values₀ state₀ i₀ plain₀ values state i plain = ?
 
 abbrev μ-loop : tie.MeasureT-loop
-μ-loop text at grid table state₀ i₀ state i = length text - i
+μ-loop text at grid table values₀ state₀ i₀ plain₀ values state i plain = ?
+
+-- src/lib.rt:95:5
+loop-holds : tie.Need-loop-holds Inv-loop μ-loop
+loop-holds c = ?
+
+-- src/lib.rt:96:13
+to-stop-requires : tie.Need-to-stop-requires Inv-loop μ-loop
+to-stop-requires c κs = ?
+
+-- src/lib.rt:100:23
+kind-of-code-requires : tie.Need-kind-of-code-requires Inv-loop μ-loop
+kind-of-code-requires c κs = ?
+
+-- src/lib.rt:98:13
+returns : tie.Need-returns Inv-loop μ-loop
+returns c = ?
+
+-- src/lib.rt:104:13
+number-at-requires : tie.Need-number-at-requires Inv-loop μ-loop
+number-at-requires c κs = ?
+
+-- src/lib.rt:105:9
+mul-values : tie.Need-mul-values Inv-loop μ-loop
+mul-values c = ?
+
+-- src/lib.rt:105:9
+element-write-values : tie.Need-element-write-values Inv-loop μ-loop
+element-write-values c = ?
+
+-- src/lib.rt:95:5
+loop-less : tie.Need-loop-less Inv-loop μ-loop
+loop-less c = ?
+
+-- src/lib.rt:95:5
+loop-again : tie.Need-loop-again Inv-loop μ-loop
+loop-again c = ?
+
+-- src/lib.rt:95:5
+loop-less-2 : tie.Need-loop-less-2 Inv-loop μ-loop
+loop-less-2 c = ?
+
+-- src/lib.rt:95:5
+loop-again-2 : tie.Need-loop-again-2 Inv-loop μ-loop
+loop-again-2 c = ?
 
 pub scan-spec : {M : Type 1} → statement M
-scan-spec = tie.close (tie.spec Inv-loop μ-loop (λ c. record { within = omega arith; inside = start-inside; end = refl; kind = refl })
-    (λ c. omega arith) (λ c κs. (c .before .before .before .before .before .pre .1, c .before .before .before .loop .inv .inside))
-    (λ c. omega arith) (λ c. omega arith)
-    (λ c. let l = c .before .before .before .before .loop in
-    let t = c .before .before .before .before .before .before .args .text .now in
-    let s = scan-byte t (l .i) (l .state) (c .next-state .result) (omega arith) (c .before .if1 .left) (c .next-state .ensures .0) in
-    record { within = omega arith; inside = c .next-state .ensures .1; end = sym (s .0) ∙ l .inv .end; kind = s .1 ∙ l .inv .kind })
-    (λ c κs. c .before .loop .inv .inside)
-    (λ c. let l = c .before .before .loop in
-    let a = c .before .before .before .before .args in
-    let t = a .text .now in
-    scan-done t (a .at) (l .i) (l .state) (c .kind-at .result) (l .inv)
-    (⊎-elim (λ w. scan-past t (l .i) (l .state) (w .left)) (λ w. scan-feed t (l .i) (l .state) (w .0 .taken) (w .2 .taken)) (c .before .loop-test .came))
-    (c .kind-at .ensures)))
+scan-spec =
+    tie.close
+    (tie.spec
+    Inv-loop
+    μ-loop
+    loop-holds
+    to-stop-requires
+    kind-of-code-requires
+    returns
+    number-at-requires
+    mul-values
+    element-write-values
+    loop-less
+    loop-again
+    loop-less-2
+    loop-again-2)
