@@ -8,21 +8,26 @@ use mathlib.Core.List.{List, [], _∷_, _++_}
 use native.Mathlib.Omega.{arith}
 use native.Mathlib.Decide.{decLe}
 use native.Mathlib.Numerals.{add-one}
-use lib.ListN.{length, getD, drop, drop-of-length-le}
-use lib.Seq.{drop-cons}
+use native.Mathlib.Nat.{add-zero}
+use lib.ListN.{length, getD, set, drop, drop-of-length-le, length-append}
+use lib.Seq.{drop-cons, drop-drop, getD-drop}
 use lib.Dec.{eqb, leb, ltb}
-use borrow.Author.Tests.{eq-eqb, ne-eqb, eqb-true, le-leb, lt-leb, lt-ltb, le-ltb}
-use Rattle.lists.specs.Members.{false-not-true}
+use borrow.Author.Tests.{eq-eqb, ne-eqb, eqb-true, le-leb, leb-true, lt-ltb, ltb-true, le-ltb}
+use Rattle.lists.specs.Members.{and-left, and-right, false-not-true}
 use Rattle.forms.specs.Words.{lineFeed}
-use Rattle.forms.specs.Form.{isDigit, leading, past}
+use Rattle.forms.specs.Form.{isDigit, leading, past, plain}
+use Rattle.forms.specs.FormLaws.{past-drop, leading-digits}
 use Rattle.forms.specs.Lines.{firstLine, hasFeed}
 use Rattle.forms.specs.LinesLaws.{lineEnd}
 use Rattle.forms.specs.declared.House.{House}
-use Rattle.read_form.specs.Grid.{ends, stops, stateCount, classOf, nextOf, runOf}
-use Rattle.read_form.specs.GridLaws.{next-inside, next-going, next-ended}
-use Rattle.read_form.specs.Met.{Met, isNumber, met}
+use Rattle.read_form.specs.Kinds.{kindOf}
+use Rattle.read_form.specs.Grid.{kindOfCode, ends, stops, stateCount, start, classOf, nextOf, runOf}
+use Rattle.read_form.specs.GridLaws.{kind-back, next-inside, next-going, next-ended, start-inside, feedless, grid-reads}
+use Rattle.read_form.specs.declared.Kind.{Kind}
+use Rattle.read_form.specs.Met.{isNumber, met}
 use Rattle.read_form.specs.MetLaws.{met-on, met-new, number-begins, digits-run, digits-met}
-use Rattle.read_line.specs.Scan.{lineAt, Resumes, AtFeed, AtNumber, StopsAt}
+use Rattle.read_number.specs.Number.{maxNumber, readValue}
+use Rattle.read_line.specs.Scan.{lineAt, Resumes, AtFeed, AtNumber, StopsAt, valued, withNumbers, Small, ScannedAs}
 
 -- ---- the bytes of a line that its line feed follows
 module _ (t : List ℕ) (i : ℕ) (f : hasFeed (drop i t) ≡ true) where
@@ -149,3 +154,136 @@ module _ (h : House) (t : List ℕ) (at from i q r : ℕ) (s : Scanning h t at f
 
   pub stops-at : r < stops → StopsAt h t at from i r
   stops-at g = record { at-feed = at-feed; at-number = λ l. at-number l g }
+
+-- ---- past a number
+
+-- a line from a number on is its digits and the rest
+split-line : (l : List ℕ) → firstLine l ≡ leading l ++ firstLine (past l)
+unfolding firstLine leading past
+split-line [] = refl
+split-line (b ∷ l) = go (isDigit b) refl (split-line l)
+  where
+    go : (d : Bool) → isDigit b ≡ d → firstLine l ≡ leading l ++ firstLine (past l)
+        → firstLine (b ∷ l) ≡ cond d (b ∷ leading l) [] ++ firstLine (cond d (past l) (b ∷ l))
+    go true e h =
+        ap (λ (f : Bool). cond f [] (b ∷ firstLine l)) (ne-eqb b lineFeed (λ x. false-not-true (sym (ap isDigit x) ∙ e))) ∙ ap (λ (m : List ℕ). b ∷ m) h
+    go false e h = refl
+
+feed-past : (l : List ℕ) → hasFeed (past l) ≡ hasFeed l
+unfolding hasFeed past
+feed-past [] = refl
+feed-past (b ∷ l) = go (isDigit b) refl (feed-past l)
+  where
+    go : (d : Bool) → isDigit b ≡ d → hasFeed (past l) ≡ hasFeed l → hasFeed (cond d (past l) (b ∷ l)) ≡ cond (eqb b lineFeed) true (hasFeed l)
+    go true e h = h ∙ sym (ap (λ (f : Bool). cond f true (hasFeed l)) (ne-eqb b lineFeed (λ x. false-not-true (sym (ap isDigit x) ∙ e))))
+    go false e h = refl
+
+past-head : (l : List ℕ) → isDigit (getD (past l) 0 0) ≡ false
+unfolding past
+past-head [] = refl
+past-head (b ∷ l) = go (isDigit b) refl (past-head l)
+  where
+    go : (d : Bool) → isDigit b ≡ d → isDigit (getD (past l) 0 0) ≡ false → isDigit (getD (cond d (past l) (b ∷ l)) 0 0) ≡ false
+    go true e h = h
+    go false e h = e
+
+-- ---- from number to number
+
+-- at the place i in the state q, with the values so far: the numbers that are left make them those of the line that starts at `at`
+pub record Gathering (h : House) (t : List ℕ) (at : ℕ) (before : List ℕ) (i q : ℕ) (p : Bool) (v : List ℕ) : Type 0 where
+  pub end : lineEnd t i ≡ lineEnd t at
+  pub run : runOf h q (lineAt t i) ≡ runOf h start (lineAt t at)
+  pub gathered : withNumbers (valued v p) (met h q (lineAt t i)) ≡ withNumbers (valued before true) (met h start (lineAt t at))
+
+pub resumes-start : (t : List ℕ) (at : ℕ) → hasFeed (drop at t) ≡ true → Resumes t at start
+resumes-start t at f =
+    record { feed = f; going = start-inside .0; known = start-inside .1; digits-done = λ x. false-not-true (sym (not-number start (omega arith)) ∙ x) }
+
+first-feedless : (l : List ℕ) → feedless (firstLine l) ≡ true
+unfolding firstLine
+first-feedless [] = refl
+first-feedless (b ∷ l) = go (eqb b lineFeed) refl (first-feedless l)
+  where
+    go : (f : Bool) → eqb b lineFeed ≡ f → feedless (firstLine l) ≡ true → feedless (cond f [] (b ∷ firstLine l)) ≡ true
+    go true e h = refl
+    go false e h = ap₂ (λ (x y : Bool). not x && y) e h
+
+module _ (h : House) (t : List ℕ) (at : ℕ) (before : List ℕ) (i q : ℕ) (p : Bool) (v : List ℕ) (g : Gathering h t at before i q p v) (place r : ℕ) where
+  -- at the line feed nothing is left
+  pub gathered-all : (k : Kind) → AtFeed h t i q place r → k ≡ kindOfCode r → ScannedAs h t at place k p before v
+  unfolding withNumbers
+  gathered-all k f e =
+      record {
+        is-end = f .end ∙ g .end;
+        is-kind =
+            e ∙ ap kindOfCode (f .ended ∙ ap (λ s. nextOf h s (classOf lineFeed)) (g .run) ∙ grid-reads h (lineAt t at) (first-feedless (drop at t)))
+            ∙ kind-back (kindOf h (lineAt t at));
+        are-values = sym (ap (withNumbers (valued v p)) (f .none)) ∙ g .gathered;
+      }
+
+  module _ (n : AtNumber h t i q place r) where
+    abbrev digits : List ℕ
+    digits = leading (drop place t)
+
+    abbrev next : ℕ
+    next = place + length digits
+
+    at-next : drop next t ≡ past (drop place t)
+    at-next = sym (past-drop (drop place t) ∙ drop-drop (length digits) place t)
+
+    -- the rest of the line past the number's first digit is its other digits and what stands past them
+    others : lineAt t (place + 1) ≡ leading (drop (place + 1) t) ++ lineAt t next
+    unfolding past
+    others =
+        let line = drop-cons t place 0 (feed-here t place (n .feed)) in
+        let p : past (drop place t) ≡ past (drop (place + 1) t) =
+        rw (add-one place) (ap past line ∙ ap (λ (d : Bool). cond d (past (drop (suc place) t)) (getD t place 0 ∷ drop (suc place) t)) (n .first-digit)) in
+        split-line (drop (place + 1) t) ∙ ap (λ (l : List ℕ). leading (drop (place + 1) t) ++ firstLine l) (sym (at-next ∙ p))
+
+    pub next-past : place < next
+    unfolding leading
+    next-past =
+        let line = drop-cons t place 0 (feed-here t place (n .feed)) in
+        let e = ap leading line ∙ ap (λ (d : Bool). cond d (getD t place 0 ∷ leading (drop (suc place) t)) []) (n .first-digit) in
+        omega (arith, ap length e)
+
+    pub next-resumes : Resumes t next r
+    next-resumes =
+        record {
+          feed = ap hasFeed at-next ∙ feed-past (drop place t) ∙ n .feed;
+          going = omega (arith, leb-true ends r (and-left (leb ends r) (ltb r stops) (n .begun)));
+          known = omega (arith, ltb-true r stops (and-right (leb ends r) (ltb r stops) (n .begun)));
+          digits-done = λ x. ap isDigit (sym (getD-drop next t 0 0 ∙ ap (λ k. getD t k 0) (add-zero next)) ∙ ap (λ l. getD l 0 0) at-next)
+              ∙ past-head (drop place t);
+        }
+
+    pub gathered-more : (w : ℕ) (p′ : Bool) → w ≡ readValue digits → p′ ≡ (p && plain digits)
+        → Gathering h t at before next r p′ (set v (r - ends) w)
+    unfolding withNumbers
+    gathered-more w p′ ew ep =
+        let rest = leading-digits (drop (place + 1) t) in
+        record {
+          end = omega (arith, ap length (split-line (drop place t)), length-append digits (firstLine (past (drop place t))),
+          ap (λ l. length (firstLine l)) at-next, n .end, g .end);
+          run = sym (digits-run h r (n .begun) (leading (drop (place + 1) t)) (lineAt t next) rest) ∙ ap (runOf h r) (sym others) ∙ n .run ∙ g .run;
+          gathered =
+              ap₂ (λ (x : ℕ) (y : Bool). withNumbers (valued (set v (r - ends) x) y) (met h r (lineAt t next))) ew ep
+              ∙ ap (withNumbers (valued (set v (r - ends) (readValue digits)) (p && plain digits)))
+              (sym (digits-met h r (n .begun) (leading (drop (place + 1) t)) (lineAt t next) rest) ∙ ap (met h r) (sym others))
+              ∙ sym (ap (withNumbers (valued v p)) (n .numbers)) ∙ g .gathered;
+        }
+
+-- ---- values stay small
+bounded-set : (v : List ℕ) (j x i : ℕ) → ((k : ℕ) → getD v k 0 ≤ maxNumber) → x ≤ maxNumber → getD (set v j x) i 0 ≤ maxNumber
+bounded-set [] j x i s h = omega arith
+bounded-set (y ∷ v) zero x zero s h = h
+bounded-set (y ∷ v) zero x (suc i) s h = s (suc i)
+bounded-set (y ∷ v) (suc j) x zero s h = s zero
+bounded-set (y ∷ v) (suc j) x (suc i) s h = bounded-set v j x i (λ k. s (suc k)) h
+
+pub small-set : (v : List ℕ) (j x : ℕ) → Small v → x ≤ maxNumber → Small (set v j x)
+small-set v j x s h = record { each = λ i. bounded-set v j x i (s .each) h }
+
+-- a number's state has a place of its own
+pub number-inside : (r : ℕ) → isNumber r ≡ true → (ends ≤ r) × (r < stops)
+number-inside r n = (leb-true ends r (and-left (leb ends r) (ltb r stops) n), ltb-true r stops (and-right (leb ends r) (ltb r stops) n))

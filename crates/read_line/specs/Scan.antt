@@ -1,9 +1,9 @@
 -- What reading a line byte by byte comes to: where it stops, and the values of the numbers that it meets. Definitions only.
 use Prim.Native.Nat.{ℕ, _+_, _-_, _≤_, _<_}
 use mathlib.Core.Path.{_≡_}
-use mathlib.Core.Bool.{Bool, true, false, _&&_}
+use mathlib.Core.Bool.{Bool, true, false, _&&_, cond}
 use mathlib.Core.List.{List, [], _∷_}
-use lib.ListN.{getD, set, drop}
+use lib.ListN.{length, getD, set, drop}
 use Rattle.forms.specs.Words.{lineFeed}
 use Rattle.forms.specs.Form.{isDigit, leading, plain}
 use Rattle.forms.specs.Lines.{firstLine, hasFeed}
@@ -16,9 +16,9 @@ use Rattle.read_form.specs.Met.{Met, isNumber, met}
 use Rattle.read_form.specs.declared.Kind.{Kind}
 use Rattle.read_form.specs.declared.Kind.the-variants as Kind
 use Rattle.read_number.specs.Number.{maxNumber, readValue}
-use Rattle.read_line.specs.Content.{lastOf}
+use Rattle.read_line.specs.Content.{noteMatched, lastOf}
 use Rattle.read_line.specs.declared.Line.{Line}
-use Rattle.read_line.specs.declared.Line.the-variants.{Refused, Sheet, Unit, Rule}
+use Rattle.read_line.specs.declared.Line.the-variants.{Refused, Note, Sheet, Unit, Rule}
 
 -- ---- from one stop to the next
 
@@ -82,7 +82,7 @@ pub record ScannedAs (h : House) (t : List ℕ) (at end : ℕ) (kind : Kind) (p 
   pub is-kind : kind ≡ kindOf h (lineAt t at)
   pub are-values : valued after p ≡ withNumbers (valued before true) (met h start (lineAt t at))
 
--- what a line of a kind says by the values of its numbers
+-- what a unit and a rule say by the values of their numbers
 abbrev pub unitBy : House → ℕ → ℕ → ℕ → Line
 unitBy Ours k f l = Unit k f l
 unitBy Partner k start hours = Unit k start (lastOf start hours)
@@ -91,10 +91,15 @@ abbrev pub ruleBy : House → ℕ → ℕ → ℕ → ℕ → Line
 ruleBy Ours a b lo hi = Rule a b lo hi
 ruleBy Partner start hours most none = Rule start (lastOf start hours) 0 most
 
-abbrev pub lineBy : House → Kind → List ℕ → Line
-lineBy h Kind.Sheet v = Sheet (getD v 0 0)
-lineBy h Kind.Unit v = unitBy h (getD v 1 0) (getD v 2 0) (getD v 3 0)
-lineBy h Kind.Rule v = ruleBy h (getD v 4 0) (getD v 5 0) (getD v 6 0) (getD v 7 0)
-lineBy h Kind.Unprintable v = Refused 3
-lineBy h Kind.Note v = Refused 3
-lineBy h Kind.Other v = Refused 3
+-- a note has its first bracket at least
+abbrev pub NoteHasBytes : Kind → List ℕ → Type 0
+NoteHasBytes kind line = kind ≡ Kind.Note → 1 ≤ length line
+
+-- what a line with its line feed says, or the question that it fails, by its kind and the values of its numbers; its bytes are looked at for a note alone
+abbrev pub lineSaid : House → Kind → Bool → List ℕ → List ℕ → Line
+lineSaid h Kind.Unprintable p v line = Refused 2
+lineSaid h Kind.Note p v line = cond (noteMatched line) Note (Refused 11)
+lineSaid h Kind.Sheet p v line = cond p (Sheet (getD v 0 0)) (Refused 4)
+lineSaid h Kind.Unit p v line = cond p (unitBy h (getD v 1 0) (getD v 2 0) (getD v 3 0)) (Refused 4)
+lineSaid h Kind.Rule p v line = cond p (ruleBy h (getD v 4 0) (getD v 5 0) (getD v 6 0) (getD v 7 0)) (Refused 4)
+lineSaid h Kind.Other p v line = Refused 3

@@ -1,75 +1,112 @@
+-- The invariant is `Gathering` of ScanLaws, whichever house's tables they are. At the line feed nothing is left to gather; at a number its value goes to the
+-- place of its state, and the line is read on past its digits.
+use Prim.Native.Nat.{_+_, _-_, _<_}
+use mathlib.Core.Path.{_≡_, refl, sym, ap, subst, _∙_}
+use mathlib.Core.Bool.{Bool, false, _&&_, and-true, and-false}
+use native.Mathlib.Omega.{arith}
+use lib.ListN.{length, set, drop}
+use borrow.Author.Tests.{not-true, not-false}
+use Rattle.forms.specs.Form.{leading}
+use Rattle.forms.specs.declared.House.{House}
+use Rattle.read_form.specs.Grid.{ends, stops, Tables}
+use Rattle.read_number.specs.Number.{numberRead}
+use Rattle.read_line.specs.Scan.{Resumes, AtNumber, Small}
+use Rattle.read_line.proofs.ScanLaws.{feed-here, Gathering, resumes-start, gathered-all, next-past, next-resumes, gathered-more, small-set, number-inside}
+use borrow.Author.Needs.{needs}
 use Rattle.read_line.proofs.scan.Statement.{statement}
 use Rattle.read_line.proofs.scan.Tie as tie
-use Rattle.read_line.proofs.scan.Reads as reads
-use Rattle.read_line.proofs.scan.Lts as lts
-use Rattle.read_form.proofs.kind_of_code.Reads as kind-of-code-reads
-use Rattle.read_line.proofs.to_stop.Reads as to-stop-reads
-use Rattle.read_number.proofs.number_at.Reads as number-at-reads
 
+-- of the text, the line's start, the values before, and here the place, the state, the values and whether all are plain
 abbrev Inv-loop : tie.InvT-loop
-Inv-loop text at grid table values₀ state₀ i₀ plain₀ values state i plain = ?
+Inv-loop text at grid table values₀ state₀ i₀ plain₀ values state i plain =
+    Resumes text i state × Small values × ((h : House) → Tables h grid table → Gathering h text at values₀ i state plain values)
 
 abbrev μ-loop : tie.MeasureT-loop
-μ-loop text at grid table values₀ state₀ i₀ plain₀ values state i plain = ?
+μ-loop text at grid table values₀ state₀ i₀ plain₀ values state i plain = length text - i
 
--- src/lib.rt:95:5
-loop-holds : tie.Need-loop-holds Inv-loop μ-loop
-loop-holds c = ?
+-- the loop's head, and from there the function's start
+abbrev head : tie.After-to-stop Inv-loop μ-loop → tie.At-loop Inv-loop μ-loop
+head c = c .before
 
--- src/lib.rt:96:13
-to-stop-requires : tie.Need-to-stop-requires Inv-loop μ-loop
-to-stop-requires c κs = ?
+abbrev begun : tie.At-loop Inv-loop μ-loop → tie.Start Inv-loop μ-loop
+begun c = c .before .before
 
--- src/lib.rt:100:23
-kind-of-code-requires : tie.Need-kind-of-code-requires Inv-loop μ-loop
-kind-of-code-requires c κs = ?
+-- the number at a stop that is not the line feed
+number : (c : tie.Else1 Inv-loop μ-loop) → let s = c .before .before in
+    let a = begun (head s) .args in
+    (h : House) → Tables h (a .grid .now) (a .table .now)
+    → AtNumber h (a .text .now) (head s .loop .i) (head s .loop .state) (s .to-stop .result .place) (s .to-stop .result .state)
+number c h t = c .before .before .to-stop .ensures h t .at-number (c .if1 .left)
 
--- src/lib.rt:98:13
-returns : tie.Need-returns Inv-loop μ-loop
-returns c = ?
+-- one of the houses whose tables they are
+some-number : (c : tie.Else1 Inv-loop μ-loop) → let s = c .before .before in
+    let a = begun (head s) .args in
+    AtNumber (begun (head s) .pre .1 .0) (a .text .now) (head s .loop .i) (head s .loop .state) (s .to-stop .result .place) (s .to-stop .result .state)
+some-number c = let p = begun (head (c .before .before)) .pre .1 in number c (p .0) (p .1)
 
--- src/lib.rt:104:13
-number-at-requires : tie.Need-number-at-requires Inv-loop μ-loop
-number-at-requires c κs = ?
+number-place : (c : tie.Else1 Inv-loop μ-loop) → c .before .before .to-stop .result .state - ends < stops - ends
+number-place c =
+    let r = c .before .before .to-stop .result .state in
+    let n = number-inside r (some-number c .begun) in
+    omega (arith, n .0, n .1)
 
--- src/lib.rt:105:9
-mul-values : tie.Need-mul-values Inv-loop μ-loop
-mul-values c = ?
+module _ (c : tie.After-struct-known3 Inv-loop μ-loop) where
+  abbrev stopped : tie.Else1 Inv-loop μ-loop
+  stopped = c .before .before .before
 
--- src/lib.rt:105:9
-element-write-values : tie.Need-element-write-values Inv-loop μ-loop
-element-write-values c = ?
+  abbrev at-head : tie.At-loop Inv-loop μ-loop
+  at-head = head (stopped .before .before)
 
--- src/lib.rt:95:5
-loop-less : tie.Need-loop-less Inv-loop μ-loop
-loop-less c = ?
+  abbrev read : tie.After-number-at Inv-loop μ-loop
+  read = c .before .before
 
--- src/lib.rt:95:5
-loop-again : tie.Need-loop-again Inv-loop μ-loop
-loop-again c = ?
+  next-is : let n = read .number-at .result in
+      n .next ≡ stopped .before .before .to-stop .result .place
+      + length (leading (drop (stopped .before .before .to-stop .result .place) (begun at-head .args .text .now)))
+  unfolding numberRead
+  next-is = ap (λ n. n .next) (read .number-at .ensures .0)
 
--- src/lib.rt:95:5
-loop-less-2 : tie.Need-loop-less-2 Inv-loop μ-loop
-loop-less-2 c = ?
+  less : length (begun at-head .args .text .now) - read .number-at .result .next < length (begun at-head .args .text .now) - at-head .loop .i
+  less =
+      let n = some-number stopped in
+      omega (arith, next-is, next-past _ _ _ _ _ _ _ _ (at-head .loop .inv .2 _ (begun at-head .pre .1 .1)) _ _ n, n .here,
+      feed-here (begun at-head .args .text .now) (at-head .loop .i) (at-head .loop .inv .0 .feed))
 
--- src/lib.rt:95:5
-loop-again-2 : tie.Need-loop-again-2 Inv-loop μ-loop
-loop-again-2 c = ?
+  -- with the number's value, and whether all are still plain
+  again : (p : Bool) → p ≡ (at-head .loop .plain && read .number-at .result .plain) →
+      let a = begun at-head .args in
+      let r = stopped .before .before .to-stop .result .state in
+      let n = read .number-at .result in
+      let v = set (at-head .loop .values) (r - ends) (n .value) in
+      Resumes (a .text .now) (n .next) r × Small v × ((h : House) → Tables h (a .grid .now) (a .table .now) → Gathering h (a .text .now) (a .at) (a .values .now) (n .next) r p v)
+  unfolding numberRead
+  again p e =
+      let z = begun at-head in
+      let l = at-head .loop in
+      let t = z .args .text .now in
+      let r = stopped .before .before .to-stop .result .state in
+      let place = stopped .before .before .to-stop .result .place in
+      let n = read .number-at .ensures in
+      (
+        subst (λ i. Resumes t i r) (sym next-is) (next-resumes _ _ _ _ _ _ _ _ (l .inv .2 _ (z .pre .1 .1)) _ _ (some-number stopped)),
+        small-set (l .values) (r - ends) _ (l .inv .1) (n .1),
+        λ h b. subst (λ i. Gathering h t (z .args .at) (z .args .values .now) i r p (set (l .values) (r - ends) (read .number-at .result .value))) (sym next-is)
+            (gathered-more h t (z .args .at) _ (l .i) (l .state) (l .plain) (l .values) (l .inv .2 h b) place r (number stopped h b) _ p
+            (ap (λ m. m .value) (n .0)) (e ∙ ap (λ m. l .plain && m .plain) (n .0))),
+      )
 
 pub scan-spec : {M : Type 1} → statement M
-scan-spec =
-    tie.close
-    (tie.spec
-    Inv-loop
-    μ-loop
-    loop-holds
-    to-stop-requires
-    kind-of-code-requires
-    returns
-    number-at-requires
-    mul-values
-    element-write-values
-    loop-less
-    loop-again
-    loop-less-2
-    loop-again-2)
+scan-spec = tie.close (tie.spec Inv-loop μ-loop
+    (λ c. let z = c .before in
+    (resumes-start _ _ (z .pre .0), z .pre .2, λ h t. record { end = refl; run = refl; gathered = refl }))
+    (λ c κs. (c .loop .inv .0, begun c .pre .1)) (λ c κs. search needs)
+    (λ c. let s = c .before .before .before in
+    let l = head s .loop in
+    (λ h t. gathered-all h _ _ _ _ _ _ _ (l .inv .2 h t) _ _ _ (s .to-stop .ensures h t .at-feed (c .before .if1 .taken)) (c .kind-of-code .ensures),
+    l .inv .1))
+    (λ c κs. let n = some-number c in (n .feed, n .first-digit))
+    (λ c. omega (arith, number-place (c .before .before))) (λ c. number-place (c .before .before))
+    (λ c. less (c .before))
+    (λ c. let p = at-head (c .before) .loop .plain in again (c .before) false (sym (ap (λ b. p && b) (not-true _ (c .if2 .taken)) ∙ and-false p)))
+    (λ c. less (c .before))
+    (λ c. let p = at-head (c .before) .loop .plain in again (c .before) p (sym (ap (λ b. p && b) (not-false _ (c .if2 .left)) ∙ and-true p))))
