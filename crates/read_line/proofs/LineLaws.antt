@@ -1,13 +1,13 @@
 -- What the code says of a line is what the definition of a line says.
 -- Key idea: the numbers that reading meets are those of the line's form, one after the other, and so are their values (`values-are`). The questions in the
--- code's order are `lineOf`, by the line's kind (`by-kind`, `unended`).
+-- code's order are `lineOf`, by the line's kind (`line-said`, `line-unended`).
 use Prim.Native.Nat.{ℕ, zero, suc, _+_, _-_, _≤_, _<_}
 use mathlib.Core.Path.{_≡_, refl, sym, ap, ap₂, subst, _∙_}
 use mathlib.Core.Bool.{Bool, true, false, _&&_, cond, and-true, and-assoc}
 use mathlib.Core.List.{List, [], _∷_, map}
 use native.Mathlib.Omega.{arith}
 use native.Mathlib.Nat.{add-zero}
-use lib.ListN.{length, getD, set, drop, length-set, length-map}
+use lib.ListN.{length, getD, set, drop, replicate, length-set, length-map}
 use lib.Seq.{sets, getD-set-same, getD-set-other}
 use lib.Dec.{eqb}
 use borrow.Author.Tests.{eq-eqb, ne-eqb}
@@ -27,10 +27,10 @@ use Rattle.read_form.specs.declared.Kind.the-variants as Kind
 use Rattle.read_notes.specs.Readers.{Rest, rest, unmatched, afterList, endOf, atEnd}
 use Rattle.read_notes.specs.ReaderLaws.{list-matched}
 use Rattle.read_notes.specs.declared.End.the-variants as End
-use Rattle.read_number.specs.Number.{readValue}
+use Rattle.read_number.specs.Number.{maxNumber, readValue}
 use Rattle.read_line.specs.Content.{noteMatched, bracketsMatch, valueAt, unitSaid, ruleSaid, formContent, contentOf}
 use Rattle.read_line.specs.Line.{said, lineOf}
-use Rattle.read_line.specs.Scan.{Values, valued, withNumbers, unitBy, ruleBy, lineSaid}
+use Rattle.read_line.specs.Scan.{valued, withNumbers, Small, unitBy, ruleBy, lineSaid, unendedFault}
 use Rattle.read_line.specs.declared.Line.{Line}
 use Rattle.read_line.specs.declared.Line.the-variants.{Refused, Note, Sheet}
 
@@ -119,7 +119,7 @@ rule-said Partner ds = refl
 
 -- ---- the questions of a line in their order
 
--- by its kind, with its line feed
+-- with its line feed, by its kind
 abbrev ended : House → Kind → List ℕ → Line
 ended h Kind.Unprintable l = Refused 2
 ended h Kind.Note l = cond (noteMatched l) Note (Refused 11)
@@ -127,15 +127,6 @@ ended h Kind.Sheet l = said (formContent h Kind.Sheet l)
 ended h Kind.Unit l = said (formContent h Kind.Unit l)
 ended h Kind.Rule l = said (formContent h Kind.Rule l)
 ended h Kind.Other l = Refused 3
-
--- and without it
-abbrev pub bytesOnly : Kind → List ℕ → ℕ
-bytesOnly Kind.Unprintable l = 2
-bytesOnly Kind.Note l = cond (noteMatched l) 3 11
-bytesOnly Kind.Sheet l = 3
-bytesOnly Kind.Unit l = 3
-bytesOnly Kind.Rule l = 3
-bytesOnly Kind.Other l = 3
 
 module _ (h : House) (l : List ℕ) where
   by-kind : lineOf h l true ≡ ended h (kindOf h l) l
@@ -163,9 +154,9 @@ module _ (h : House) (l : List ℕ) where
       go true false false false false true = rule h
       go true false false false false false = refl
 
-  pub unended : Refused (bytesOnly (kindOf h l) l) ≡ lineOf h l false
+  pub line-unended : Refused (unendedFault (kindOf h l) l) ≡ lineOf h l false
   unfolding lineOf contentOf kindOf
-  unended = go (printable l) (matches noteForm l) (matches shortNoteForm l) (matches (spanFormOf h) l) (matches (unitFormOf h) l) (matches (ruleFormOf h) l)
+  line-unended = go (printable l) (matches noteForm l) (matches shortNoteForm l) (matches (spanFormOf h) l) (matches (unitFormOf h) l) (matches (ruleFormOf h) l)
     where
       noted : (b : Bool) → Refused (cond b 3 11) ≡ cond b (Refused 3) (Refused 11)
       noted true = refl
@@ -180,7 +171,7 @@ module _ (h : House) (l : List ℕ) where
       rule Partner = refl
 
       go : (p m n s u r : Bool) → let k = cond m Kind.Note (cond n Kind.Note (cond s Kind.Sheet (cond u Kind.Unit (cond r Kind.Rule Kind.Other)))) in
-          Refused (bytesOnly (cond p k Kind.Unprintable) l) ≡ cond p (cond (bracketsMatch (formContent h k l) l) (Refused 3) (Refused 11)) (Refused 2)
+          Refused (unendedFault (cond p k Kind.Unprintable) l) ≡ cond p (cond (bracketsMatch (formContent h k l) l) (Refused 3) (Refused 11)) (Refused 2)
       go false m n s u r = refl
       go true true n s u r = noted (noteMatched l)
       go true false true s u r = noted (noteMatched l)
@@ -269,3 +260,12 @@ module _ (h : House) (l before v : List ℕ) (p : Bool) (room : length before �
       go Kind.Unit is = unit-line (sym is) ∙ ap (λ j. ended h j l) is
       go Kind.Rule is = rule-line (sym is) ∙ ap (λ j. ended h j l) is
       go Kind.Other is = ap (λ j. ended h j l) is
+
+-- before a line is read every value is 0
+pub zeros-small : Small (replicate 8 0)
+zeros-small = record { each = λ i. zero-at 8 i }
+  where
+    zero-at : (n i : ℕ) → getD (replicate n 0) i 0 ≤ maxNumber
+    zero-at zero i = omega arith
+    zero-at (suc n) zero = omega arith
+    zero-at (suc n) (suc i) = zero-at n i

@@ -199,7 +199,7 @@ pub resumes-start : (t : List ℕ) (at : ℕ) → hasFeed (drop at t) ≡ true �
 resumes-start t at f =
     record { feed = f; going = start-inside .0; known = start-inside .1; digits-done = λ x. false-not-true (sym (not-number start (omega arith)) ∙ x) }
 
-first-feedless : (l : List ℕ) → feedless (firstLine l) ≡ true
+pub first-feedless : (l : List ℕ) → feedless (firstLine l) ≡ true
 unfolding firstLine
 first-feedless [] = refl
 first-feedless (b ∷ l) = go (eqb b lineFeed) refl (first-feedless l)
@@ -263,8 +263,14 @@ module _ (h : House) (t : List ℕ) (at : ℕ) (before : List ℕ) (i q : ℕ) (
     gathered-more w p′ ew ep =
         let rest = leading-digits (drop (place + 1) t) in
         record {
-          end = omega (arith, ap length (split-line (drop place t)), length-append digits (firstLine (past (drop place t))),
-          ap (λ l. length (firstLine l)) at-next, n .end, g .end);
+          end = omega (
+            arith,
+            ap length (split-line (drop place t)),
+            length-append digits (firstLine (past (drop place t))),
+            ap (λ l. length (firstLine l)) at-next,
+            n .end,
+            g .end,
+          );
           run = sym (digits-run h r (n .begun) (leading (drop (place + 1) t)) (lineAt t next) rest) ∙ ap (runOf h r) (sym others) ∙ n .run ∙ g .run;
           gathered =
               ap₂ (λ (x : ℕ) (y : Bool). withNumbers (valued (set v (r - ends) x) y) (met h r (lineAt t next))) ew ep
@@ -287,3 +293,13 @@ small-set v j x s h = record { each = λ i. bounded-set v j x i (s .each) h }
 -- a number's state has a place of its own
 pub number-inside : (r : ℕ) → isNumber r ≡ true → (ends ≤ r) × (r < stops)
 number-inside r n = (leb-true ends r (and-left (leb ends r) (ltb r stops) n), ltb-true r stops (and-right (leb ends r) (ltb r stops) n))
+
+-- ---- bytes up to the text's end
+module _ (h : House) (t : List ℕ) (i q : ℕ) where
+  pub run-done : length t ≤ i → runOf h q (drop i t) ≡ q
+  unfolding runOf
+  run-done l = ap (runOf h q) (drop-of-length-le t l)
+
+  pub run-byte : (r : ℕ) → i < length t → r ≡ nextOf h q (classOf (getD t i 0)) → runOf h r (drop (i + 1) t) ≡ runOf h q (drop i t)
+  unfolding runOf
+  run-byte r l e = rw (add-one i) (ap (λ p. runOf h p (drop (suc i) t)) e ∙ sym (ap (runOf h q) (drop-cons t i 0 l)))

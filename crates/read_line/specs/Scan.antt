@@ -103,3 +103,12 @@ lineSaid h Kind.Sheet p v line = cond p (Sheet (getD v 0 0)) (Refused 4)
 lineSaid h Kind.Unit p v line = cond p (unitBy h (getD v 1 0) (getD v 2 0) (getD v 3 0)) (Refused 4)
 lineSaid h Kind.Rule p v line = cond p (ruleBy h (getD v 4 0) (getD v 5 0) (getD v 6 0) (getD v 7 0)) (Refused 4)
 lineSaid h Kind.Other p v line = Refused 3
+
+-- the question that a line of a kind without its line feed fails
+abbrev pub unendedFault : Kind → List ℕ → ℕ
+unendedFault Kind.Unprintable line = 2
+unendedFault Kind.Note line = cond (noteMatched line) 3 11
+unendedFault Kind.Sheet line = 3
+unendedFault Kind.Unit line = 3
+unendedFault Kind.Rule line = 3
+unendedFault Kind.Other line = 3

@@ -9,7 +9,7 @@ ghost use Rattle.read_form.specs.Grid.{start, stateCount, runOf, Tables};
 ghost use Rattle.read_number.specs.Number.{maxNumber};
 ghost use Rattle.read_line.specs.Content.{noteMatched, lastOf};
 ghost use Rattle.read_line.specs.Line.{lineOf};
-ghost use Rattle.read_line.specs.Scan.{lineAt, Resumes, StopsAt, ScannedAs, Small, unitBy, ruleBy, NoteHasBytes, lineSaid};
+ghost use Rattle.read_line.specs.Scan.{lineAt, Resumes, StopsAt, ScannedAs, Small, unitBy, ruleBy, NoteHasBytes, lineSaid, unendedFault};
 ghost use Rattle.read_line.specs.declared.Line.the-variants as Line;
 use forms::House;
 use read_form::ENDS;
@@ -82,7 +82,13 @@ fn to_stop(text: &[u8], at: usize, from: usize, grid: &Grid, table: &[u8; 256]) 
 }
 
 // The line that starts at a place. Its numbers are read where they are met, each into the place of its state.
-fn scan(text: &[u8], at: usize, grid: &Grid, table: &[u8; 256], values: &mut [u16; NUMBERS]) -> Scanned
+fn scan(
+    text: &[u8],
+    at: usize,
+    grid: &Grid,
+    table: &[u8; 256],
+    values: &mut [u16; NUMBERS],
+) -> Scanned
     requires { ⌜ (hasFeed (drop at (now text)) ≡ true) × ((h : House) × Tables h (now grid) (now table)) × Small (now values) ⌝ }
     ensures { λ r. ⌜ ((h : House) → Tables h (now (grid .entry)) (now (table .entry))
         → ScannedAs h (now (text .entry)) at (r .end) (r .kind) (r .plain) (now (values .entry)) (now (values .exit))) ⌝ }
@@ -219,25 +225,28 @@ fn run(text: &[u8], at: usize, grid: &Grid, table: &[u8; 256]) -> usize
     state
 }
 
-// The question that the bytes past the last line feed fail: 2, 11 or, for want of a line feed, 3.
-pub fn last_line(house: House, text: &[u8], at: usize, grid: &Grid, table: &[u8; 256]) -> usize
-    requires { ⌜ (wholeLines (now text) ≤ at) × (at ≤ length (now text)) × Tables house (now grid) (now table) ⌝ }
-    ensures { λ r. ⌜ Line.Refused r ≡ lineOf house (drop at (now (text .entry))) false ⌝ }
+// The question that a line without its line feed fails: 2, 11 or, for want of the line feed, 3.
+fn unended(kind: Kind, s: &[u8]) -> usize
+    requires { ⌜ NoteHasBytes kind (now s) ⌝ }
+    ensures { λ r. ⌜ r ≡ unendedFault kind (now (s .entry)) ⌝ }
 {
-    let state = run(text, at, grid, table);
-    let kind = read_form::kind_of_code(read_form::next_state(grid, table, state, b'\n'));
     match kind {
         Kind::Unprintable => 2,
-        Kind::Note => {
-            if note_matched(&text[at..]) {
-                3
-            } else {
-                11
-            }
-        }
+        Kind::Note => { if note_matched(s) { 3 } else { 11 } }
         Kind::Sheet => 3,
         Kind::Unit => 3,
         Kind::Rule => 3,
         Kind::Other => 3,
     }
+}
+
+// The question that the bytes past the last line feed fail.
+pub fn last_line(house: House, text: &[u8], at: usize, grid: &Grid, table: &[u8; 256]) -> usize
+    requires { ⌜ (wholeLines (now text) ≤ at) × (at ≤ length (now text)) × Tables house (now grid) (now table) ⌝ }
+    ensures { λ r. ⌜ Line.Refused r ≡ lineOf house (drop at (now (text .entry))) false ⌝ }
+{
+    let state = run(text, at, grid, table);
+    let end = read_form::next_state(grid, table, state, b'\n');
+    let kind = read_form::kind_of_code(end);
+    unended(kind, &text[at..])
 }

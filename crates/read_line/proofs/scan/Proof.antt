@@ -69,8 +69,13 @@ module _ (c : tie.After-struct-known3 Inv-loop μ-loop) where
   less : length (begun at-head .args .text .now) - read .number-at .result .next < length (begun at-head .args .text .now) - at-head .loop .i
   less =
       let n = some-number stopped in
-      omega (arith, next-is, next-past _ _ _ _ _ _ _ _ (at-head .loop .inv .2 _ (begun at-head .pre .1 .1)) _ _ n, n .here,
-      feed-here (begun at-head .args .text .now) (at-head .loop .i) (at-head .loop .inv .0 .feed))
+      omega (
+        arith,
+        next-is,
+        next-past _ _ _ _ _ _ _ _ (at-head .loop .inv .2 _ (begun at-head .pre .1 .1)) _ _ n,
+        n .here,
+        feed-here (begun at-head .args .text .now) (at-head .loop .i) (at-head .loop .inv .0 .feed),
+      )
 
   -- with the number's value, and whether all are still plain
   again : (p : Bool) → p ≡ (at-head .loop .plain && read .number-at .result .plain) →
@@ -86,8 +91,7 @@ module _ (c : tie.After-struct-known3 Inv-loop μ-loop) where
       let t = z .args .text .now in
       let r = stopped .before .before .to-stop .result .state in
       let place = stopped .before .before .to-stop .result .place in
-      let n = read .number-at .ensures in
-      (
+      let n = read .number-at .ensures in (
         subst (λ i. Resumes t i r) (sym next-is) (next-resumes _ _ _ _ _ _ _ _ (l .inv .2 _ (z .pre .1 .1)) _ _ (some-number stopped)),
         small-set (l .values) (r - ends) _ (l .inv .1) (n .1),
         λ h b. subst (λ i. Gathering h t (z .args .at) (z .args .values .now) i r p (set (l .values) (r - ends) (read .number-at .result .value))) (sym next-is)
@@ -101,9 +105,10 @@ scan-spec = tie.close (tie.spec Inv-loop μ-loop
     (resumes-start _ _ (z .pre .0), z .pre .2, λ h t. record { end = refl; run = refl; gathered = refl }))
     (λ c κs. (c .loop .inv .0, begun c .pre .1)) (λ c κs. search needs)
     (λ c. let s = c .before .before .before in
-    let l = head s .loop in
-    (λ h t. gathered-all h _ _ _ _ _ _ _ (l .inv .2 h t) _ _ _ (s .to-stop .ensures h t .at-feed (c .before .if1 .taken)) (c .kind-of-code .ensures),
-    l .inv .1))
+    let l = head s .loop in (
+      λ h t. gathered-all h _ _ _ _ _ _ _ (l .inv .2 h t) _ _ _ (s .to-stop .ensures h t .at-feed (c .before .if1 .taken)) (c .kind-of-code .ensures),
+      l .inv .1,
+    ))
     (λ c κs. let n = some-number c in (n .feed, n .first-digit))
     (λ c. omega (arith, number-place (c .before .before))) (λ c. number-place (c .before .before))
     (λ c. less (c .before))
