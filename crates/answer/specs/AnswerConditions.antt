@@ -1,6 +1,6 @@
 -- The user's three conditions, of the answer to what is asked of a text of either house, in the words of lawful plans and of the page's own lines, all of them.
--- `call` is what the entry `answer` ensures of every call: `Answered (AnswerTo h query input)`, in Answer.antt, and `size` is its page's type. `page` and `left`
--- are the page before and after, `next` the place in the reply; `answerOn left 0 next` are the answer's lines, read back from the page's bytes.
+-- `call` is what the entry `answer` ensures of every call: `Answered (AnswerTo h query input)`, in Answer.antt, and `size` is its page's type. `page` and
+-- `left` are the page before and after, `next` the place in the reply; `answerOn left 0 next` are the answer's lines, read back from the page's bytes.
 -- Key idea: reading's first no decides, or the pass over the sheet's limits does, and what the page then says is known line by line.
 use mathlib.Core.Path.{_≡_, refl, sym, ap, _∙_, subst}
 use mathlib.Core.Logic.{_↔_}

@@ -243,8 +243,8 @@ fn answer_fronts(
     )
 }
 
-// The answer to what is asked of a text of a house, from the first place of the page on, and the place just past it. The lists are long enough for every sheet and
-// the page for every answer, so that no text is refused by 12 or 15.
+// The answer to what is asked of a text of a house, from the first place of the page on, and the place just past it. The lists are long enough for every
+// sheet and the page for every answer, so that no text is refused by 12 or 15.
 pub fn answer(house: House, query: Query, text: &[u8], page: &mut [u8; MAX_PAGE]) -> usize
     ensures { λ r. ⌜ Answered (AnswerTo house query (now (text .entry))) (now (page .entry)) (now (page .exit)) r ⌝ }
 {

@@ -131,7 +131,8 @@ rooms-filled h s t numbers numbers′ units units′ rules rules′ m n u r shor
     loader-room =
         ap (λ (xs : List ℕ). onFront xs (m .loader))
         (ap (take (s .units)) (k .in-numbers)
-        ∙ sets-front numbers (loaders (sheetIn h t)) (s .units) (length-map (sheetIn h t .units) (λ u. u .loader) ∙ sym (g .units)) (omega (arith, k .few-units)))
+        ∙ sets-front numbers (loaders (sheetIn h t)) (s .units) (length-map (sheetIn h t .units) (λ u. u .loader) ∙ sym (g .units))
+        (omega (arith, k .few-units)))
 
     unit-room : (c : ℕ) → c < 2 → (room : List ℕ) → onFront (strided (s .units) 2 c units′) room
         ≡ onFront (map (λ w. getD (ends w) c 0) (constraints (sheetIn h t) .units)) room

@@ -29,8 +29,8 @@ use Rattle.read_line.specs.Line.{valuesOf, said, lineOf}
 use Rattle.read_line.specs.declared.Line.{Line}
 use Rattle.read_line.specs.declared.Line.the-variants as Line
 use Rattle.read_ask.specs.Reading.{contents, isSheet, hasSheet, spanElse, spanIn, unitOf, unitsIn, loadersIn, ruleOf, rulesIn, sheetIn, isForm}
-use Rattle.read_ask.specs.Reading.{inOrder, spanAllowed, lastPlace, inSpan, loaderFits, countFits, questionsOf, lineQuestions, passQuestions, refused, read}
-use Rattle.read_ask.specs.Reading.{concluded}
+use Rattle.read_ask.specs.Reading.{inOrder, spanAllowed, lastPlace, inSpan, loaderFits, countFits, questionsOf, lineQuestions}
+use Rattle.read_ask.specs.Reading.{passQuestions, refused, read, concluded}
 use Rattle.read_ask.specs.Steps.{counted, stepOf, windowNumbers, ruleNumbers, unitStream, ruleStream, loaderPart, unitPart, rulePart, passReply}
 use Rattle.read_ask.specs.SpanLaws.{joined-append, stream-length, sets-front, loadersIn-more, hasSheet-more, hasSheet-same, spanIn-same, spanIn-first}
 use Rattle.read_ask.specs.declared.Step.{Step}

@@ -122,12 +122,13 @@ partnerSamples =
     -- 4 before 5: a needless zero in a job before the day; and such a job without it
     partner (text "(job 4017 (start 3) (hours 02))" ∷ []) (refused 4 1) ∷
     partner (text "(job 4017 (start 3) (hours 2))" ∷ text "(day 7)" ∷ []) (refused 5 1) ∷
-    -- 7: a job of no hours, also one without a start; a job may end on the day's last slot, and not past it; nor may a limit
+    -- 7: a job of no hours, also one without a start; a job may end on the day's last slot, and not past it; nor may a limit, nor be of no hours
     onDay (text "(job 4017 (start 3) (hours 0))") (refused 7 2) ∷
     onDay (text "(job 4017 (start 0) (hours 0))") (refused 7 2) ∷
     onDay (text "(job 4017 (start 7) (hours 1))") (read 7 1 0) ∷
     onDay (text "(job 4017 (start 7) (hours 2))") (refused 7 2) ∷
     onDay (text "(limit (from 1) (hours 8) (most 2))") (refused 7 2) ∷
+    onDay (text "(limit (from 1) (hours 0) (most 2))") (refused 7 2) ∷
     -- 16, and 8
     onDay (text "(job 0 (start 3) (hours 2))") (refused 16 2) ∷
     partner (text "(day 7)" ∷ text "(job 9 (start 1) (hours 2))" ∷ text "(job 9 (start 3) (hours 2))" ∷ []) (refused 16 3) ∷

@@ -54,7 +54,9 @@ read-told c = sym (ap replyOf (c .reading2 .given .1)) ∙ sheet-call c .read .e
 
 refuse-requires : tie.Need-refuse-requires
 refuse-requires c κs =
-    let r = refused-small (house (refused-call (c .before .before))) (input (refused-call (c .before .before))) empty sizes _ _ (refused-told (c .before .before)) in
+    let d = c .before .before in
+    let p = refused-call d in
+    let r = refused-small (house p) (input p) empty sizes _ _ (refused-told d) in
     (omega (arith, r .0), omega (arith, r .1))
 
 answer-fronts-requires : tie.Need-answer-fronts-requires

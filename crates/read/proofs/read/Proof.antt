@@ -36,16 +36,18 @@ short c = c .if1 .left
 
 -- of a sheet that the pass found: its numbers, and what the arrays hold
 answered : (c : tie.After-known-told2) → let s = c .before .asked2 .given .0 .0 in
-    read (s .span) (s .units) (s .rules) ≡ passReply (start (told-short c) .args .house) (start (told-short c) .args .text .now)
+    let a = start (told-short c) .args in
+    read (s .span) (s .units) (s .rules) ≡ passReply (a .house) (a .text .now)
 answered c = sym (ap replyOf (c .before .asked2 .given .1)) ∙ c .before .before .before .before .before .before .ask-text .ensures .0
 
 kept : (c : tie.After-known-told2) → let k = c .before .before .before .before .before .before .ask-text in
-    KeptNumbers (start (told-short c) .args .house) (c .before .asked2 .given .0 .0) (start (told-short c) .args .text .now) (replicate maxUnits 0) (k .last .1 .1 .0)
+    let a = start (told-short c) .args in
+    KeptNumbers (a .house) (c .before .asked2 .given .0 .0) (a .text .now) (replicate maxUnits 0) (k .last .1 .1 .0)
     (replicate (2 * maxUnits) 0) (k .last .1 .1 .1 .0) (replicate (4 * maxRules) 0) (k .last .1 .1 .1 .1 .0)
 kept c =
     let k = c .before .before .before .before .before .before .ask-text in
-    let text = start (told-short c) .args .text .now in
-    subst (λ (r : Reading). Kept (start (told-short c) .args .house) r text (replicate maxUnits 0) (k .last .1 .1 .0) (replicate (2 * maxUnits) 0) (k .last .1 .1 .1 .0)
+    let a = start (told-short c) .args in
+    subst (λ (r : Reading). Kept (a .house) r (a .text .now) (replicate maxUnits 0) (k .last .1 .1 .0) (replicate (2 * maxUnits) 0) (k .last .1 .1 .1 .0)
     (replicate (4 * maxRules) 0) (k .last .1 .1 .1 .1 .0))
     (c .before .asked2 .given .1) (k .ensures .1)
 

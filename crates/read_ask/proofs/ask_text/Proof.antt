@@ -150,7 +150,8 @@ returns-2 : tie.Need-returns-2 Inv-loop μ-loop
 returns-2 c =
     let l = c .before .before .before in
     let h = l .before .before in
-    (asking-last _ _ _ _ _ _ _ _ _ _ _ (h .loop .inv .0) (start h .pre .0) (past-whole (l .before)) (l .if1 .taken) (c .last-line .result) (c .last-line .ensures), tt)
+    let q = c .last-line in
+    (asking-last _ _ _ _ _ _ _ _ _ _ _ (h .loop .inv .0) (start h .pre .0) (past-whole (l .before)) (l .if1 .taken) (q .result) (q .ensures), tt)
 
 returns-4 : tie.Need-returns-4 Inv-loop μ-loop
 returns-4 c =
