@@ -77,6 +77,12 @@ pub record Scanning (h : House) (t : List ℕ) (at from i q : ℕ) : Type 0 wher
   pub run : runOf h q (lineAt t i) ≡ runOf h from (lineAt t at)
   pub numbers : met h q (lineAt t i) ≡ met h from (lineAt t at)
 
+-- past the byte before the place i in the state r: on the way still, or at a stop
+pub record Past (h : House) (t : List ℕ) (at from i r : ℕ) : Type 0 where
+  pub some : 1 ≤ i
+  pub on : stops ≤ r → Scanning h t at from i r
+  pub stopped : r < stops → StopsAt h t at from (i - 1) r
+
 pub scanning-start : (h : House) (t : List ℕ) (at from : ℕ) → Resumes t at from → Scanning h t at from at from
 scanning-start h t at from r = record { resumes = r; here = omega arith; end = refl; run = refl; numbers = refl }
 
@@ -152,8 +158,14 @@ module _ (h : House) (t : List ℕ) (at from i q r : ℕ) (s : Scanning h t at f
       fed true z = eqb-true b lineFeed z
       fed false z = absurd (omega (arith, e, next-going h q (s .resumes .known) b (s .resumes .going) z))
 
-  pub stops-at : r < stops → StopsAt h t at from i r
-  stops-at g = record { at-feed = at-feed; at-number = λ l. at-number l g }
+  -- a byte more: the line is read on, or this is the stop
+  pub past-byte : Past h t at from (i + 1) r
+  past-byte =
+      record {
+        some = omega arith;
+        on = λ g. scanning-on (omega arith) g;
+        stopped = λ g. subst (λ k. StopsAt h t at from k r) (omega arith) (record { at-feed = at-feed; at-number = λ l. at-number l g });
+      }
 
 -- ---- past a number
 

@@ -69,16 +69,13 @@ fn to_stop(text: &[u8], at: usize, from: usize, grid: &Grid, table: &[u8; 256]) 
     requires { ⌜ Resumes (now text) at from × ((h : House) × Tables h (now grid) (now table)) ⌝ }
     ensures { λ r. ⌜ ((h : House) → Tables h (now (grid .entry)) (now (table .entry)) → StopsAt h (now (text .entry)) at from (r .place) (r .state)) ⌝ }
 {
-    let mut state = from;
-    let mut i = at;
-    loop {
+    let mut state = read_form::next_state(grid, table, from, text[at]);
+    let mut i = at + 1;
+    while STOPS <= state {
         state = read_form::next_state(grid, table, state, text[i]);
-        if state < STOPS {
-            break;
-        }
         i += 1;
     }
-    Stop { place: i, state }
+    Stop { place: i - 1, state }
 }
 
 // The line that starts at a place. Its numbers are read where they are met, each into the place of its state.
