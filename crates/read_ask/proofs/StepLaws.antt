@@ -9,16 +9,19 @@ use native.Mathlib.Numerals.{add-one}
 use native.Mathlib.Omega.{arith}
 use lib.ListN.{getD, set, length-set}
 use lib.Seq.{sets}
-use lib.Dec.{T, eqb, ltb}
-use Rattle.lists.specs.Members.{within-iff}
+use lib.Dec.{T, eqb, leb, ltb}
+use borrow.Author.Tests.{ne-eqb, leb-true}
+use Rattle.lists.specs.Lists.{within}
+use Rattle.lists.specs.Members.{and-left, and-right, within-iff}
 use Rattle.sheet.specs.Sizes.{maxSlots, maxUnits, maxRules}
-use Rattle.sheet.specs.Questions.{isSpan, isStretch, isCount}
+use Rattle.sheet.specs.Questions.{isSpan, rising, isStretch, isCount}
 use Rattle.sheet.specs.declared.Sheet.{Sheet}
 use Rattle.loaders.specs.Chains.{chains}
 use Rattle.loaders.specs.ChainLaws.{linked-written}
 use Rattle.forms.specs.declared.House.{House}
 use Rattle.read_line.specs.declared.Line.{Line}
 use Rattle.read_line.specs.declared.Line.the-variants as Line
+use Rattle.read_ask.specs.Reading.{lastPlace}
 use Rattle.read_ask.specs.Steps.{sheetStep, ruleStep, stepOf, loaderPart, unitPart, rulePart, keptBy, counted, Chained, ChainedBy}
 use Rattle.read_ask.specs.declared.Step.{Step}
 use Rattle.read_ask.specs.declared.Step.the-variants.{No, On}
@@ -90,3 +93,22 @@ unit-chained s numbers heads nexts heads′ nexts′ k c h e f =
       in-nexts = length-set nexts n (getD heads (k % chains) 0) ∙ c .in-nexts;
       linked = linked-written numbers heads nexts n k (c .linked) (omega (arith, c .in-numbers)) (omega (arith, c .in-nexts));
     })
+
+-- ---- 5 and 7 of a unit
+
+-- a span that holds a window is not 0
+pub window-span : (span most f l : ℕ) → rising 1 span most f l ≡ true → eqb span 0 ≡ false
+window-span span most f l e =
+    let first = and-left (within 1 span f) (within f most l) e in
+    let low = leb-true 1 f (and-left (leb 1 f) (leb f span) first) in
+    let high = leb-true f span (and-right (leb 1 f) (leb f span) first) in
+    ne-eqb span 0 (λ z. omega (arith, low, high, z))
+
+-- so where there is no window, 5 is failed where the span is 0, and else 7
+pub no-window : (h : House) (span f l : ℕ) (fits : Step) → rising 1 span (lastPlace h span) f l ≡ false
+    → No (cond (eqb span 0) 5 7) ≡ cond (not (eqb span 0)) (cond (rising 1 span (lastPlace h span) f l) fits (No 7)) (No 5)
+no-window h span f l fits e = rw e (go (eqb span 0))
+  where
+    go : (z : Bool) → No (cond z 5 7) ≡ cond (not z) (No 7) (No 5)
+    go true = refl
+    go false = refl

@@ -1,10 +1,12 @@
 ghost use mathlib.Core.Path.{_≡_};
+ghost use mathlib.Core.Bool.{cond};
 ghost use mathlib.Core.List.{[], _∷_};
 ghost use Prim.Native.Nat.{_*_, _≤_};
+ghost use lib.Dec.{eqb};
 ghost use lib.ListN.{length, take};
 ghost use Rattle.sheet.specs.Sizes.{maxSlots, maxUnits, maxRules};
 ghost use Rattle.sheet.specs.Questions.{isStretch, rising, isCount};
-ghost use Rattle.read_form.specs.Grid.{grid};
+ghost use Rattle.read_form.specs.Grid.{Tables};
 ghost use Rattle.read_ask.specs.Reading.{lastPlace, replyOf};
 ghost use Rattle.read_ask.specs.Steps.{sheetStep, unitStep, ruleStep, stepOf, loaderPart, unitPart, rulePart, keptBy};
 ghost use Rattle.read_ask.specs.Steps.{Chained, ChainedBy, passReply, Kept};
@@ -78,6 +80,13 @@ fn sheet_step(s: Sheet, span: u16) -> Step
     })
 }
 
+// The question that a window of no place fails: 5 before the sheet form, where the span is still 0 and holds none, and else 7.
+fn window_fault(span: usize) -> usize
+    ensures { λ r. ⌜ r ≡ cond (eqb span 0) 5 7 ⌝ }
+{
+    if span == 0 { 5 } else { 7 }
+}
+
 // Questions 5, 7, 16 and 9; a unit that passes is kept, and its loader number is found from then on.
 fn unit_step(
     house: House,
@@ -97,11 +106,8 @@ fn unit_step(
     ensures { λ r. ⌜ now (units .exit) ≡ keptBy r (now (units .entry)) (2 * s .units) (first ∷ last ∷ []) ⌝ }
 {
     let n = s.units;
-    if s.span == 0 {
-        return Step::No(5);
-    }
     if !is_window(house, s.span, first, last) {
-        return Step::No(7);
+        return Step::No(window_fault(s.span));
     }
     if !loaders::is_new(numbers, n, heads, nexts, loader) {
         return Step::No(16);
@@ -181,32 +187,22 @@ fn line_step(
     }
 }
 
-// The form reader's table of a house.
-fn grid_of(house: House) -> Grid
-    ensures { λ r. ⌜ r ≡ grid house ⌝ }
-{
-    match house {
-        House::Ours => grid_ours::table(),
-        House::Partner => grid_partner::table(),
-    }
-}
-
-// The pass over the text: every question but 1 and 12. The loader numbers and the numbers of windows and rules go into the arrays. Only the lines up to the
-// last line feed can be passed; bytes past it are a line that is refused.
-pub fn ask_text(
+// The pass over the text with its house's tables. Only the lines up to the last line feed can be passed; bytes past it are a line that is refused.
+fn pass(
     house: House,
     text: &[u8],
+    grid: &Grid,
+    table: &[u8; 256],
     numbers: &mut [u16],
     units: &mut [u16],
     rules: &mut [u16],
 ) -> Reading
-    requires { ⌜ (maxUnits ≤ length (now numbers)) × (2 * maxUnits ≤ length (now units)) × (4 * maxRules ≤ length (now rules)) ⌝ }
+    requires { ⌜ Tables house (now grid) (now table) × (maxUnits ≤ length (now numbers)) × (2 * maxUnits ≤ length (now units))
+        × (4 * maxRules ≤ length (now rules)) ⌝ }
     ensures { λ r. ⌜ replyOf r ≡ passReply house (now (text .entry)) ⌝ }
     ensures { λ r. ⌜ Kept house r (now (text .entry)) (now (numbers .entry)) (now (numbers .exit)) (now (units .entry)) (now (units .exit))
         (now (rules .entry)) (now (rules .exit)) ⌝ }
 {
-    let grid = grid_of(house);
-    let table = read_form::class_table();
     let whole = read_line::lines_end(text);
     let mut heads = [0u16; loaders::CHAINS];
     let mut nexts = [0u16; Sheet::MAX_UNITS];
@@ -214,7 +210,7 @@ pub fn ask_text(
     let mut at: usize = 0;
     let mut n: usize = 1;
     while at < whole {
-        let found = read_line::line_at(house, text, at, &grid, &table);
+        let found = read_line::line_at(house, text, at, grid, table);
         let line = found.line;
         let step = line_step(
             house,
@@ -238,11 +234,38 @@ pub fn ask_text(
         n += 1;
     }
     if at < text.len() {
-        let q = read_line::last_line(house, text, at, &grid, &table);
+        let q = read_line::last_line(house, text, at, grid, table);
         return Reading::Refused(Refusal { number: q, line: n });
     }
     if s.span == 0 {
         return Reading::Refused(Refusal { number: 5, line: 0 });
     }
     Reading::Sheet(s)
+}
+
+// The pass over the text: every question but 1 and 12. The loader numbers and the numbers of windows and rules go into the arrays. Each house has a call
+// of its own, so that the compiler keeps the table's place in a register.
+pub fn ask_text(
+    house: House,
+    text: &[u8],
+    numbers: &mut [u16],
+    units: &mut [u16],
+    rules: &mut [u16],
+) -> Reading
+    requires { ⌜ (maxUnits ≤ length (now numbers)) × (2 * maxUnits ≤ length (now units)) × (4 * maxRules ≤ length (now rules)) ⌝ }
+    ensures { λ r. ⌜ replyOf r ≡ passReply house (now (text .entry)) ⌝ }
+    ensures { λ r. ⌜ Kept house r (now (text .entry)) (now (numbers .entry)) (now (numbers .exit)) (now (units .entry)) (now (units .exit))
+        (now (rules .entry)) (now (rules .exit)) ⌝ }
+{
+    let table = read_form::class_table();
+    match house {
+        House::Ours => {
+            let grid = grid_ours::table();
+            pass(house, text, &grid, &table, numbers, units, rules)
+        }
+        House::Partner => {
+            let grid = grid_partner::table();
+            pass(house, text, &grid, &table, numbers, units, rules)
+        }
+    }
 }
