@@ -73,3 +73,6 @@ twoNumbers first second end = word first ∷ number ∷ oneNumber second end
 
 abbrev pub threeNumbers : List ℕ → List ℕ → List ℕ → List ℕ → List Piece
 threeNumbers first second third end = word first ∷ number ∷ twoNumbers second third end
+
+abbrev pub fourNumbers : List ℕ → List ℕ → List ℕ → List ℕ → List ℕ → List Piece
+fourNumbers first second third fourth end = word first ∷ number ∷ threeNumbers second third fourth end
