@@ -11,7 +11,7 @@ use Rattle.lists.specs.Members.{In}
 use Rattle.sheet.specs.Sizes.{maxCount, maxLoader, carriedPlace}
 use Rattle.sheet.specs.Sheet.{Window, Rule, Sheet, SheetUnit, WrittenSheet, constraints, loaders, top, noWindow}
 use Rattle.sheet.specs.PlanLaws.{noRule}
-use Rattle.sheet.specs.Questions.{windowsOf, accepted, loadersFit}
+use Rattle.sheet.specs.Questions.{windowsOf, rulesOf, accepted, loadersFit}
 use Rattle.sheet.specs.QuestionLaws.{windowsOf-length, windowsOf-at, accepted-sized, accepted-valid, accepted-stretch}
 use Rattle.sheet.specs.LoaderLaws.{loader-size}
 use Rattle.sheet.specs.Lists.{WrittenLists, givenBy, unitsOf, writtenBy}
@@ -62,6 +62,43 @@ module _ (l : WrittenLists) (as-many : length (l .loader) ≡ length (givenBy l 
 
   pub written-loaders : loaders (writtenBy l) ≡ l .loader
   written-loaders = units-loaders (l .loader) (givenBy l .units) as-many
+
+-- ---- the lists again, from the windows and rules that they make
+
+pub record WindowLists (first last : List ℕ) : Type 0 where
+  pub firsts : map (λ w. w .first) (windowsOf first last) ≡ first
+  pub lasts : map (λ w. w .last) (windowsOf first last) ≡ last
+
+pub windows-lists : (fs ls : List ℕ) → length ls ≡ length fs → WindowLists fs ls
+windows-lists [] [] e = record { firsts = refl; lasts = refl }
+windows-lists [] (l ∷ ls) e = absurd (omega arith)
+windows-lists (f ∷ fs) [] e = absurd (omega arith)
+windows-lists (f ∷ fs) (l ∷ ls) e =
+    let r = windows-lists fs ls (omega arith) in
+    record { firsts = ap (λ xs. f ∷ xs) (r .firsts); lasts = ap (λ xs. l ∷ xs) (r .lasts) }
+
+pub record RuleLists (from to low high : List ℕ) : Type 0 where
+  pub froms : map (λ r. r .from) (rulesOf from to low high) ≡ from
+  pub tos : map (λ r. r .to) (rulesOf from to low high) ≡ to
+  pub lows : map (λ r. r .low) (rulesOf from to low high) ≡ low
+  pub highs : map (λ r. r .high) (rulesOf from to low high) ≡ high
+
+pub rules-lists : (fs ts ls hs : List ℕ) → length ts ≡ length fs → length ls ≡ length fs → length hs ≡ length fs → RuleLists fs ts ls hs
+rules-lists [] [] [] [] e g k = record { froms = refl; tos = refl; lows = refl; highs = refl }
+rules-lists [] (t ∷ ts) ls hs e g k = absurd (omega arith)
+rules-lists [] [] (l ∷ ls) hs e g k = absurd (omega arith)
+rules-lists [] [] [] (h ∷ hs) e g k = absurd (omega arith)
+rules-lists (f ∷ fs) [] ls hs e g k = absurd (omega arith)
+rules-lists (f ∷ fs) (t ∷ ts) [] hs e g k = absurd (omega arith)
+rules-lists (f ∷ fs) (t ∷ ts) (l ∷ ls) [] e g k = absurd (omega arith)
+rules-lists (f ∷ fs) (t ∷ ts) (l ∷ ls) (h ∷ hs) e g k =
+    let r = rules-lists fs ts ls hs (omega arith) (omega arith) (omega arith) in
+    record {
+      froms = ap (λ xs. f ∷ xs) (r .froms);
+      tos = ap (λ xs. t ∷ xs) (r .tos);
+      lows = ap (λ xs. l ∷ xs) (r .lows);
+      highs = ap (λ xs. h ∷ xs) (r .highs);
+    }
 
 -- ---- the units and the rules of an accepted sheet
 
