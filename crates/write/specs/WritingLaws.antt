@@ -1,13 +1,13 @@
 -- From what the code does to what writing is to answer and leave.
 -- Key idea: the questions of the lists decide, or question 15 does, which one comparison answers.
-use mathlib.Core.Path.{_≡_, refl, sym, ap, _∙_}
+use mathlib.Core.Path.{_≡_, sym, ap, _∙_}
 use mathlib.Core.Bool.{Bool, true, false}
-use mathlib.Core.List.{List, [], _∷_}
+use mathlib.Core.List.{List, []}
 use Prim.Native.Nat.{ℕ, _+_}
 use lib.Dec.{leb}
 use lib.ListN.{length}
 use borrow.Author.Tests.{leb-true}
-use Rattle.questions.specs.Questions.{Verdict, no, allYes, firstNo, andThen, AllYes}
+use Rattle.questions.specs.Questions.{Verdict, no, allYes, firstNo, andThen}
 use Rattle.questions.specs.FirstNoLaws.{first-then, no-here, yes-here, yes-every, every-yes, yes-front}
 use Rattle.forms.specs.declared.House.{House}
 use Rattle.sheet.specs.Lists.{WrittenLists, givenBy}
@@ -18,28 +18,49 @@ use Rattle.plan_ask.specs.SolvableLaws.{lists-yes}
 use Rattle.write_ask.specs.HouseQuestions.{endQuestions, houseQuestions}
 use Rattle.write_ask.specs.HouseQuestionsLaws.{asks-lists}
 use Rattle.print_bytes.specs.Writing.{Room, Written}
-use Rattle.write.specs.Writing.{textOf, sheetAsked, outgoing, holds, pageAsked, refusal, Reply, refused, text, concluded, leaves}
+use Rattle.write.specs.Writing.{textOf, sheetAsked, holds, pageAsked, refusal, Reply, refused, text, concluded, leaves, writing, pageAfter}
 
-module _ (h : House) (l : WrittenLists) where
-  -- what the house asks decides where the lists pass
-  pub asked-house : (v : Verdict) → firstNo (listQuestions l) ≡ allYes
-      → v ≡ firstNo (endQuestions h (l .constraints .span) (l .constraints .last) (l .constraints .low)) → v ≡ firstNo (sheetAsked h l)
-  asked-house v e is =
-      is ∙ sym (first-then (listQuestions l) (houseQuestions h (givenBy l)) allYes e
-      ∙ ap firstNo (asks-lists h (l .constraints) (lists-read (l .constraints) (lists-yes l e .lists))))
+-- ---- what is asked of the lists; `told` is what the code was told of them
+module _ (h : House) (l : WrittenLists) (told : Verdict) where
+  module _ (is : told ≡ firstNo (listQuestions l)) where
+    -- the lists' own refusal decides
+    pub asked-lists : (q n : ℕ) → told ≡ no q n → no q n ≡ firstNo (sheetAsked h l)
+    asked-lists q n e = sym (first-then (listQuestions l) (houseQuestions h (givenBy l)) (no q n) (sym is ∙ e))
 
-  pub asked-lists : (q n : ℕ) → firstNo (listQuestions l) ≡ no q n → firstNo (sheetAsked h l) ≡ no q n
-  asked-lists q n e = first-then (listQuestions l) (houseQuestions h (givenBy l)) (no q n) e
+    -- and where they have none, what the house asks
+    pub asked-house : told ≡ allYes → (v : Verdict) → v ≡ firstNo (endQuestions h (l .constraints .span) (l .constraints .last) (l .constraints .low))
+        → v ≡ firstNo (sheetAsked h l)
+    asked-house e v house =
+        house ∙ sym (first-then (listQuestions l) (houseQuestions h (givenBy l)) allYes (sym is ∙ e)
+        ∙ ap firstNo (asks-lists h (l .constraints) (lists-read (l .constraints) (lists-yes l (sym is ∙ e) .lists))))
 
-  -- the lists pass where all that is asked of them is answered yes
-  pub sheet-listed : firstNo (sheetAsked h l) ≡ allYes → Listed l
-  sheet-listed e =
-      lists-yes l (every-yes (listQuestions l) (yes-front (listQuestions l) (houseQuestions h (givenBy l)) (yes-every (sheetAsked h l) e)))
+  module _ (is : told ≡ firstNo (sheetAsked h l)) where
+    -- the lists pass where all that is asked of them is answered yes
+    pub sheet-listed : told ≡ allYes → Listed l
+    sheet-listed e =
+        lists-yes l
+        (every-yes (listQuestions l) (yes-front (listQuestions l) (houseQuestions h (givenBy l)) (yes-every (sheetAsked h l) (sym is ∙ e))))
 
-  -- so the verdict of a call is that of its lists, and then that of its page
-  pub refusal-then : (size at : ℕ) (v : Verdict) → firstNo (sheetAsked h l) ≡ v → refusal h l size at ≡ andThen v (firstNo (pageAsked size at (textOf h l)))
-  unfolding refusal
-  refusal-then size at v e = first-then (sheetAsked h l) (pageAsked size at (textOf h l)) v e
+    -- the verdict of a call is that of its lists, and then that of its page
+    module _ (page : List ℕ) (at : ℕ) where
+      abbrev bytes : List ℕ
+      bytes = textOf h l
+
+      verdict-then : (v : Verdict) → told ≡ v → refusal h l (length page) at ≡ andThen v (firstNo (pageAsked (length page) at bytes))
+      unfolding refusal
+      verdict-then v e = first-then (sheetAsked h l) (pageAsked (length page) at bytes) v (sym is ∙ e)
+
+      pub refused-lists : (q n : ℕ) → told ≡ no q n → (refused q n ≡ writing h l (length page) at) × (page ≡ pageAfter h l page at)
+      refused-lists q n e =
+          let v = verdict-then (no q n) e in
+          (sym (ap (λ (x : Verdict). concluded x at bytes) v), sym (ap (λ (x : Verdict). leaves x page at bytes) v))
+
+      pub passed-lists : told ≡ allYes → (reply : Reply) (left : List ℕ)
+          → (let v = firstNo (pageAsked (length page) at bytes) in (reply ≡ concluded v at bytes) × (left ≡ leaves v page at bytes))
+          → (reply ≡ writing h l (length page) at) × (left ≡ pageAfter h l page at)
+      passed-lists e reply left r =
+          let v = verdict-then allYes e in
+          (r .0 ∙ sym (ap (λ (x : Verdict). concluded x at bytes) v), r .1 ∙ sym (ap (λ (x : Verdict). leaves x page at bytes) v))
 
 -- ---- question 15
 module _ (page : List ℕ) (at : ℕ) (bytes : List ℕ) (size : ℕ) (is : size ≡ length bytes) (b : Bool) (asked : b ≡ leb (at + size) (length page)) where

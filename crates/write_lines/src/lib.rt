@@ -37,14 +37,7 @@ fn put_span(house: House, page: &mut [u8], at: usize, span: u16) -> usize
     }
 }
 
-fn put_unit(
-    house: House,
-    page: &mut [u8],
-    at: usize,
-    loader: u16,
-    first: u16,
-    last: u16,
-) -> usize
+fn put_unit(house: House, page: &mut [u8], at: usize, loader: u16, first: u16, last: u16) -> usize
     requires { ⌜ Ends first last ⌝ }
     requires { ⌜ Room (now page) at (unitText house (unitWith loader first last)) ⌝ }
     ensures { λ r. ⌜ Written (now (page .entry)) at (unitText house (unitWith loader first last)) (now (page .exit)) r ⌝ }

@@ -1,36 +1,29 @@
+-- The lists' refusal is the call's; where they have none, the house decides.
+use mathlib.Core.Path.{ap}
 use borrow.Author.Needs.{needs}
+use denote.Ref.{now}
+use Rattle.questions.specs.Questions.{verdictOf}
+use Rattle.sheet.specs.Lists.{WrittenLists, writtenLists}
+use Rattle.write.specs.WritingLaws.{asked-lists, asked-house}
 use Rattle.write.proofs.ask.Statement.{statement}
 use Rattle.write.proofs.ask.Tie as tie
-use Rattle.write.proofs.ask.Reads as reads
-use Rattle.write.proofs.ask.Lts as lts
-use Rattle.plan_ask.proofs.ask_lists.Reads as ask-lists-reads
-use Rattle.write_ask.proofs.ask_house.Reads as ask-house-reads
 
--- src/lib.rt:35:9
-ask-lists-requires : tie.Need-ask-lists-requires
-ask-lists-requires c κs = search needs
+abbrev lists : tie.Start → WrittenLists
+lists c =
+    let a = c .args in
+    writtenLists (a .span) (now (a .loader)) (now (a .first)) (now (a .last)) (now (a .from)) (now (a .to)) (now (a .low)) (now (a .high))
 
--- src/lib.rt:37:21
-enum-known-asked : tie.Need-enum-known-asked
-enum-known-asked c = search needs
-
--- src/lib.rt:38:25
-enum-told : tie.Need-enum-told
-enum-told c = search needs
-
--- src/lib.rt:38:25
-ask-house-requires : tie.Need-ask-house-requires
-ask-house-requires c κs = search needs
-
--- src/lib.rt:20:1
 returns : tie.Need-returns
-returns c = ?
+returns c =
+    let d : tie.After-ask-lists = c .before .before .before in
+    let s : tie.Start = d .before .before .before .before .before .before .before .before in
+    asked-lists (s .args .house) (lists s) _ (d .ask-lists .ensures) _ _ (ap verdictOf (c .before .asked .given .1))
 
--- src/lib.rt:20:1
 returns-2 : tie.Need-returns-2
-returns-2 c = ?
+returns-2 c =
+    let d : tie.After-ask-lists = c .before .before .before in
+    let s : tie.Start = d .before .before .before .before .before .before .before .before in
+    asked-house (s .args .house) (lists s) _ (d .ask-lists .ensures) (ap verdictOf (c .before .enum-told .given .1)) _ (c .ask-house .ensures)
 
 pub ask-spec : {M : Type 1} → statement M
-ask-spec =
-    tie.close
-    (tie.spec ask-lists-requires enum-known-asked enum-told ask-house-requires returns returns-2)
+ask-spec = tie.close (tie.spec (λ c κs. search needs) (λ c. search needs) (λ c. search needs) (λ c κs. search needs) returns returns-2)

@@ -1,58 +1,71 @@
+-- The text is the front of an array of the call's own. Where the page holds it, it is written; else nothing is.
+use mathlib.Core.Path.{_≡_, refl, sym}
+use mathlib.Core.List.{List}
+use Prim.Native.Nat.{ℕ, _≤_}
 use borrow.Author.Needs.{needs}
+use denote.Ref.{now}
+use lib.ListN.{length, take}
+use lib.Seq.{length-take-le}
+use Rattle.sheet.specs.Lists.{WrittenLists, writtenLists}
+use Rattle.sheet_texts.specs.SheetText.{maxText}
+use Rattle.print_bytes.specs.WritingLaws.{own-room, own-part, own-size, own-long}
+use Rattle.write_lines.specs.LinesLaws.{listed-short}
+use Rattle.write.specs.Writing.{textOf}
+use Rattle.write.specs.WritingLaws.{room, held, not-held}
 use Rattle.write.proofs.write_text.Statement.{statement}
 use Rattle.write.proofs.write_text.Tie as tie
-use Rattle.write.proofs.write_text.Reads as reads
-use Rattle.write.proofs.write_text.Lts as lts
-use Rattle.print_writer.proofs.holds.Reads as holds-reads
-use Rattle.print_writer.proofs.write.Reads as write-reads
-use Rattle.write_lines.proofs.put_sheet.Reads as put-sheet-reads
 
--- src/lib.rt:66:9
-slice-aggregate-put-sheet : tie.Need-slice-aggregate-put-sheet
-slice-aggregate-put-sheet c = search needs
+abbrev lists : tie.Start → WrittenLists
+lists c =
+    let a = c .args in
+    writtenLists (a .span) (now (a .loader)) (now (a .first)) (now (a .last)) (now (a .from)) (now (a .to)) (now (a .low)) (now (a .high))
 
--- src/lib.rt:64:9
+abbrev bytes : tie.Start → List ℕ
+bytes c = textOf (c .args .house) (lists c)
+
+short : (c : tie.Start) → length (bytes c) ≤ maxText
+short c = listed-short (lists c) (c .pre) (c .args .house)
+
+-- back to the start, from where the text stands in the call's own array
+abbrev start : tie.After-put-sheet → tie.Start
+start c = c .before .before .before .before .before .before .before .before .before .before
+
+-- the front of that array is the text
+module _ (c : tie.After-put-sheet) where
+  part : take (c .put-sheet .result) (c .put-sheet .last .1 .0) ≡ bytes (start c)
+  part = own-part maxText (short (start c)) (c .put-sheet .ensures)
+
+  long : c .put-sheet .result ≤ length (c .put-sheet .last .1 .0)
+  long = own-long maxText (short (start c)) (c .put-sheet .ensures)
+
+  size : c .put-sheet .result ≡ length (bytes (start c))
+  size = own-size maxText (short (start c)) (c .put-sheet .ensures)
+
 put-sheet-requires : tie.Need-put-sheet-requires
-put-sheet-requires c κs = ?
+put-sheet-requires c κs = let s : tie.Start = c .before .before .before .before .before .before .before .before .before in (s .pre, own-room maxText (short s))
 
--- src/lib.rt:77:8
-holds-requires : tie.Need-holds-requires
-holds-requires c κs = search needs
-
--- src/lib.rt:78:50
-array-share-prefix-text : tie.Need-array-share-prefix-text
-array-share-prefix-text c = ?
-
--- src/lib.rt:78:50
-slice-aggregate-write : tie.Need-slice-aggregate-write
-slice-aggregate-write c = ?
-
--- src/lib.rt:78:13
 write-requires : tie.Need-write-requires
-write-requires c κs = ?
+write-requires c κs =
+    let p : tie.Then1 = c .before .before in
+    let o : tie.After-put-sheet = p .before .before .before in
+    let a = start o .args in
+    rw (part o) (room (now (a .page)) (a .at) (bytes (start o)) _ (size o) _ (p .before .holds .ensures) (p .if1 .taken))
 
--- src/lib.rt:43:1
-same-length : tie.Need-same-length
-same-length c = search needs
-
--- src/lib.rt:43:1
 returns : tie.Need-returns
-returns c = ?
+returns c =
+    let p : tie.Then1 = c .before .before .before .before .before in
+    let o : tie.After-put-sheet = p .before .before .before in
+    let a = start o .args in
+    held (now (a .page)) (a .at) (bytes (start o)) _ (size o) _ (p .before .holds .ensures) (p .if1 .taken) _ _
+    (rw (part o) at (c .before .before .write .ensures))
 
--- src/lib.rt:43:1
 returns-2 : tie.Need-returns-2
-returns-2 c = ?
+returns-2 c =
+    let o : tie.After-put-sheet = c .before .before .before in
+    let a = start o .args in
+    not-held (now (a .page)) (a .at) (bytes (start o)) _ (size o) _ (c .before .holds .ensures) (c .if1 .left)
 
 pub write-text-spec : {M : Type 1} → statement M
-write-text-spec =
-    tie.close
-    (tie.spec
-    slice-aggregate-put-sheet
-    put-sheet-requires
-    holds-requires
-    array-share-prefix-text
-    slice-aggregate-write
-    write-requires
-    same-length
-    returns
-    returns-2)
+write-text-spec = tie.close (tie.spec (λ c. search needs) put-sheet-requires (λ c κs. search needs)
+    (λ c. long (c .before .before .before .before)) (λ c. sym (length-take-le _ _ (long (c .before .before .before .before .before)))) write-requires
+    (λ c. search needs) returns returns-2)
