@@ -4,6 +4,7 @@ use mathlib.Core.Path.{_≡_}
 use mathlib.Core.List.{List}
 use Prim.Native.Nat.{ℕ}
 use lib.Dec.{T}
+use Rattle.forms.specs.declared.House.{House}
 use Rattle.network.specs.Table.{Passed, finished, stopped}
 use Rattle.sheet.specs.Sheet.{Sheet, WrittenSheet, constraints, loaders, isRing}
 use Rattle.questions.specs.Questions.{Verdict, no, allYes, firstNo}
@@ -36,9 +37,9 @@ abbrev pub ByReading : Query → Verdict → WrittenSheet → List ℕ → Type 
 ByReading query (no number line) w bytes = bytes ≡ refusedLine number line
 ByReading query allYes w bytes = AnswerToSheet query (loaders w) (constraints w) bytes
 
--- the answer to what is asked of a text, with rooms for every sheet
-abbrev pub AnswerTo : Query → List ℕ → List ℕ → Type 0
-AnswerTo query input bytes = ByReading query (firstNo (questions input roomsForAll)) (sheetIn input) bytes
+-- the answer to what is asked of a text of a house, with rooms for every sheet
+abbrev pub AnswerTo : House → Query → List ℕ → List ℕ → Type 0
+AnswerTo h query input bytes = ByReading query (firstNo (questions h input roomsForAll)) (sheetIn h input) bytes
 
 -- what a call leaves: an answer from the page's first place on, and the place just past it
 pub record Answered (Answer : List ℕ → Type 0) (page left : List ℕ) (next : ℕ) : Type 0 where

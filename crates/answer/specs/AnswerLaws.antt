@@ -19,6 +19,7 @@ use Rattle.read_ask.specs.AcceptedLaws.{reading-accepts, reading-loaders}
 use Rattle.read_ask.specs.RefusalLaws.{asksText, reading-refusals}
 use Rattle.read.specs.Rooms.{sizesOf, leaves, roomsAfter}
 use Rattle.sheet.specs.Lists.{givenBy}
+use Rattle.forms.specs.declared.House.{House}
 use Rattle.forms.specs.Words.{text}
 use Rattle.forms.specs.Forms.{refusedForm}
 use Rattle.forms.specs.DecimalLaws.{line-short}
@@ -44,64 +45,64 @@ two-digits q h =
     either false b h = inr h
 
 -- ---- what reading comes to, with rooms for every sheet
-module _ (input : List ℕ) (m : ListRooms (List ℕ)) (sizes : sizesOf m ≡ roomsForAll) where
+module _ (h : House) (input : List ℕ) (m : ListRooms (List ℕ)) (sizes : sizesOf m ≡ roomsForAll) where
   abbrev verdict : Verdict
-  verdict = firstNo (questions input roomsForAll)
+  verdict = firstNo (questions h input roomsForAll)
 
-  decided : reading input (sizesOf m) ≡ concluded verdict (sheetIn input)
+  decided : reading h input (sizesOf m) ≡ concluded verdict (sheetIn h input)
   unfolding reading
-  decided = ap (λ z. concluded (firstNo (questions input z)) (sheetIn input)) sizes
+  decided = ap (λ z. concluded (firstNo (questions h input z)) (sheetIn h input)) sizes
 
-  module _ (number line : ℕ) (e : refused number line ≡ reading input (sizesOf m)) where
+  module _ (number line : ℕ) (e : refused number line ≡ reading h input (sizesOf m)) where
     first-no : verdict ≡ no number line
     first-no = go verdict (e ∙ decided)
       where
-        go : (v : Verdict) → refused number line ≡ concluded v (sheetIn input) → v ≡ no number line
+        go : (v : Verdict) → refused number line ≡ concluded v (sheetIn h input) → v ≡ no number line
         go (no q n) f = let a : q ≡ number = cc in let b : n ≡ line = cc in ap₂ no a b
         go allYes f = let z : _≡_ {A = ℕ} 0 1 = cc in absurd (omega arith)
 
     pub refused-small : (number < 100) × (line ≤ maxBytes)
     refused-small =
-        let r = reading-refusals input number line first-no in
+        let r = reading-refusals h input number line first-no in
         (two-digits number (r .number-known), r .line-known)
 
-    pub refused-answer : (query : Query) → AnswerTo query input (refusedLine number line)
-    refused-answer query = subst (λ v. ByReading query v (sheetIn input) (refusedLine number line)) (sym first-no) refl
+    pub refused-answer : (query : Query) → AnswerTo h query input (refusedLine number line)
+    refused-answer query = subst (λ v. ByReading query v (sheetIn h input) (refusedLine number line)) (sym first-no) refl
 
-  module _ (t : Read) (e : read (t .span) (t .units) (t .rules) ≡ reading input (sizesOf m))
-      (after : ListRooms (List ℕ)) (lists : after ≡ roomsAfter input m) where
+  module _ (t : Read) (e : read (t .span) (t .units) (t .rules) ≡ reading h input (sizesOf m))
+      (after : ListRooms (List ℕ)) (lists : after ≡ roomsAfter h input m) where
     all-yes : verdict ≡ allYes
     all-yes = go verdict (e ∙ decided)
       where
-        go : (v : Verdict) → read (t .span) (t .units) (t .rules) ≡ concluded v (sheetIn input) → v ≡ allYes
+        go : (v : Verdict) → read (t .span) (t .units) (t .rules) ≡ concluded v (sheetIn h input) → v ≡ allYes
         go (no q n) f = let z : _≡_ {A = ℕ} 0 1 = cc in absurd (omega arith)
         go allYes f = refl
 
-    same : read (t .span) (t .units) (t .rules) ≡ read (sheetIn input .span) (length (sheetIn input .units)) (length (sheetIn input .rules))
-    same = e ∙ decided ∙ ap (λ v. concluded v (sheetIn input)) all-yes
+    same : read (t .span) (t .units) (t .rules) ≡ read (sheetIn h input .span) (length (sheetIn h input .units)) (length (sheetIn h input .rules))
+    same = e ∙ decided ∙ ap (λ v. concluded v (sheetIn h input)) all-yes
 
-    span-same : t .span ≡ sheetIn input .span
+    span-same : t .span ≡ sheetIn h input .span
     span-same = let q = same in cc
 
-    units-same : t .units ≡ length (sheetIn input .units)
+    units-same : t .units ≡ length (sheetIn h input .units)
     units-same = let q = same in cc
 
-    rules-same : t .rules ≡ length (sheetIn input .rules)
+    rules-same : t .rules ≡ length (sheetIn h input .rules)
     rules-same = let q = same in cc
 
-    left-is : after ≡ leaves (read 0 0 0) (sheetIn input) m
-    left-is = lists ∙ ap (λ a. leaves a (sheetIn input) m) (sym e)
+    left-is : after ≡ leaves (read 0 0 0) (sheetIn h input) m
+    left-is = lists ∙ ap (λ a. leaves a (sheetIn h input) m) (sym e)
 
     -- the lists hold the text's sheet
     pub read-held : Held t after
     read-held =
         subst (Held t) (sym left-is)
-        (held (sheetIn input) t span-same units-same rules-same m (reading-accepts input roomsForAll all-yes) (reading-loaders input roomsForAll all-yes))
+        (held (sheetIn h input) t span-same units-same rules-same m (reading-accepts h input roomsForAll all-yes) (reading-loaders h input roomsForAll all-yes))
 
     pub read-answered : (query : Query) (page left : List ℕ) (next : ℕ)
-        → Answered (AnswerToSheet query (fronts t after .loader) (givenBy (fronts t after))) page left next → Answered (AnswerTo query input) page left next
+        → Answered (AnswerToSheet query (fronts t after .loader) (givenBy (fronts t after))) page left next → Answered (AnswerTo h query input) page left next
     read-answered query page left next a =
-        let w = sheetIn input in
+        let w = sheetIn h input in
         let sheet : givenBy (fronts t after) ≡ constraints w = ap (λ r. givenBy (fronts t r)) left-is ∙ front-sheet w t span-same units-same rules-same m in
         let numbers : fronts t after .loader ≡ loaders w =
         ap (λ r. fronts t r .loader) left-is ∙ front-loaders w t span-same units-same rules-same m in

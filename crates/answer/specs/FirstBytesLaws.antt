@@ -10,6 +10,7 @@ use lib.Dec.{leb}
 use lib.ListN.{length, take}
 use lib.Seq.{take-all, length-take-le}
 use borrow.Author.Tests.{leb-true, leb-false, lt-leb}
+use Rattle.forms.specs.declared.House.{House}
 use Rattle.questions.specs.Questions.{no, firstNo}
 use Rattle.questions.specs.FirstNoLaws.{no-here}
 use Rattle.sheet.specs.Sizes.{maxBytes}
@@ -18,29 +19,29 @@ use Rattle.print_bytes.specs.Writing.{refusedLine}
 use Rattle.answer.specs.declared.Query.{Query}
 use Rattle.answer.specs.Answer.{ByReading, AnswerTo}
 
-too-long : (input : List ℕ) → maxBytes < length input → firstNo (questions input roomsForAll) ≡ no 1 0
+too-long : (h : House) (input : List ℕ) → maxBytes < length input → firstNo (questions h input roomsForAll) ≡ no 1 0
 unfolding questions
-too-long input long = no-here (leb (length input) maxBytes) 1 0 _ (lt-leb (length input) maxBytes long)
+too-long h input long = no-here (leb (length input) maxBytes) 1 0 _ (lt-leb (length input) maxBytes long)
 
-refused-by-1 : (query : Query) (input bytes : List ℕ) → maxBytes < length input → AnswerTo query input bytes ↔ (bytes ≡ refusedLine 1 0)
-refused-by-1 query input bytes long = (
-  subst (λ v. ByReading query v (sheetIn input) bytes) (too-long input long),
-  subst (λ v. ByReading query v (sheetIn input) bytes) (sym (too-long input long)),
+refused-by-1 : (h : House) (query : Query) (input bytes : List ℕ) → maxBytes < length input → AnswerTo h query input bytes ↔ (bytes ≡ refusedLine 1 0)
+refused-by-1 h query input bytes long = (
+  subst (λ v. ByReading query v (sheetIn h input) bytes) (too-long h input long),
+  subst (λ v. ByReading query v (sheetIn h input) bytes) (sym (too-long h input long)),
 )
 
-pub first-bytes-decide : (query : Query) (input bytes : List ℕ) → AnswerTo query (take (suc maxBytes) input) bytes ↔ AnswerTo query input bytes
-first-bytes-decide query input bytes = go (leb (length input) maxBytes) refl
+pub first-bytes-decide : (h : House) (query : Query) (input bytes : List ℕ) → AnswerTo h query (take (suc maxBytes) input) bytes ↔ AnswerTo h query input bytes
+first-bytes-decide h query input bytes = go (leb (length input) maxBytes) refl
   where
     front : List ℕ
     front = take (suc maxBytes) input
 
-    go : (b : Bool) → leb (length input) maxBytes ≡ b → AnswerTo query front bytes ↔ AnswerTo query input bytes
+    go : (b : Bool) → leb (length input) maxBytes ≡ b → AnswerTo h query front bytes ↔ AnswerTo h query input bytes
     go true e =
         let whole = take-all (suc maxBytes) input (omega (arith, leb-true (length input) maxBytes e)) in
-        (subst (λ t. AnswerTo query t bytes) whole, subst (λ t. AnswerTo query t bytes) (sym whole))
+        (subst (λ t. AnswerTo h query t bytes) whole, subst (λ t. AnswerTo h query t bytes) (sym whole))
     go false e =
         let long = leb-false (length input) maxBytes e in
         let cut = length-take-le (suc maxBytes) input (omega (arith, long)) in
-        let a = refused-by-1 query front bytes (omega (arith, cut)) in
-        let b = refused-by-1 query input bytes long in
+        let a = refused-by-1 h query front bytes (omega (arith, cut)) in
+        let b = refused-by-1 h query input bytes long in
         (λ x. b .1 (a .0 x), λ x. a .1 (b .0 x))

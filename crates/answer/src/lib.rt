@@ -14,6 +14,7 @@ ghost use Rattle.print_bytes.specs.Writing.{Written, refusedLine};
 ghost use Rattle.pages.specs.SheetPages.{ringBytes};
 ghost use Rattle.answer.specs.Answer.{AnswerToSheet, AnswerTo, Answered};
 ghost use Rattle.answer.specs.Fronts.{fronts, Held};
+use forms::House;
 use plan_solve::Fit;
 use print_page::MAX_PAGE;
 use read_ask::Reading;
@@ -242,10 +243,10 @@ fn answer_fronts(
     )
 }
 
-// The answer to what is asked of a text, from the first place of the page on, and the place just past it. The lists are long enough for every sheet and
-// the page for every answer, so that no text is refused by 12 or 15.
-pub fn answer(query: Query, text: &[u8], page: &mut [u8; MAX_PAGE]) -> usize
-    ensures { λ r. ⌜ Answered (AnswerTo query (now (text .entry))) (now (page .entry)) (now (page .exit)) r ⌝ }
+// The answer to what is asked of a text of a house, from the first place of the page on, and the place just past it. The lists are long enough for every
+// sheet and the page for every answer, so that no text is refused by 12 or 15.
+pub fn answer(house: House, query: Query, text: &[u8], page: &mut [u8; MAX_PAGE]) -> usize
+    ensures { λ r. ⌜ Answered (AnswerTo house query (now (text .entry))) (now (page .entry)) (now (page .exit)) r ⌝ }
 {
     let mut loader = [0u16; Sheet::MAX_UNITS];
     let mut first = [0u16; Sheet::MAX_UNITS];
@@ -255,6 +256,7 @@ pub fn answer(query: Query, text: &[u8], page: &mut [u8; MAX_PAGE]) -> usize
     let mut low = [0u16; Sheet::MAX_RULES];
     let mut high = [0u16; Sheet::MAX_RULES];
     let reading = read::read(
+        house,
         text,
         &mut loader,
         &mut first,

@@ -1,5 +1,5 @@
 -- A text's lines: each is ended by a line feed; bytes after the last line feed are a line without one. Definitions only.
-use Prim.Native.Nat.{ℕ}
+use Prim.Native.Nat.{ℕ, suc}
 use mathlib.Core.Bool.{Bool, true, false, cond}
 use mathlib.Core.List.{List, [], _∷_, _++_}
 use lib.Dec.{eqb}
@@ -38,3 +38,8 @@ hasFeed (b ∷ t) = cond (eqb b lineFeed) true (hasFeed t)
 unfoldable pub pastLine : List ℕ → List ℕ
 pastLine [] = []
 pastLine (b ∷ t) = cond (eqb b lineFeed) t (pastLine t)
+
+-- how many bytes there are up to and with the last line feed
+unfoldable pub wholeLines : List ℕ → ℕ
+wholeLines [] = 0
+wholeLines (b ∷ t) = cond (hasFeed (b ∷ t)) (suc (wholeLines t)) 0

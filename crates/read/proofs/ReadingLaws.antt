@@ -12,6 +12,7 @@ use borrow.Author.Tests.{le-leb, lt-leb, leb-true}
 use Rattle.lists.specs.Lists.{onFront}
 use Rattle.questions.specs.Questions.{ask, Verdict, no, allYes, firstNo, andThen}
 use Rattle.questions.specs.FirstNoLaws.{firstNo-append}
+use Rattle.forms.specs.declared.House.{House}
 use Rattle.sheet.specs.Sizes.{maxUnits, maxRules, maxBytes}
 use Rattle.sheet.specs.Sheet.{Window, constraints, loaders}
 use Rattle.sheet.specs.declared.Sheet.{Sheet}
@@ -23,87 +24,87 @@ use Rattle.read.specs.Rooms.{sizesOf, leaves, roomsAfter}
 use Rattle.read.specs.Spread.{strided, filled, Filling}
 use Rattle.read.proofs.SpreadLaws.{stream-column, rooms-same}
 
-module _ (t : List ℕ) (sizes : ListRooms ℕ) where
+module _ (h : House) (t : List ℕ) (sizes : ListRooms ℕ) where
   abbrev fit : Bool
-  fit = listsFit (length (sheetIn t .units)) (length (sheetIn t .rules)) sizes
+  fit = listsFit (length (sheetIn h t .units)) (length (sheetIn h t .rules)) sizes
 
-  pub answer-long : maxBytes < length t → refused 1 0 ≡ reading t sizes
+  pub answer-long : maxBytes < length t → refused 1 0 ≡ reading h t sizes
   unfolding reading questions firstNo
-  answer-long h = simp (lt-leb (length t) maxBytes h)
+  answer-long long = simp (lt-leb (length t) maxBytes long)
 
-  module _ (h : length t ≤ maxBytes) where
-    all-asked : firstNo (questions t sizes) ≡ andThen (firstNo (passQuestions t)) (cond fit allYes (no 12 0))
+  module _ (short : length t ≤ maxBytes) where
+    all-asked : firstNo (questions h t sizes) ≡ andThen (firstNo (passQuestions h t)) (cond fit allYes (no 12 0))
     unfolding questions firstNo
-    all-asked = rw (le-leb (length t) maxBytes h) (firstNo-append (passQuestions t) (ask 12 0 fit ∷ []))
+    all-asked = rw (le-leb (length t) maxBytes short) (firstNo-append (passQuestions h t) (ask 12 0 fit ∷ []))
 
     call-answer : Verdict → Reply
-    call-answer v = concluded (andThen v (cond fit allYes (no 12 0))) (sheetIn t)
+    call-answer v = concluded (andThen v (cond fit allYes (no 12 0))) (sheetIn h t)
 
-    is-answer : reading t sizes ≡ call-answer (firstNo (passQuestions t))
+    is-answer : reading h t sizes ≡ call-answer (firstNo (passQuestions h t))
     unfolding reading call-answer
-    is-answer = ap (λ (v : Verdict). concluded v (sheetIn t)) all-asked
+    is-answer = ap (λ (v : Verdict). concluded v (sheetIn h t)) all-asked
 
-    pub answer-no : (q n : ℕ) → refused q n ≡ passReply t → refused q n ≡ reading t sizes
+    pub answer-no : (q n : ℕ) → refused q n ≡ passReply h t → refused q n ≡ reading h t sizes
     unfolding passReply call-answer
-    answer-no q n e = go (firstNo (passQuestions t)) e ∙ sym is-answer
+    answer-no q n e = go (firstNo (passQuestions h t)) e ∙ sym is-answer
       where
-        go : (v : Verdict) → refused q n ≡ concluded v (sheetIn t) → refused q n ≡ call-answer v
+        go : (v : Verdict) → refused q n ≡ concluded v (sheetIn h t) → refused q n ≡ call-answer v
         go (no q′ n′) e = e
         go allYes e = let z : _≡_ {A = ℕ} 0 1 = cc in absurd (omega arith)
 
-    module _ (p u r : ℕ) (e : read p u r ≡ passReply t) where
+    module _ (p u r : ℕ) (e : read p u r ≡ passReply h t) where
       record PassYes : Type 0 where
-        verdict : firstNo (passQuestions t) ≡ allYes
-        span : p ≡ sheetIn t .span
-        units : u ≡ length (sheetIn t .units)
-        rules : r ≡ length (sheetIn t .rules)
+        verdict : firstNo (passQuestions h t) ≡ allYes
+        span : p ≡ sheetIn h t .span
+        units : u ≡ length (sheetIn h t .units)
+        rules : r ≡ length (sheetIn h t .rules)
 
       passed : PassYes
       unfolding passReply
-      passed = go (firstNo (passQuestions t)) refl e
+      passed = go (firstNo (passQuestions h t)) refl e
         where
-          go : (v : Verdict) → firstNo (passQuestions t) ≡ v → read p u r ≡ concluded v (sheetIn t) → PassYes
+          go : (v : Verdict) → firstNo (passQuestions h t) ≡ v → read p u r ≡ concluded v (sheetIn h t) → PassYes
           go (no q′ n′) k e = let z : _≡_ {A = ℕ} 0 1 = cc in absurd (omega arith)
           go allYes k e = record { verdict = k; span = cc; units = cc; rules = cc }
 
       fit-is : fit ≡ listsFit u r sizes
       fit-is = let g = passed in ap₂ (λ (a b : ℕ). listsFit a b sizes) (sym (g .units)) (sym (g .rules))
 
-      pub answer-rooms : listsFit u r sizes ≡ false → refused 12 0 ≡ reading t sizes
+      pub answer-rooms : listsFit u r sizes ≡ false → refused 12 0 ≡ reading h t sizes
       unfolding call-answer
-      answer-rooms k = sym (is-answer ∙ ap call-answer (passed .verdict) ∙ ap (λ (b : Bool). concluded (cond b allYes (no 12 0)) (sheetIn t)) (fit-is ∙ k))
+      answer-rooms k = sym (is-answer ∙ ap call-answer (passed .verdict) ∙ ap (λ (b : Bool). concluded (cond b allYes (no 12 0)) (sheetIn h t)) (fit-is ∙ k))
 
-      pub answer-read : listsFit u r sizes ≡ true → read p u r ≡ reading t sizes
+      pub answer-read : listsFit u r sizes ≡ true → read p u r ≡ reading h t sizes
       unfolding call-answer passReply
       answer-read k =
-          e ∙ ap (λ (v : Verdict). concluded v (sheetIn t)) (passed .verdict)
-          ∙ sym (is-answer ∙ ap call-answer (passed .verdict) ∙ ap (λ (b : Bool). concluded (cond b allYes (no 12 0)) (sheetIn t)) (fit-is ∙ k))
+          e ∙ ap (λ (v : Verdict). concluded v (sheetIn h t)) (passed .verdict)
+          ∙ sym (is-answer ∙ ap call-answer (passed .verdict) ∙ ap (λ (b : Bool). concluded (cond b allYes (no 12 0)) (sheetIn h t)) (fit-is ∙ k))
 
 -- a refusal leaves the rooms
-pub rooms-kept : (t : List ℕ) (m : ListRooms (List ℕ)) (q n : ℕ) → refused q n ≡ reading t (sizesOf m) → m ≡ roomsAfter t m
-rooms-kept t m q n e = ap (λ (a : Reply). leaves a (sheetIn t) m) e
+pub rooms-kept : (h : House) (t : List ℕ) (m : ListRooms (List ℕ)) (q n : ℕ) → refused q n ≡ reading h t (sizesOf m) → m ≡ roomsAfter h t m
+rooms-kept h t m q n e = ap (λ (a : Reply). leaves a (sheetIn h t) m) e
 
 -- rooms that question 12 finds long enough, and arrays that hold what was kept
-pub fills : (s : Sheet) (t numbers numbers′ units units′ rules rules′ : List ℕ) (sizes : ListRooms ℕ) → maxUnits ≤ length numbers
-    → 2 * maxUnits ≤ length units → 4 * maxRules ≤ length rules → KeptNumbers s t numbers numbers′ units units′ rules rules′
+pub fills : (h : House) (s : Sheet) (t numbers numbers′ units units′ rules rules′ : List ℕ) (sizes : ListRooms ℕ) → maxUnits ≤ length numbers
+    → 2 * maxUnits ≤ length units → 4 * maxRules ≤ length rules → KeptNumbers h s t numbers numbers′ units units′ rules rules′
     → listsFit (s .units) (s .rules) sizes ≡ true → Filling s (length numbers′) (length units′) (length rules′) sizes
-fills s t numbers numbers′ units units′ rules rules′ sizes n u r k f =
+fills h s t numbers numbers′ units units′ rules rules′ sizes n u r k f =
     let c = leb (s .units) (sizes .loader) in
     let a = leb (s .units) (sizes .first) && leb (s .units) (sizes .last) in
     let b = leb (s .rules) (sizes .from) && leb (s .rules) (sizes .to) in
     let l = and-right c _ f in
     let g = and-left a _ l in
-    let h = and-left b _ (and-right a _ l) in
+    let j = and-left b _ (and-right a _ l) in
     let i = and-right b _ (and-right a _ l) in
     record {
-      in-numbers = omega (arith, k .few-units, ap length (k .in-numbers), length-sets numbers 0 (loaders (sheetIn t)));
-      in-units = omega (arith, k .few-units, ap length (k .in-units), length-sets units 0 (unitStream (sheetIn t .units)));
-      in-rules = omega (arith, k .few-rules, ap length (k .in-rules), length-sets rules 0 (ruleStream (sheetIn t .rules)));
+      in-numbers = omega (arith, k .few-units, ap length (k .in-numbers), length-sets numbers 0 (loaders (sheetIn h t)));
+      in-units = omega (arith, k .few-units, ap length (k .in-units), length-sets units 0 (unitStream (sheetIn h t .units)));
+      in-rules = omega (arith, k .few-rules, ap length (k .in-rules), length-sets rules 0 (ruleStream (sheetIn h t .rules)));
       in-loader = leb-true (s .units) (sizes .loader) (and-left c _ f);
       in-first = leb-true (s .units) (sizes .first) (and-left _ _ g);
       in-last = leb-true (s .units) (sizes .last) (and-right (leb (s .units) (sizes .first)) _ g);
-      in-from = leb-true (s .rules) (sizes .from) (and-left _ _ h);
-      in-to = leb-true (s .rules) (sizes .to) (and-right (leb (s .rules) (sizes .from)) _ h);
+      in-from = leb-true (s .rules) (sizes .from) (and-left _ _ j);
+      in-to = leb-true (s .rules) (sizes .to) (and-right (leb (s .rules) (sizes .from)) _ j);
       in-low = leb-true (s .rules) (sizes .low) (and-left _ _ i);
       in-high = leb-true (s .rules) (sizes .high) (and-right (leb (s .rules) (sizes .low)) _ i);
     }
@@ -113,38 +114,39 @@ abbrev ends : Window → List ℕ
 ends w = (w .first) ∷ (w .last) ∷ []
 
 -- what was filled in is what the sheet's lists are
-pub rooms-filled : (s : Sheet) (t numbers numbers′ units units′ rules rules′ : List ℕ) (m : ListRooms (List ℕ)) → maxUnits ≤ length numbers
+pub rooms-filled : (h : House) (s : Sheet) (t numbers numbers′ units units′ rules rules′ : List ℕ) (m : ListRooms (List ℕ)) → maxUnits ≤ length numbers
     → 2 * maxUnits ≤ length units → 4 * maxRules ≤ length rules
-    → length t ≤ maxBytes → read (s .span) (s .units) (s .rules) ≡ passReply t → listsFit (s .units) (s .rules) (sizesOf m) ≡ true
-    → KeptNumbers s t numbers numbers′ units units′ rules rules′ → filled s numbers′ units′ rules′ m ≡ roomsAfter t m
+    → length t ≤ maxBytes → read (s .span) (s .units) (s .rules) ≡ passReply h t → listsFit (s .units) (s .rules) (sizesOf m) ≡ true
+    → KeptNumbers h s t numbers numbers′ units units′ rules rules′ → filled s numbers′ units′ rules′ m ≡ roomsAfter h t m
 unfolding unitStream ruleStream
-rooms-filled s t numbers numbers′ units units′ rules rules′ m n u r h e f k =
+rooms-filled h s t numbers numbers′ units units′ rules rules′ m n u r short e f k =
     rooms-same loader-room (unit-room 0 (omega arith) (m .first)) (unit-room 1 (omega arith) (m .last))
     (rule-room 0 (omega arith) (m .from)) (rule-room 1 (omega arith) (m .to)) (rule-room 2 (omega arith) (m .low)) (rule-room 3 (omega arith) (m .high))
-    ∙ ap (λ (a : Reply). leaves a (sheetIn t) m) (answer-read t (sizesOf m) h (s .span) (s .units) (s .rules) e f)
+    ∙ ap (λ (a : Reply). leaves a (sheetIn h t) m) (answer-read h t (sizesOf m) short (s .span) (s .units) (s .rules) e f)
   where
-    g : PassYes t (sizesOf m) h (s .span) (s .units) (s .rules) e
-    g = passed t (sizesOf m) h (s .span) (s .units) (s .rules) e
+    g : PassYes h t (sizesOf m) short (s .span) (s .units) (s .rules) e
+    g = passed h t (sizesOf m) short (s .span) (s .units) (s .rules) e
 
-    loader-room : onFront (take (s .units) numbers′) (m .loader) ≡ onFront (loaders (sheetIn t)) (m .loader)
+    loader-room : onFront (take (s .units) numbers′) (m .loader) ≡ onFront (loaders (sheetIn h t)) (m .loader)
     loader-room =
         ap (λ (xs : List ℕ). onFront xs (m .loader))
         (ap (take (s .units)) (k .in-numbers)
-        ∙ sets-front numbers (loaders (sheetIn t)) (s .units) (length-map (sheetIn t .units) (λ u. u .loader) ∙ sym (g .units)) (omega (arith, k .few-units)))
+        ∙ sets-front numbers (loaders (sheetIn h t)) (s .units) (length-map (sheetIn h t .units) (λ u. u .loader) ∙ sym (g .units))
+        (omega (arith, k .few-units)))
 
     unit-room : (c : ℕ) → c < 2 → (room : List ℕ) → onFront (strided (s .units) 2 c units′) room
-        ≡ onFront (map (λ w. getD (ends w) c 0) (constraints (sheetIn t) .units)) room
+        ≡ onFront (map (λ w. getD (ends w) c 0) (constraints (sheetIn h t) .units)) room
     unit-room c l room =
-        let us = sheetIn t .units in
+        let us = sheetIn h t .units in
         ap (λ (xs : List ℕ). onFront xs room)
         (ap₂ (λ (n : ℕ) (xs : List ℕ). strided n 2 c xs) (g .units) (k .in-units)
         ∙ stream-column windowNumbers 2 c l (λ w. refl) units us (omega (arith, k .few-units, g .units))
         ∙ sym (map-map (λ w. getD (ends w) c 0) (λ u. u .window) us))
 
     rule-room : (c : ℕ) → c < 4 → (room : List ℕ) → onFront (strided (s .rules) 4 c rules′) room
-        ≡ onFront (map (λ w. getD (ruleNumbers w) c 0) (sheetIn t .rules)) room
+        ≡ onFront (map (λ w. getD (ruleNumbers w) c 0) (sheetIn h t .rules)) room
     rule-room c l room =
-        let rs = sheetIn t .rules in
+        let rs = sheetIn h t .rules in
         ap (λ (xs : List ℕ). onFront xs room)
         (ap₂ (λ (n : ℕ) (xs : List ℕ). strided n 4 c xs) (g .rules) (k .in-rules)
         ∙ stream-column ruleNumbers 4 c l (λ w. refl) rules rs (omega (arith, k .few-rules, g .rules)))

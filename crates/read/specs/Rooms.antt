@@ -3,6 +3,7 @@ use Prim.Native.Nat.{ℕ}
 use mathlib.Core.List.{List, map}
 use lib.ListN.{length}
 use Rattle.lists.specs.Lists.{onFront}
+use Rattle.forms.specs.declared.House.{House}
 use Rattle.sheet.specs.Sheet.{WrittenSheet, constraints, loaders}
 use Rattle.read_ask.specs.Reading.{sheetIn, ListRooms, rooms, Reply, refused, read, reading}
 
@@ -19,5 +20,5 @@ leaves (read p u r) s m =
     (onFront (map (λ w. w .from) (s .rules)) (m .from)) (onFront (map (λ w. w .to) (s .rules)) (m .to))
     (onFront (map (λ w. w .low) (s .rules)) (m .low)) (onFront (map (λ w. w .high) (s .rules)) (m .high))
 
-abbrev pub roomsAfter : List ℕ → ListRooms (List ℕ) → ListRooms (List ℕ)
-roomsAfter text m = leaves (reading text (sizesOf m)) (sheetIn text) m
+abbrev pub roomsAfter : House → List ℕ → ListRooms (List ℕ) → ListRooms (List ℕ)
+roomsAfter h text m = leaves (reading h text (sizesOf m)) (sheetIn h text) m

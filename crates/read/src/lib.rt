@@ -7,6 +7,7 @@ ghost use Rattle.lists.specs.Lists.{onFront};
 ghost use Rattle.read_ask.specs.Reading.{replyOf, reading, rooms, listsFit};
 ghost use Rattle.read.specs.Rooms.{sizesOf, roomsAfter};
 ghost use Rattle.read.specs.Spread.{strided, Reach, Filling, filled};
+use forms::House;
 use questions::Refusal;
 use read_ask::Reading;
 use sheet::Sheet;
@@ -98,8 +99,9 @@ fn fill(
     spread(rules, r, 4, 3, high);
 }
 
-// The open entry. A refusal leaves every room as it was; else the units and rules stand at the front of theirs.
+// The open entry, for a text of either house. A refusal leaves every room as it was; else the units and rules stand at the front of theirs.
 pub fn read(
+    house: House,
     text: &[u8],
     loader: &mut [u16],
     first: &mut [u16],
@@ -110,12 +112,12 @@ pub fn read(
     high: &mut [u16],
 ) -> Reading
     ensures { λ r. ⌜ replyOf r
-        ≡ reading (now (text .entry))
+        ≡ reading house (now (text .entry))
         (sizesOf (rooms (now (loader .entry)) (now (first .entry)) (now (last .entry)) (now (from .entry)) (now (to .entry)) (now (low .entry))
         (now (high .entry)))) ⌝ }
     ensures { λ _. ⌜ rooms (now (loader .exit)) (now (first .exit)) (now (last .exit)) (now (from .exit)) (now (to .exit)) (now (low .exit))
         (now (high .exit))
-        ≡ roomsAfter (now (text .entry))
+        ≡ roomsAfter house (now (text .entry))
         (rooms (now (loader .entry)) (now (first .entry)) (now (last .entry)) (now (from .entry)) (now (to .entry)) (now (low .entry))
         (now (high .entry))) ⌝ }
 {
@@ -125,7 +127,7 @@ pub fn read(
     let mut numbers = [0u16; Sheet::MAX_UNITS];
     let mut units = [0u16; UNIT_NUMBERS];
     let mut rules = [0u16; RULE_NUMBERS];
-    let asked = read_ask::ask_text(text, &mut numbers, &mut units, &mut rules);
+    let asked = read_ask::ask_text(house, text, &mut numbers, &mut units, &mut rules);
     match asked {
         Reading::Refused(refusal) => Reading::Refused(refusal),
         Reading::Sheet(s) => {

@@ -17,19 +17,20 @@ use Rattle.questions.specs.Questions.{Question, ask, Verdict, no, allYes, first
 use Rattle.questions.specs.FirstNoLaws.{first-then}
 use Rattle.sheet.specs.Sizes.{maxSlots, maxUnits, maxRules}
 use Rattle.sheet.specs.Sheet.{loaders}
-use Rattle.sheet.specs.Questions.{isSpan, isStretch, isWindow, isCount, isNew}
+use Rattle.sheet.specs.Questions.{isSpan, rising, isStretch, isCount, isNew}
 use Rattle.sheet.specs.declared.Sheet.{Sheet}
-use Rattle.forms.specs.Form.{printable, plain, value}
+use Rattle.forms.specs.declared.House.{House}
+use Rattle.forms.specs.Form.{printable, plain}
 use Rattle.lists.specs.Members.{and-left}
-use Rattle.forms.specs.Lines.{TextLine, textLine, lines, firstLine, hasFeed}
-use Rattle.forms.specs.LinesLaws.{lineEnd, end-within, lines-at, lines-none}
+use Rattle.forms.specs.Lines.{TextLine, textLine, lines, firstLine, hasFeed, wholeLines}
+use Rattle.forms.specs.LinesLaws.{lineEnd, lines-at, lines-none, whole-within, whole-ended, whole-next, rest-unended, rest-line}
 use Rattle.read_line.specs.Content.{Content, note, sheet, unit, rule, other, contentOf, bracketsMatch, numbersIn}
 use Rattle.read_line.specs.Line.{valuesOf, said, lineOf}
 use Rattle.read_line.specs.declared.Line.{Line}
 use Rattle.read_line.specs.declared.Line.the-variants as Line
 use Rattle.read_ask.specs.Reading.{contents, isSheet, hasSheet, spanElse, spanIn, unitOf, unitsIn, loadersIn, ruleOf, rulesIn, sheetIn, isForm}
-use Rattle.read_ask.specs.Reading.{inOrder, spanAllowed, inSpan, loaderFits, countFits, questionsOf, lineQuestions, passQuestions, refused, read}
-use Rattle.read_ask.specs.Reading.{concluded}
+use Rattle.read_ask.specs.Reading.{inOrder, spanAllowed, lastPlace, inSpan, loaderFits, countFits, questionsOf, lineQuestions}
+use Rattle.read_ask.specs.Reading.{passQuestions, refused, read, concluded}
 use Rattle.read_ask.specs.Steps.{counted, stepOf, windowNumbers, ruleNumbers, unitStream, ruleStream, loaderPart, unitPart, rulePart, passReply}
 use Rattle.read_ask.specs.SpanLaws.{joined-append, stream-length, sets-front, loadersIn-more, hasSheet-more, hasSheet-same, spanIn-same, spanIn-first}
 use Rattle.read_ask.specs.declared.Step.{Step}
@@ -99,17 +100,17 @@ module _ (s : Sheet) (before : List Content) (c : Matches s before) where
         few-rules = l;
       }
 
-  matches-sheet : (p : List ℕ) → eqb (s .span) 0 ≡ true → isSpan (value p) ≡ true
-      → Matches (counted (value p) (s .units) (s .rules)) (before ++ (sheet p ∷ []))
+  matches-sheet : (ds : List (List ℕ)) (p : ℕ) → eqb (s .span) 0 ≡ true → isSpan p ≡ true
+      → Matches (counted p (s .units) (s .rules)) (before ++ (sheet ds p ∷ []))
   unfolding unitsIn rulesIn
-  matches-sheet p z h =
+  matches-sheet ds p z h =
       let none : hasSheet before ≡ false = c .sheeted ∙ ap not z in
-      let some : 1 ≤ value p = leb-true 1 (value p) (and-left (leb 1 (value p)) (leb (value p) maxSlots) h) in
+      let some : 1 ≤ p = leb-true 1 p (and-left (leb 1 p) (leb p maxSlots) h) in
       record {
-        span = sym (spanIn-first before p none);
-        sheeted = hasSheet-more before (sheet p) ∙ or-true (hasSheet before) ∙ sym (ap not (ne-eqb (value p) 0 (λ e. omega arith)));
-        units = omega (arith, more-units (sheet p));
-        rules = omega (arith, more-rules (sheet p));
+        span = sym (spanIn-first before ds p none);
+        sheeted = hasSheet-more before (sheet ds p) ∙ or-true (hasSheet before) ∙ sym (ap not (ne-eqb p 0 (λ e. omega arith)));
+        units = omega (arith, more-units (sheet ds p));
+        rules = omega (arith, more-rules (sheet ds p));
         few-units = c .few-units;
         few-rules = c .few-rules;
       }
@@ -137,17 +138,17 @@ module _ (before : List Content) (n : ℕ) (w : Verdict) (m : Sheet) (x : Conten
       go true true true true true true false p = refl
       go true true true true true true true p = (refl, p refl refl refl refl)
 
-module _ (s : Sheet) (before : List Content) (c : Matches s before) (n : ℕ) (w : Verdict) where
+module _ (h : House) (s : Sheet) (before : List Content) (c : Matches s before) (n : ℕ) (w : Verdict) where
   -- questions 5 to 10 and 16
   abbrev later : Content → Verdict
   later x =
-      cond (inOrder before x) (cond (spanAllowed x) (cond (inSpan (spanIn before) x) (cond (loaderFits before x) (cond (countFits x)
+      cond (inOrder before x) (cond (spanAllowed x) (cond (inSpan h (spanIn before) x) (cond (loaderFits before x) (cond (countFits x)
       (cond (leb (length (unitsIn (before ++ (x ∷ [])))) maxUnits) (cond (leb (length (rulesIn (before ++ (x ∷ [])))) maxRules) w (no 10 n)) (no 9 n))
       (no 8 n)) (no 16 n)) (no 7 n)) (no 6 n)) (no 5 n)
 
   -- the code's step, after units with the loader numbers of the lines before
   abbrev stepped : Line → Step
-  stepped line = stepOf (loadersIn before) s line
+  stepped line = stepOf h (loadersIn before) s line
 
   -- a test of the span of the lines before is one of the sheet so far
   span-same : (test : ℕ → Bool) → test (spanIn before) ≡ test (s .span)
@@ -166,40 +167,41 @@ module _ (s : Sheet) (before : List Content) (c : Matches s before) (n : ℕ) (w
         rules = refl;
       })
 
-  sheet-later : (p : List ℕ) → Verdicts (stepped (valuesOf (sheet p))) (valuesOf (sheet p)) before (sheet p) n (later (sheet p)) w
+  sheet-later : (ds : List (List ℕ)) (p : ℕ) → Verdicts (stepped (valuesOf (sheet ds p))) (valuesOf (sheet ds p)) before (sheet ds p) n (later (sheet ds p)) w
   unfolding stepOf unitsIn rulesIn unitStream ruleStream
-  sheet-later p =
-      same-verdict before n w (counted (value p) (s .units) (s .rules)) (sheet p) (valuesOf (sheet p))
-      (eqb (s .span) 0) (isSpan (value p)) true true true true true _ true _ _
-      (ap not (c .sheeted) ∙ Bool·not-not (eqb (s .span) 0)) refl (nine s before c (sheet p) refl) (ten s before c (sheet p) refl)
-      (λ z t d e. record { counts = matches-sheet s before c p z t; loaders = refl; units = refl; rules = refl })
+  sheet-later ds p =
+      same-verdict before n w (counted p (s .units) (s .rules)) (sheet ds p) (valuesOf (sheet ds p))
+      (eqb (s .span) 0) (isSpan p) true true true true true _ true _ _
+      (ap not (c .sheeted) ∙ Bool·not-not (eqb (s .span) 0)) refl (nine s before c (sheet ds p) refl) (ten s before c (sheet ds p) refl)
+      (λ z t d e. record { counts = matches-sheet s before c ds p z t; loaders = refl; units = refl; rules = refl })
 
-  unit-later : (k f l : List ℕ) → Verdicts (stepped (valuesOf (unit k f l))) (valuesOf (unit k f l)) before (unit k f l) n (later (unit k f l)) w
+  unit-later : (ds : List (List ℕ)) (k f l : ℕ)
+      → Verdicts (stepped (valuesOf (unit ds k f l))) (valuesOf (unit ds k f l)) before (unit ds k f l) n (later (unit ds k f l)) w
   unfolding stepOf unitsIn rulesIn unitStream ruleStream
-  unit-later k f l =
-      same-verdict before n w (counted (s .span) (s .units + 1) (s .rules)) (unit k f l) (valuesOf (unit k f l))
-      (not (eqb (s .span) 0)) true (isWindow (s .span) (value f) (value l)) (isNew (loadersIn before) (value k)) true (ltb (s .units) maxUnits) true
+  unit-later ds k f l =
+      same-verdict before n w (counted (s .span) (s .units + 1) (s .rules)) (unit ds k f l) (valuesOf (unit ds k f l))
+      (not (eqb (s .span) 0)) true (rising 1 (s .span) (lastPlace h (s .span)) f l) (isNew (loadersIn before) k) true (ltb (s .units) maxUnits) true
       _ _ _ _
-      (c .sheeted) (span-same (λ p. isWindow p (value f) (value l))) (nine-more s before c (unit k f l) refl) (ten s before c (unit k f l) refl)
+      (c .sheeted) (span-same (λ p. rising 1 p (lastPlace h p) f l)) (nine-more s before c (unit ds k f l) refl) (ten s before c (unit ds k f l) refl)
       (λ a b t e. record {
         counts =
-            matches-more s before c (unit k f l) (s .units + 1) (s .rules) refl (λ p. refl) refl (sym (add-zero (s .rules)))
+            matches-more s before c (unit ds k f l) (s .units + 1) (s .rules) refl (λ p. refl) refl (sym (add-zero (s .rules)))
             (omega (arith, ltb-true (s .units) maxUnits t)) (c .few-rules);
         loaders = refl;
         units = refl;
         rules = refl;
       })
 
-  rule-later : (a b lo hi : List ℕ) →
-      Verdicts (stepped (valuesOf (rule a b lo hi))) (valuesOf (rule a b lo hi)) before (rule a b lo hi) n (later (rule a b lo hi)) w
+  rule-later : (ds : List (List ℕ)) (a b lo hi : ℕ) →
+      Verdicts (stepped (valuesOf (rule ds a b lo hi))) (valuesOf (rule ds a b lo hi)) before (rule ds a b lo hi) n (later (rule ds a b lo hi)) w
   unfolding stepOf unitsIn rulesIn unitStream ruleStream
-  rule-later a b lo hi =
-      same-verdict before n w (counted (s .span) (s .units) (s .rules + 1)) (rule a b lo hi) (valuesOf (rule a b lo hi))
-      (not (eqb (s .span) 0)) true (isStretch (s .span) (value a) (value b)) true (isCount (value lo) (value hi)) true (ltb (s .rules) maxRules) _ _ _ _
-      (c .sheeted) (span-same (λ p. isStretch p (value a) (value b))) (nine s before c (rule a b lo hi) refl) (ten-more s before c (rule a b lo hi) refl)
+  rule-later ds a b lo hi =
+      same-verdict before n w (counted (s .span) (s .units) (s .rules + 1)) (rule ds a b lo hi) (valuesOf (rule ds a b lo hi))
+      (not (eqb (s .span) 0)) true (isStretch (s .span) a b) true (isCount lo hi) true (ltb (s .rules) maxRules) _ _ _ _
+      (c .sheeted) (span-same (λ p. isStretch p a b)) (nine s before c (rule ds a b lo hi) refl) (ten-more s before c (rule ds a b lo hi) refl)
       (λ y z d t. record {
         counts =
-            matches-more s before c (rule a b lo hi) (s .units) (s .rules + 1) refl (λ p. refl) (sym (add-zero (s .units))) refl
+            matches-more s before c (rule ds a b lo hi) (s .units) (s .rules + 1) refl (λ p. refl) (sym (add-zero (s .units))) refl
             (c .few-units) (omega (arith, ltb-true (s .rules) maxRules t));
         loaders = refl;
         units = refl;
@@ -220,29 +222,29 @@ module _ (s : Sheet) (before : List Content) (c : Matches s before) (n : ℕ) (w
   unfolding stepOf said
   form-verdict false x = rw (and-false (isForm x)) refl
   form-verdict true note = note-later
-  form-verdict true (sheet p) = plain-verdict (every plain (p ∷ [])) (sheet p) (later (sheet p)) (sheet-later p)
-  form-verdict true (unit k f l) = plain-verdict (every plain (k ∷ f ∷ l ∷ [])) (unit k f l) (later (unit k f l)) (unit-later k f l)
-  form-verdict true (rule a b lo hi) = plain-verdict (every plain (a ∷ b ∷ lo ∷ hi ∷ [])) (rule a b lo hi) (later (rule a b lo hi)) (rule-later a b lo hi)
+  form-verdict true (sheet ds p) = plain-verdict (every plain ds) (sheet ds p) (later (sheet ds p)) (sheet-later ds p)
+  form-verdict true (unit ds k f l) = plain-verdict (every plain ds) (unit ds k f l) (later (unit ds k f l)) (unit-later ds k f l)
+  form-verdict true (rule ds a b lo hi) = plain-verdict (every plain ds) (rule ds a b lo hi) (later (rule ds a b lo hi)) (rule-later ds a b lo hi)
   form-verdict true other = refl
 
 -- all questions of a line
-line-verdict : (s : Sheet) (before : List Content) → Matches s before → (n : ℕ) (l : TextLine) (rest : List Question) →
-    let x = contentOf (l .bytes) in
-    Verdicts (stepOf (loadersIn before) s (lineOf (l .bytes) (l .ended))) (lineOf (l .bytes) (l .ended)) before x n
-    (firstNo (questionsOf n before l x ++ rest)) (firstNo rest)
+line-verdict : (h : House) (s : Sheet) (before : List Content) → Matches s before → (n : ℕ) (l : TextLine) (rest : List Question) →
+    let x = contentOf h (l .bytes) in
+    Verdicts (stepOf h (loadersIn before) s (lineOf h (l .bytes) (l .ended))) (lineOf h (l .bytes) (l .ended)) before x n
+    (firstNo (questionsOf h n before l x ++ rest)) (firstNo rest)
 unfolding lineOf firstNo stepOf
-line-verdict s before c n l rest = go (printable (l .bytes)) (bracketsMatch (contentOf (l .bytes)) (l .bytes))
+line-verdict h s before c n l rest = go (printable (l .bytes)) (bracketsMatch (contentOf h (l .bytes)) (l .bytes))
   where
     x : Content
-    x = contentOf (l .bytes)
+    x = contentOf h (l .bytes)
 
     line : Bool → Bool → Line
     line p b = cond p (cond b (cond (l .ended) (said x) (Line.Refused 3)) (Line.Refused 11)) (Line.Refused 2)
 
-    go : (p b : Bool) → Verdicts (stepOf (loadersIn before) s (line p b)) (line p b) before x n
-        (cond p (cond b (cond (isForm x && (l .ended)) (cond (every plain (numbersIn x)) (later s before c n (firstNo rest) x) (no 4 n)) (no 3 n)) (no 11 n))
+    go : (p b : Bool) → Verdicts (stepOf h (loadersIn before) s (line p b)) (line p b) before x n
+        (cond p (cond b (cond (isForm x && (l .ended)) (cond (every plain (numbersIn x)) (later h s before c n (firstNo rest) x) (no 4 n)) (no 3 n)) (no 11 n))
         (no 2 n)) (firstNo rest)
-    go true true = form-verdict s before c n (firstNo rest) (l .ended) x
+    go true true = form-verdict h s before c n (firstNo rest) (l .ended) x
     go true false = refl
     go false b = refl
 
@@ -275,20 +277,21 @@ stream-more block k h f xs x m array₀ array array′ part c e e′ p =
     sets-more array₀ array array′ old new part (k * m) e e′ at p ∙ ap (sets array₀ 0) (sym cut)
 
 -- at the place `at`, where line n begins: what is left to ask decides, and the arrays hold the numbers of the lines before
-pub record Asking (t : List ℕ) (at n : ℕ) (s : Sheet) (numbers₀ numbers units₀ units rules₀ rules : List ℕ) : Type 0 where
+pub record Asking (h : House) (t : List ℕ) (at n : ℕ) (s : Sheet) (numbers₀ numbers units₀ units rules₀ rules : List ℕ) : Type 0 where
   pub before : List Content
-  pub place : at ≤ length t + 1
+  pub place : at ≤ wholeLines t
   pub number : n ≤ at + 1
   pub counts : Matches s before
-  pub left : firstNo (lineQuestions 1 [] (lines t)) ≡ firstNo (lineQuestions n before (lines (drop at t)))
-  pub whole : contents (lines t) ≡ before ++ contents (lines (drop at t))
+  pub left : firstNo (lineQuestions h 1 [] (lines t)) ≡ firstNo (lineQuestions h n before (lines (drop at t)))
+  pub whole : contents h (lines t) ≡ before ++ contents h (lines (drop at t))
   pub in-numbers : numbers ≡ sets numbers₀ 0 (loadersIn before)
   pub in-units : units ≡ sets units₀ 0 (unitStream (unitsIn before))
   pub in-rules : rules ≡ sets rules₀ 0 (ruleStream (rulesIn before))
 
-pub asking-start : (t : List ℕ) (s : Sheet) (numbers units rules : List ℕ) → s ≡ counted 0 0 0 → Asking t 0 1 s numbers numbers units units rules rules
+pub asking-start : (h : House) (t : List ℕ) (s : Sheet) (numbers units rules : List ℕ) → s ≡ counted 0 0 0
+    → Asking h t 0 1 s numbers numbers units units rules rules
 unfolding unitsIn rulesIn unitStream ruleStream
-asking-start t s numbers units rules e =
+asking-start h t s numbers units rules e =
     record {
       before = [];
       place = omega arith;
@@ -301,64 +304,69 @@ asking-start t s numbers units rules e =
       in-rules = refl;
     }
 
-module _ (t : List ℕ) (at n : ℕ) (s : Sheet) (numbers₀ numbers units₀ units rules₀ rules : List ℕ)
-    (i : Asking t at n s numbers₀ numbers units₀ units rules₀ rules) where
-  -- the line that starts here, and the questions that are left
-  here : TextLine
-  here = textLine (firstLine (drop at t)) (hasFeed (drop at t))
-
+module _ (h : House) (t : List ℕ) (at n : ℕ) (s : Sheet) (numbers₀ numbers units₀ units rules₀ rules : List ℕ)
+    (i : Asking h t at n s numbers₀ numbers units₀ units rules₀ rules) where
+  -- what the line that starts here is, and the questions that are left
   is : Content
-  is = contentOf (firstLine (drop at t))
+  is = contentOf h (firstLine (drop at t))
 
   rest : ℕ → List Question
-  rest next = lineQuestions (suc n) (i .before ++ (is ∷ [])) (lines (drop next t))
+  rest next = lineQuestions h (suc n) (i .before ++ (is ∷ [])) (lines (drop next t))
 
   -- the numbers of the units so far are the loader numbers of the lines before
   numbers-are : maxUnits ≤ length numbers₀ → take (s .units) numbers ≡ loadersIn (i .before)
-  numbers-are h =
+  numbers-are room =
       ap (take (s .units)) (i .in-numbers)
       ∙ sets-front numbers₀ (loadersIn (i .before)) (s .units) (length-map (unitsIn (i .before)) (λ u. u .loader) ∙ sym (i .counts .units))
       (omega (arith, i .counts .few-units))
 
-  module _ (room : maxUnits ≤ length numbers₀) (next : ℕ) (h : at < length t) (e : next ≡ lineEnd t at + 1) (line : Line)
-      (k : line ≡ lineOf (firstLine (drop at t)) (hasFeed (drop at t))) where
+  -- the line, which a line feed ends or not, and what the code makes of it
+  module _ (room : maxUnits ≤ length numbers₀) (next : ℕ) (some : at < length t) (e : next ≡ lineEnd t at + 1) (ended : Bool)
+      (f : hasFeed (drop at t) ≡ ended) (line : Line) (k : line ≡ lineOf h (firstLine (drop at t)) ended) where
+    here : TextLine
+    here = textLine (firstLine (drop at t)) ended
+
     -- the code's step
     abbrev made : Step
-    made = stepOf (take (s .units) numbers) s line
+    made = stepOf h (take (s .units) numbers) s line
 
-    all-left : firstNo (lineQuestions 1 [] (lines t)) ≡ firstNo (questionsOf n (i .before) here is ++ rest next)
+    all-lines : lines (drop at t) ≡ here ∷ lines (drop next t)
+    unfolding here
+    all-lines = lines-at t at next some e ∙ ap (λ (b : Bool). textLine (firstLine (drop at t)) b ∷ lines (drop next t)) f
+
+    all-left : firstNo (lineQuestions h 1 [] (lines t)) ≡ firstNo (questionsOf h n (i .before) here is ++ rest next)
     unfolding lineQuestions here is rest
-    all-left = i .left ∙ ap (λ (ls : List TextLine). firstNo (lineQuestions n (i .before) ls)) (lines-at t at next h e)
+    all-left = i .left ∙ ap (λ (ls : List TextLine). firstNo (lineQuestions h n (i .before) ls)) all-lines
 
-    verdict : (r : Step) → made ≡ r → Verdicts r line (i .before) is n (firstNo (questionsOf n (i .before) here is ++ rest next)) (firstNo (rest next))
+    verdict : (r : Step) → made ≡ r → Verdicts r line (i .before) is n (firstNo (questionsOf h n (i .before) here is ++ rest next)) (firstNo (rest next))
     unfolding here is rest
     verdict r q =
-        subst (λ (x : Line). Verdicts r x (i .before) is n (firstNo (questionsOf n (i .before) here is ++ rest next)) (firstNo (rest next))) (sym k)
-        (subst (λ (o : Step). Verdicts o (lineOf (here .bytes) (here .ended)) (i .before) is n (firstNo (questionsOf n (i .before) here is ++ rest next))
-        (firstNo (rest next)))
-        (ap₂ (λ ks l. stepOf ks s l) (sym (numbers-are room)) (sym k) ∙ q) (line-verdict s (i .before) (i .counts) n here (rest next)))
+        subst (λ (x : Line). Verdicts r x (i .before) is n (firstNo (questionsOf h n (i .before) here is ++ rest next)) (firstNo (rest next))) (sym k)
+        (subst (λ (o : Step). Verdicts o (lineOf h (here .bytes) (here .ended)) (i .before) is n
+        (firstNo (questionsOf h n (i .before) here is ++ rest next)) (firstNo (rest next)))
+        (ap₂ (λ ks l. stepOf h ks s l) (sym (numbers-are room)) (sym k) ∙ q) (line-verdict h s (i .before) (i .counts) n here (rest next)))
 
-    pub asking-no : (q : ℕ) → made ≡ No q → refused q n ≡ passReply t
+    line-no : (q : ℕ) → made ≡ No q → refused q n ≡ passReply h t
     unfolding passReply
-    asking-no q r =
-        let v : firstNo (lineQuestions 1 [] (lines t)) ≡ no q n = all-left ∙ verdict (No q) r in
-        let last = ask 5 0 (hasSheet (contents (lines t))) ∷ [] in
-        sym (ap (λ (x : Verdict). concluded x (sheetIn t)) (first-then (lineQuestions 1 [] (lines t)) last (no q n) v))
+    line-no q r =
+        let v : firstNo (lineQuestions h 1 [] (lines t)) ≡ no q n = all-left ∙ verdict (No q) r in
+        let last = ask 5 0 (hasSheet (contents h (lines t))) ∷ [] in
+        sym (ap (λ (x : Verdict). concluded x (sheetIn h t)) (first-then (lineQuestions h 1 [] (lines t)) last (no q n) v))
 
-    pub asking-on : (m : Sheet) (numbers′ units′ rules′ : List ℕ) → made ≡ On m → numbers′ ≡ sets numbers (s .units) (loaderPart line)
+    line-on : (m : Sheet) (numbers′ units′ rules′ : List ℕ) → next ≤ wholeLines t → made ≡ On m → numbers′ ≡ sets numbers (s .units) (loaderPart line)
         → units′ ≡ sets units (2 * s .units) (unitPart line) → rules′ ≡ sets rules (4 * s .rules) (rulePart line)
-        → Asking t next (n + 1) m numbers₀ numbers′ units₀ units′ rules₀ rules′
-    unfolding unitsIn rulesIn unitStream ruleStream rest is contents
-    asking-on m numbers′ units′ rules′ r a u v =
+        → Asking h t next (n + 1) m numbers₀ numbers′ units₀ units′ rules₀ rules′
+    unfolding unitsIn rulesIn unitStream ruleStream rest is here contents
+    line-on m numbers′ units′ rules′ w r a u v =
         let p = verdict (On m) r in
         record {
           before = i .before ++ (is ∷ []);
-          place = omega (arith, end-within t at (omega arith));
-          number = omega arith;
+          place = w;
+          number = omega (arith, i .number);
           counts = p .1 .counts;
-          left = all-left ∙ p .0 ∙ ap (λ (j : ℕ). firstNo (lineQuestions j (i .before ++ (is ∷ [])) (lines (drop next t)))) (sym (add-one n));
-          whole = i .whole ∙ ap (λ (ls : List TextLine). i .before ++ contents ls) (lines-at t at next h e)
-              ∙ sym (append-assoc (i .before) (is ∷ []) (contents (lines (drop next t))));
+          left = all-left ∙ p .0 ∙ ap (λ (j : ℕ). firstNo (lineQuestions h j (i .before ++ (is ∷ [])) (lines (drop next t)))) (sym (add-one n));
+          whole = i .whole ∙ ap (λ (ls : List TextLine). i .before ++ contents h ls) all-lines
+              ∙ sym (append-assoc (i .before) (is ∷ []) (contents h (lines (drop next t))));
           in-numbers =
               sets-more numbers₀ numbers numbers′ (loadersIn (i .before)) (map (λ w. w .loader) (unitOf is)) (loaderPart line) (s .units) (i .in-numbers) a
               (i .counts .units ∙ sym (length-map (unitsIn (i .before)) (λ w. w .loader))) (p .1 .loaders)
@@ -369,47 +377,67 @@ module _ (t : List ℕ) (at n : ℕ) (s : Sheet) (numbers₀ numbers units₀ un
               (i .in-rules) v (p .1 .rules);
         }
 
-  module _ (h : length t ≤ at) where
-    all-before : contents (lines t) ≡ i .before
+  -- a line that starts before the last line feed
+  module _ (room : maxUnits ≤ length numbers₀) (next : ℕ) (w : at < wholeLines t) (e : next ≡ lineEnd t at + 1) (line : Line)
+      (k : line ≡ lineOf h (firstLine (drop at t)) true) where
+    pub asking-no : (q : ℕ) → stepOf h (take (s .units) numbers) s line ≡ No q → refused q n ≡ passReply h t
+    asking-no = line-no room next (omega (arith, whole-within t)) e true (whole-ended t at w) line k
+
+    pub asking-on : (m : Sheet) (numbers′ units′ rules′ : List ℕ) → stepOf h (take (s .units) numbers) s line ≡ On m
+        → numbers′ ≡ sets numbers (s .units) (loaderPart line) → units′ ≡ sets units (2 * s .units) (unitPart line)
+        → rules′ ≡ sets rules (4 * s .rules) (rulePart line) → Asking h t next (n + 1) m numbers₀ numbers′ units₀ units′ rules₀ rules′
+    asking-on m numbers′ units′ rules′ =
+        line-on room next (omega (arith, whole-within t)) e true (whole-ended t at w) line k m numbers′ units′ rules′ (omega (arith, whole-next t at w))
+
+  -- the bytes past the last line feed
+  pub asking-last : maxUnits ≤ length numbers₀ → wholeLines t ≤ at → at < length t → (q : ℕ) → Line.Refused q ≡ lineOf h (drop at t) false
+      → refused q n ≡ passReply h t
+  unfolding stepOf
+  asking-last room w some q k =
+      line-no room (lineEnd t at + 1) some refl false (rest-unended t at w) (Line.Refused q)
+      (k ∙ ap (λ (l : List ℕ). lineOf h l false) (sym (rest-line t at w))) q refl
+
+  module _ (none : length t ≤ at) where
+    all-before : contents h (lines t) ≡ i .before
     unfolding contents
-    all-before = i .whole ∙ ap (λ (ls : List TextLine). i .before ++ contents ls) (lines-none t at h) ∙ append-nil (i .before)
+    all-before = i .whole ∙ ap (λ (ls : List TextLine). i .before ++ contents h ls) (lines-none t at none) ∙ append-nil (i .before)
 
-    all-asked : firstNo (lineQuestions 1 [] (lines t)) ≡ allYes
+    all-asked : firstNo (lineQuestions h 1 [] (lines t)) ≡ allYes
     unfolding lineQuestions firstNo
-    all-asked = i .left ∙ ap (λ (ls : List TextLine). firstNo (lineQuestions n (i .before) ls)) (lines-none t at h)
+    all-asked = i .left ∙ ap (λ (ls : List TextLine). firstNo (lineQuestions h n (i .before) ls)) (lines-none t at none)
 
-    last-asked : (z : Bool) → eqb (s .span) 0 ≡ z → firstNo (passQuestions t) ≡ cond (not z) allYes (no 5 0)
+    last-asked : (z : Bool) → eqb (s .span) 0 ≡ z → firstNo (passQuestions h t) ≡ cond (not z) allYes (no 5 0)
     unfolding firstNo
     last-asked z e =
-        first-then (lineQuestions 1 [] (lines t)) (ask 5 0 (hasSheet (contents (lines t))) ∷ []) allYes all-asked
+        first-then (lineQuestions h 1 [] (lines t)) (ask 5 0 (hasSheet (contents h (lines t))) ∷ []) allYes all-asked
         ∙ ap (λ (b : Bool). cond b allYes (no 5 0)) (ap hasSheet all-before ∙ i .counts .sheeted ∙ ap not e)
 
-    pub asking-none : s .span ≡ 0 → refused 5 0 ≡ passReply t
+    pub asking-none : s .span ≡ 0 → refused 5 0 ≡ passReply h t
     unfolding passReply
-    asking-none e = sym (ap (λ (x : Verdict). concluded x (sheetIn t)) (last-asked true (eq-eqb (s .span) 0 e)))
+    asking-none e = sym (ap (λ (x : Verdict). concluded x (sheetIn h t)) (last-asked true (eq-eqb (s .span) 0 e)))
 
-    pub asking-sheet : (s .span ≡ 0 → ⊥) → read (s .span) (s .units) (s .rules) ≡ passReply t
+    pub asking-sheet : (s .span ≡ 0 → ⊥) → read (s .span) (s .units) (s .rules) ≡ passReply h t
     unfolding passReply sheetIn
     asking-sheet e =
         let c = i .counts in
         let b = all-before in
         rw (last-asked false (ne-eqb (s .span) 0 e)) (rw (b, c .span, c .units, c .rules) refl)
 
-    pub numbers-kept : numbers ≡ sets numbers₀ 0 (loaders (sheetIn t))
+    pub numbers-kept : numbers ≡ sets numbers₀ 0 (loaders (sheetIn h t))
     unfolding sheetIn
     numbers-kept = i .in-numbers ∙ ap (λ (xs : List Content). sets numbers₀ 0 (loadersIn xs)) (sym all-before)
 
-    pub units-kept : units ≡ sets units₀ 0 (unitStream (sheetIn t .units))
+    pub units-kept : units ≡ sets units₀ 0 (unitStream (sheetIn h t .units))
     unfolding sheetIn
     units-kept = i .in-units ∙ ap (λ (xs : List Content). sets units₀ 0 (unitStream (unitsIn xs))) (sym all-before)
 
-    pub rules-kept : rules ≡ sets rules₀ 0 (ruleStream (sheetIn t .rules))
+    pub rules-kept : rules ≡ sets rules₀ 0 (ruleStream (sheetIn h t .rules))
     unfolding sheetIn
     rules-kept = i .in-rules ∙ ap (λ (xs : List Content). sets rules₀ 0 (ruleStream (rulesIn xs))) (sym all-before)
 
 -- the arrays keep their lengths
-module _ (t : List ℕ) (at n : ℕ) (s : Sheet) (numbers₀ numbers units₀ units rules₀ rules : List ℕ)
-    (i : Asking t at n s numbers₀ numbers units₀ units rules₀ rules) where
+module _ (h : House) (t : List ℕ) (at n : ℕ) (s : Sheet) (numbers₀ numbers units₀ units rules₀ rules : List ℕ)
+    (i : Asking h t at n s numbers₀ numbers units₀ units rules₀ rules) where
   pub numbers-size : length numbers ≡ length numbers₀
   numbers-size = ap length (i .in-numbers) ∙ length-sets numbers₀ 0 (loadersIn (i .before))
 

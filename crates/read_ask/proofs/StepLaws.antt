@@ -16,9 +16,10 @@ use Rattle.sheet.specs.Questions.{isSpan, isStretch, isCount}
 use Rattle.sheet.specs.declared.Sheet.{Sheet}
 use Rattle.loaders.specs.Chains.{chains}
 use Rattle.loaders.specs.ChainLaws.{linked-written}
+use Rattle.forms.specs.declared.House.{House}
 use Rattle.read_line.specs.declared.Line.{Line}
 use Rattle.read_line.specs.declared.Line.the-variants as Line
-use Rattle.read_ask.specs.Steps.{stepOf, loaderPart, unitPart, rulePart, keptBy, counted, Chained, ChainedBy}
+use Rattle.read_ask.specs.Steps.{sheetStep, ruleStep, stepOf, loaderPart, unitPart, rulePart, keptBy, counted, Chained, ChainedBy}
 use Rattle.read_ask.specs.declared.Step.{Step}
 use Rattle.read_ask.specs.declared.Step.the-variants.{No, On}
 
@@ -37,11 +38,12 @@ kept-none (No q) l i = refl
 kept-none (On s) l i = refl
 
 -- a step that was made for what the line is
-pub line-stepped : (ks : List ℕ) (s : Sheet) (line x : Line) (r : Step) (a a′ u u′ v v′ h n : List ℕ) → line ≡ x → r ≡ stepOf ks s x → ChainedBy r a′ h n
+pub line-stepped : (house : House) (ks : List ℕ) (s : Sheet) (line x : Line) (r : Step) (a a′ u u′ v v′ h n : List ℕ) → line ≡ x
+    → r ≡ stepOf house ks s x → ChainedBy r a′ h n
     → a′ ≡ keptBy r a (s .units) (loaderPart x) → u′ ≡ keptBy r u (2 * s .units) (unitPart x) → v′ ≡ keptBy r v (4 * s .rules) (rulePart x)
-    → (r ≡ stepOf ks s line) × (ChainedBy r a′ h n × ((a′ ≡ keptBy r a (s .units) (loaderPart line))
+    → (r ≡ stepOf house ks s line) × (ChainedBy r a′ h n × ((a′ ≡ keptBy r a (s .units) (loaderPart line))
     × ((u′ ≡ keptBy r u (2 * s .units) (unitPart line)) × (v′ ≡ keptBy r v (4 * s .rules) (rulePart line)))))
-line-stepped ks s line x r a a′ u u′ v v′ h n e p c q t w = rw e (p, (c, (q, (t, w))))
+line-stepped house ks s line x r a a′ u u′ v v′ h n e p c q t w = rw e (p, (c, (q, (t, w))))
 
 -- ---- the chains
 
@@ -53,18 +55,18 @@ module _ (s : Sheet) (numbers heads nexts : List ℕ) (c : Chained s numbers hea
   stay-on : (p r : ℕ) → p ≤ maxSlots → Stay (On (counted p (s .units) r))
   stay-on p r h = record { few-slots = h; few-units = c .few-units; in-numbers = c .in-numbers; in-nexts = c .in-nexts; linked = c .linked }
 
-  pub sheet-stays : (p : ℕ) (r : Step) → r ≡ stepOf [] s (Line.Sheet p) → (ks : List ℕ) → (r ≡ stepOf ks s (Line.Sheet p)) × Stay r
+  pub sheet-stays : (h : House) (ks : List ℕ) (p : ℕ) (r : Step) → r ≡ sheetStep s p → (r ≡ stepOf h ks s (Line.Sheet p)) × Stay r
   unfolding stepOf
-  sheet-stays p r e ks = (e, subst Stay (sym e) (go (eqb (s .span) 0) (isSpan p) (λ t. within-iff 1 maxSlots p .0 t .1)))
+  sheet-stays h ks p r e = (e, subst Stay (sym e) (go (eqb (s .span) 0) (isSpan p) (λ t. within-iff 1 maxSlots p .0 t .1)))
     where
       go : (t₅ t₆ : Bool) → (T t₆ → p ≤ maxSlots) → Stay (cond t₅ (cond t₆ (On (counted p (s .units) (s .rules))) (No 6)) (No 5))
       go true true h = stay-on p (s .rules) (h tt)
       go true false h = tt
       go false t₆ h = tt
 
-  pub rule-stays : (a b lo hi : ℕ) (r : Step) → r ≡ stepOf [] s (Line.Rule a b lo hi) → (ks : List ℕ) → (r ≡ stepOf ks s (Line.Rule a b lo hi)) × Stay r
+  pub rule-stays : (h : House) (ks : List ℕ) (a b lo hi : ℕ) (r : Step) → r ≡ ruleStep s a b lo hi → (r ≡ stepOf h ks s (Line.Rule a b lo hi)) × Stay r
   unfolding stepOf
-  rule-stays a b lo hi r e ks =
+  rule-stays h ks a b lo hi r e =
       (e, subst Stay (sym e) (go (not (eqb (s .span) 0)) (isStretch (s .span) a b) (isCount lo hi) (ltb (s .rules) maxRules)))
     where
       go : (t₅ t₇ t₈ t₁₀ : Bool)

@@ -15,6 +15,7 @@ use Rattle.lists.specs.Members.{both, left, right, every-both}
 use Rattle.questions.specs.Questions.{Question, ask, Verdict, no, allYes, firstNo}
 use Rattle.questions.specs.FirstNoLaws.{first-then, yes-every, yes-front, first-passes}
 use Rattle.sheet.specs.Sizes.{maxUnits, maxRules, maxBytes}
+use Rattle.forms.specs.declared.House.{House}
 use Rattle.forms.specs.Words.{lineFeed}
 use Rattle.forms.specs.Lines.{TextLine, textLine, inFront, lines}
 use Rattle.read_line.specs.Content.{Content, contentOf}
@@ -51,12 +52,12 @@ abbrev known : ℕ → ℕ → Bool
 known q n = asksText q && leb n maxBytes
 
 -- every question of the lines from n on is known
-lines-known : (n : ℕ) (before : List Content) (ls : List TextLine) → n + length ls ≤ suc maxBytes
-    → T (every (λ q. known (q .number) (q .line)) (lineQuestions n before ls))
+lines-known : (h : House) (n : ℕ) (before : List Content) (ls : List TextLine) → n + length ls ≤ suc maxBytes
+    → T (every (λ q. known (q .number) (q .line)) (lineQuestions h n before ls))
 unfolding lineQuestions
-lines-known n before [] h = tt
-lines-known n before (l ∷ ls) h =
-    rw (le-leb n maxBytes (omega arith)) (lines-known (suc n) (before ++ (contentOf (l .bytes) ∷ [])) ls (omega arith))
+lines-known h n before [] few = tt
+lines-known h n before (l ∷ ls) few =
+    rw (le-leb n maxBytes (omega arith)) (lines-known h (suc n) (before ++ (contentOf h (l .bytes) ∷ [])) ls (omega arith))
 
 -- ---- rooms for every sheet
 
@@ -68,45 +69,45 @@ all-fit u r hu hr =
     (both (a && a) ((b && b) && (b && b)) (both a a hu hu) (both (b && b) (b && b) (both b b hr hr) (both b b hr hr)))
 
 -- ---- what reading can be refused by
-module _ (text : List ℕ) (number line : ℕ) where
+module _ (h : House) (text : List ℕ) (number line : ℕ) where
   abbrev fits : Bool
-  fits = listsFit (length (sheetIn text .units)) (length (sheetIn text .rules)) roomsForAll
+  fits = listsFit (length (sheetIn h text .units)) (length (sheetIn h text .rules)) roomsForAll
 
   abbrev ends : List Question
-  ends = ask 5 0 (hasSheet (contents (lines text))) ∷ []
+  ends = ask 5 0 (hasSheet (contents h (lines text))) ∷ []
 
   is-refusable : T (known number line) → Refusable number line
-  is-refusable h =
-      record { number-known = left (asksText number) (leb line maxBytes) h; line-known = leb→le line maxBytes (right (asksText number) _ h) }
+  is-refusable k =
+      record { number-known = left (asksText number) (leb line maxBytes) k; line-known = leb→le line maxBytes (right (asksText number) _ k) }
 
   -- question 12 is not answered no
   not-rooms : (b : Bool) → T b → cond b allYes (no 12 0) ≡ no number line → ⊥
-  not-rooms true h e = let z : _≡_ {A = ℕ} 0 1 = cc in omega arith
-  not-rooms false h e = h
+  not-rooms true t e = let z : _≡_ {A = ℕ} 0 1 = cc in omega arith
+  not-rooms false t e = t
 
-  by-pass : length text ≤ maxBytes → firstNo (passQuestions text ++ (ask 12 0 fits ∷ [])) ≡ no number line → Refusable number line
+  by-pass : length text ≤ maxBytes → firstNo (passQuestions h text ++ (ask 12 0 fits ∷ [])) ≡ no number line → Refusable number line
   unfolding firstNo
-  by-pass short e = go (firstNo (passQuestions text)) refl
+  by-pass short e = go (firstNo (passQuestions h text)) refl
     where
-      all-known : T (every (λ q. known (q .number) (q .line)) (passQuestions text))
+      all-known : T (every (λ q. known (q .number) (q .line)) (passQuestions h text))
       all-known =
-          every-both (λ q. known (q .number) (q .line)) (lineQuestions 1 [] (lines text)) ends
-          (lines-known 1 [] (lines text) (omega (arith, line-count text))) tt
+          every-both (λ q. known (q .number) (q .line)) (lineQuestions h 1 [] (lines text)) ends
+          (lines-known h 1 [] (lines text) (omega (arith, line-count text))) tt
 
-      go : (v : Verdict) → firstNo (passQuestions text) ≡ v → Refusable number line
+      go : (v : Verdict) → firstNo (passQuestions h text) ≡ v → Refusable number line
       go (no q n) f =
-          let g = first-then (passQuestions text) (ask 12 0 fits ∷ []) (no q n) f in
-          is-refusable (first-passes known (passQuestions text) all-known number line (f ∙ sym g ∙ e))
+          let g = first-then (passQuestions h text) (ask 12 0 fits ∷ []) (no q n) f in
+          is-refusable (first-passes known (passQuestions h text) all-known number line (f ∙ sym g ∙ e))
       go allYes f =
-          let few = few-lines text (yes-front (lineQuestions 1 [] (lines text)) ends (yes-every (passQuestions text) f)) in
-          let g = first-then (passQuestions text) (ask 12 0 fits ∷ []) allYes f in
-          absurd (not-rooms fits (all-fit (length (sheetIn text .units)) (length (sheetIn text .rules)) (few .0) (few .1)) (sym g ∙ e))
+          let few = few-lines h text (yes-front (lineQuestions h 1 [] (lines text)) ends (yes-every (passQuestions h text) f)) in
+          let g = first-then (passQuestions h text) (ask 12 0 fits ∷ []) allYes f in
+          absurd (not-rooms fits (all-fit (length (sheetIn h text .units)) (length (sheetIn h text .rules)) (few .0) (few .1)) (sym g ∙ e))
 
-  pub reading-refusals : firstNo (questions text roomsForAll) ≡ no number line → Refusable number line
+  pub reading-refusals : firstNo (questions h text roomsForAll) ≡ no number line → Refusable number line
   unfolding questions firstNo
   reading-refusals = go (leb (length text) maxBytes) refl
     where
-      go : (b : Bool) → leb (length text) maxBytes ≡ b → cond b (firstNo (passQuestions text ++ (ask 12 0 fits ∷ []))) (no 1 0) ≡ no number line
+      go : (b : Bool) → leb (length text) maxBytes ≡ b → cond b (firstNo (passQuestions h text ++ (ask 12 0 fits ∷ []))) (no 1 0) ≡ no number line
           → Refusable number line
-      go true h e = by-pass (leb-true (length text) maxBytes h) e
-      go false h e = is-refusable (first-passes known (ask 1 0 false ∷ []) tt number line e)
+      go true t e = by-pass (leb-true (length text) maxBytes t) e
+      go false t e = is-refusable (first-passes known (ask 1 0 false ∷ []) tt number line e)

@@ -9,7 +9,6 @@ use native.Mathlib.Nat.{mul-zero, mul-suc}
 use lib.ListN.{length, take, length-append}
 use lib.Seq.{sets, sets-eq, take-at}
 use Rattle.lists.specs.Lists.{joined}
-use Rattle.forms.specs.Form.{value}
 use Rattle.lists.specs.Members.{false-not-true}
 use Rattle.read_line.specs.Content.{Content, note, sheet, unit, rule, other}
 use Rattle.read_ask.specs.Reading.{isSheet, hasSheet, spanElse, spanIn, unitOf, unitsIn, loadersIn, ruleOf, rulesIn}
@@ -54,11 +53,11 @@ unfolding spanIn
 spanIn-same [] x h = h 0
 spanIn-same (y ∷ ys) x h = ap (spanElse y) (spanIn-same ys x h)
 
-pub spanIn-first : (xs : List Content) (p : List ℕ) → hasSheet xs ≡ false → spanIn (xs ++ (sheet p ∷ [])) ≡ value p
+pub spanIn-first : (xs : List Content) (es : List (List ℕ)) (p : ℕ) → hasSheet xs ≡ false → spanIn (xs ++ (sheet es p ∷ [])) ≡ p
 unfolding spanIn hasSheet
-spanIn-first [] p h = refl
-spanIn-first (note ∷ ys) p h = spanIn-first ys p h
-spanIn-first (sheet q ∷ ys) p h = false-not-true (sym h)
-spanIn-first (unit k f l ∷ ys) p h = spanIn-first ys p h
-spanIn-first (rule a b lo hi ∷ ys) p h = spanIn-first ys p h
-spanIn-first (other ∷ ys) p h = spanIn-first ys p h
+spanIn-first [] es p h = refl
+spanIn-first (note ∷ ys) es p h = spanIn-first ys es p h
+spanIn-first (sheet ds q ∷ ys) es p h = false-not-true (sym h)
+spanIn-first (unit ds k f l ∷ ys) es p h = spanIn-first ys es p h
+spanIn-first (rule ds a b lo hi ∷ ys) es p h = spanIn-first ys es p h
+spanIn-first (other ∷ ys) es p h = spanIn-first ys es p h

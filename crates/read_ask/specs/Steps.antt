@@ -10,12 +10,13 @@ use Rattle.lists.specs.Lists.{joined}
 use Rattle.questions.specs.Questions.{firstNo}
 use Rattle.sheet.specs.Sizes.{maxSlots, maxUnits, maxRules}
 use Rattle.sheet.specs.Sheet.{SheetUnit, Rule, loaders}
-use Rattle.sheet.specs.Questions.{isSpan, isStretch, isWindow, isCount, isNew}
+use Rattle.sheet.specs.Questions.{isSpan, rising, isStretch, isCount, isNew}
 use Rattle.sheet.specs.declared.Sheet.{Sheet}
 use Rattle.loaders.specs.Chains.{Linked}
+use Rattle.forms.specs.declared.House.{House}
 use Rattle.read_line.specs.declared.Line.{Line}
 use Rattle.read_line.specs.declared.Line.the-variants as Line
-use Rattle.read_ask.specs.Reading.{sheetIn, passQuestions, Reply, concluded}
+use Rattle.read_ask.specs.Reading.{lastPlace, sheetIn, passQuestions, Reply, concluded}
 use Rattle.read_ask.specs.declared.Step.{Step}
 use Rattle.read_ask.specs.declared.Step.the-variants.{No, On}
 use Rattle.read_ask.specs.declared.Reading.{Reading}
@@ -27,18 +28,28 @@ use Rattle.read_ask.specs.declared.Reading.the-variants as Reading
 abbrev pub counted : ℕ → ℕ → ℕ → Sheet
 counted p u r = record { span = p; units = u; rules = r }
 
--- questions 5 to 10 and 16, in their order, after units with these loader numbers, which only a unit line is asked about
-unfoldable pub stepOf : List ℕ → Sheet → Line → Step
-stepOf ks s (Line.Refused q) = No q
-stepOf ks s Line.Note = On s
-stepOf ks s (Line.Sheet p) =
-    cond (eqb (s .span) 0) (cond (isSpan p) (On (counted p (s .units) (s .rules))) (No 6)) (No 5)
-stepOf ks s (Line.Unit k f l) =
-    cond (not (eqb (s .span) 0)) (cond (isWindow (s .span) f l) (cond (isNew ks k)
+-- 5 and 6
+abbrev pub sheetStep : Sheet → ℕ → Step
+sheetStep s p = cond (eqb (s .span) 0) (cond (isSpan p) (On (counted p (s .units) (s .rules))) (No 6)) (No 5)
+
+-- 5, 7, 16 and 9, after units with these loader numbers
+abbrev pub unitStep : House → List ℕ → Sheet → ℕ → ℕ → ℕ → Step
+unitStep h ks s k f l =
+    cond (not (eqb (s .span) 0)) (cond (rising 1 (s .span) (lastPlace h (s .span)) f l) (cond (isNew ks k)
     (cond (ltb (s .units) maxUnits) (On (counted (s .span) (s .units + 1) (s .rules))) (No 9)) (No 16)) (No 7)) (No 5)
-stepOf ks s (Line.Rule a b lo hi) =
+
+-- 5, 7, 8 and 10
+abbrev pub ruleStep : Sheet → ℕ → ℕ → ℕ → ℕ → Step
+ruleStep s a b lo hi =
     cond (not (eqb (s .span) 0)) (cond (isStretch (s .span) a b) (cond (isCount lo hi)
     (cond (ltb (s .rules) maxRules) (On (counted (s .span) (s .units) (s .rules + 1))) (No 10)) (No 8)) (No 7)) (No 5)
+
+unfoldable pub stepOf : House → List ℕ → Sheet → Line → Step
+stepOf h ks s (Line.Refused q) = No q
+stepOf h ks s Line.Note = On s
+stepOf h ks s (Line.Sheet p) = sheetStep s p
+stepOf h ks s (Line.Unit k f l) = unitStep h ks s k f l
+stepOf h ks s (Line.Rule a b lo hi) = ruleStep s a b lo hi
 
 -- ---- the numbers of the units and rules so far, one after the other: the loader numbers in one array, the windows and the rules in two more
 
@@ -98,17 +109,17 @@ ChainedBy (On s) numbers heads nexts = Chained s numbers heads nexts
 
 -- ---- the pass over the text: all questions but 1 and 12, and what the arrays then hold
 
-unfoldable pub passReply : List ℕ → Reply
-passReply text = concluded (firstNo (passQuestions text)) (sheetIn text)
+unfoldable pub passReply : House → List ℕ → Reply
+passReply h text = concluded (firstNo (passQuestions h text)) (sheetIn h text)
 
 -- of a sheet that was read: its numbers stand at the front of the arrays
-pub record KeptNumbers (s : Sheet) (text numbers numbers′ units units′ rules rules′ : List ℕ) : Type 0 where
+pub record KeptNumbers (h : House) (s : Sheet) (text numbers numbers′ units units′ rules rules′ : List ℕ) : Type 0 where
   pub few-units : s .units ≤ maxUnits
   pub few-rules : s .rules ≤ maxRules
-  pub in-numbers : numbers′ ≡ sets numbers 0 (loaders (sheetIn text))
-  pub in-units : units′ ≡ sets units 0 (unitStream (sheetIn text .units))
-  pub in-rules : rules′ ≡ sets rules 0 (ruleStream (sheetIn text .rules))
+  pub in-numbers : numbers′ ≡ sets numbers 0 (loaders (sheetIn h text))
+  pub in-units : units′ ≡ sets units 0 (unitStream (sheetIn h text .units))
+  pub in-rules : rules′ ≡ sets rules 0 (ruleStream (sheetIn h text .rules))
 
-abbrev pub Kept : Reading → List ℕ → List ℕ → List ℕ → List ℕ → List ℕ → List ℕ → List ℕ → Type 0
-Kept (Reading.Refused f) text numbers numbers′ units units′ rules rules′ = Unit {0}
-Kept (Reading.Sheet s) text numbers numbers′ units units′ rules rules′ = KeptNumbers s text numbers numbers′ units units′ rules rules′
+abbrev pub Kept : House → Reading → List ℕ → List ℕ → List ℕ → List ℕ → List ℕ → List ℕ → List ℕ → Type 0
+Kept h (Reading.Refused f) text numbers numbers′ units units′ rules rules′ = Unit {0}
+Kept h (Reading.Sheet s) text numbers numbers′ units units′ rules rules′ = KeptNumbers h s text numbers numbers′ units units′ rules rules′

@@ -3,10 +3,14 @@ ghost use mathlib.Core.List.{[], _∷_};
 ghost use Prim.Native.Nat.{_*_, _≤_};
 ghost use lib.ListN.{length, take};
 ghost use Rattle.sheet.specs.Sizes.{maxSlots, maxUnits, maxRules};
-ghost use Rattle.sheet.specs.Questions.{isStretch, isWindow, isCount};
-ghost use Rattle.read_ask.specs.Reading.{replyOf};
-ghost use Rattle.read_ask.specs.Steps.{stepOf, loaderPart, unitPart, rulePart, keptBy, Chained, ChainedBy, passReply, Kept};
+ghost use Rattle.sheet.specs.Questions.{isStretch, rising, isCount};
+ghost use Rattle.read_form.specs.Grid.{grid};
+ghost use Rattle.read_ask.specs.Reading.{lastPlace, replyOf};
+ghost use Rattle.read_ask.specs.Steps.{sheetStep, unitStep, ruleStep, stepOf, loaderPart, unitPart, rulePart, keptBy};
+ghost use Rattle.read_ask.specs.Steps.{Chained, ChainedBy, passReply, Kept};
+use forms::House;
 use questions::Refusal;
+use read_form::Grid;
 use read_line::Line;
 use sheet::Sheet;
 
@@ -21,13 +25,24 @@ pub enum Step {
     On(Sheet),
 }
 
-// Question 7 of a window, which may end in the carried place.
-fn is_window(span: usize, first: u16, last: u16) -> bool
+// The last place that a window may end in: ours may be carried over into the next wave, a partner's job may not.
+fn last_place(house: House, span: usize) -> usize
     requires { ⌜ span ≤ maxSlots ⌝ }
-    ensures { λ r. ⌜ r ≡ isWindow span first last ⌝ }
+    ensures { λ r. ⌜ r ≡ lastPlace house span ⌝ }
 {
-    let carried = sheet::carried_place(span);
-    sheet::rises(1, span, carried, first as usize, last as usize)
+    match house {
+        House::Ours => sheet::carried_place(span),
+        House::Partner => span,
+    }
+}
+
+// Question 7 of a window.
+fn is_window(house: House, span: usize, first: u16, last: u16) -> bool
+    requires { ⌜ span ≤ maxSlots ⌝ }
+    ensures { λ r. ⌜ r ≡ rising 1 span (lastPlace house span) first last ⌝ }
+{
+    let most = last_place(house, span);
+    sheet::rises(1, span, most, first as usize, last as usize)
 }
 
 // Question 7 of a rule's stretch.
@@ -47,7 +62,7 @@ fn is_count(low: u16, high: u16) -> bool
 
 // Questions 5 and 6.
 fn sheet_step(s: Sheet, span: u16) -> Step
-    ensures { λ r. ⌜ r ≡ stepOf [] s (Line.Sheet span) ⌝ }
+    ensures { λ r. ⌜ r ≡ sheetStep s span ⌝ }
 {
     if s.span != 0 {
         return Step::No(5);
@@ -65,6 +80,7 @@ fn sheet_step(s: Sheet, span: u16) -> Step
 
 // Questions 5, 7, 16 and 9; a unit that passes is kept, and its loader number is found from then on.
 fn unit_step(
+    house: House,
     s: Sheet,
     loader: u16,
     first: u16,
@@ -75,7 +91,7 @@ fn unit_step(
     nexts: &mut [u16],
 ) -> Step
     requires { ⌜ Chained s (now numbers) (now heads) (now nexts) × (2 * maxUnits ≤ length (now units)) ⌝ }
-    ensures { λ r. ⌜ r ≡ stepOf (take (s .units) (now (numbers .entry))) s (Line.Unit loader first last) ⌝ }
+    ensures { λ r. ⌜ r ≡ unitStep house (take (s .units) (now (numbers .entry))) s loader first last ⌝ }
     ensures { λ r. ⌜ ChainedBy r (now (numbers .exit)) (now (heads .exit)) (now (nexts .exit)) ⌝ }
     ensures { λ r. ⌜ now (numbers .exit) ≡ keptBy r (now (numbers .entry)) (s .units) (loader ∷ []) ⌝ }
     ensures { λ r. ⌜ now (units .exit) ≡ keptBy r (now (units .entry)) (2 * s .units) (first ∷ last ∷ []) ⌝ }
@@ -84,7 +100,7 @@ fn unit_step(
     if s.span == 0 {
         return Step::No(5);
     }
-    if !is_window(s.span, first, last) {
+    if !is_window(house, s.span, first, last) {
         return Step::No(7);
     }
     if !loaders::is_new(numbers, n, heads, nexts, loader) {
@@ -108,7 +124,7 @@ fn unit_step(
 // Questions 5, 7, 8 and 10; a rule that passes is kept.
 fn rule_step(s: Sheet, from: u16, to: u16, low: u16, high: u16, rules: &mut [u16]) -> Step
     requires { ⌜ 4 * maxRules ≤ length (now rules) ⌝ }
-    ensures { λ r. ⌜ r ≡ stepOf [] s (Line.Rule from to low high) ⌝ }
+    ensures { λ r. ⌜ r ≡ ruleStep s from to low high ⌝ }
     ensures { λ r. ⌜ now (rules .exit) ≡ keptBy r (now (rules .entry)) (4 * s .rules) (from ∷ to ∷ low ∷ high ∷ []) ⌝ }
 {
     let n = s.rules;
@@ -138,6 +154,7 @@ fn rule_step(s: Sheet, from: u16, to: u16, low: u16, high: u16, rules: &mut [u16
 
 // A line after those of a sheet: questions 5 to 10 and 16, and its numbers into the arrays.
 fn line_step(
+    house: House,
     s: Sheet,
     line: Line,
     numbers: &mut [u16],
@@ -147,7 +164,7 @@ fn line_step(
     nexts: &mut [u16],
 ) -> Step
     requires { ⌜ Chained s (now numbers) (now heads) (now nexts) × (2 * maxUnits ≤ length (now units)) × (4 * maxRules ≤ length (now rules)) ⌝ }
-    ensures { λ r. ⌜ r ≡ stepOf (take (s .units) (now (numbers .entry))) s line ⌝ }
+    ensures { λ r. ⌜ r ≡ stepOf house (take (s .units) (now (numbers .entry))) s line ⌝ }
     ensures { λ r. ⌜ ChainedBy r (now (numbers .exit)) (now (heads .exit)) (now (nexts .exit)) ⌝ }
     ensures { λ r. ⌜ now (numbers .exit) ≡ keptBy r (now (numbers .entry)) (s .units) (loaderPart line) ⌝ }
     ensures { λ r. ⌜ now (units .exit) ≡ keptBy r (now (units .entry)) (2 * s .units) (unitPart line) ⌝ }
@@ -158,30 +175,57 @@ fn line_step(
         Line::Note => Step::On(s),
         Line::Sheet(span) => sheet_step(s, span),
         Line::Unit(loader, first, last) => {
-            unit_step(s, loader, first, last, numbers, units, heads, nexts)
+            unit_step(house, s, loader, first, last, numbers, units, heads, nexts)
         }
         Line::Rule(from, to, low, high) => rule_step(s, from, to, low, high, rules),
     }
 }
 
-// The pass over the text: every question but 1 and 12. The loader numbers and the numbers of windows and rules go into the arrays.
-pub fn ask_text(text: &[u8], numbers: &mut [u16], units: &mut [u16], rules: &mut [u16]) -> Reading
+// The form reader's table of a house.
+fn grid_of(house: House) -> Grid
+    ensures { λ r. ⌜ r ≡ grid house ⌝ }
+{
+    match house {
+        House::Ours => grid_ours::table(),
+        House::Partner => grid_partner::table(),
+    }
+}
+
+// The pass over the text: every question but 1 and 12. The loader numbers and the numbers of windows and rules go into the arrays. Only the lines up to the
+// last line feed can be passed; bytes past it are a line that is refused.
+pub fn ask_text(
+    house: House,
+    text: &[u8],
+    numbers: &mut [u16],
+    units: &mut [u16],
+    rules: &mut [u16],
+) -> Reading
     requires { ⌜ (maxUnits ≤ length (now numbers)) × (2 * maxUnits ≤ length (now units)) × (4 * maxRules ≤ length (now rules)) ⌝ }
-    ensures { λ r. ⌜ replyOf r ≡ passReply (now (text .entry)) ⌝ }
-    ensures { λ r. ⌜ Kept r (now (text .entry)) (now (numbers .entry)) (now (numbers .exit)) (now (units .entry)) (now (units .exit))
+    ensures { λ r. ⌜ replyOf r ≡ passReply house (now (text .entry)) ⌝ }
+    ensures { λ r. ⌜ Kept house r (now (text .entry)) (now (numbers .entry)) (now (numbers .exit)) (now (units .entry)) (now (units .exit))
         (now (rules .entry)) (now (rules .exit)) ⌝ }
 {
-    let grid = read_form::grid_table();
+    let grid = grid_of(house);
     let table = read_form::class_table();
+    let whole = read_line::lines_end(text);
     let mut heads = [0u16; loaders::CHAINS];
     let mut nexts = [0u16; Sheet::MAX_UNITS];
     let mut s = Sheet::empty();
     let mut at: usize = 0;
     let mut n: usize = 1;
-    while at < text.len() {
-        let found = read_line::line_at(text, at, &grid, &table);
+    while at < whole {
+        let found = read_line::line_at(house, text, at, &grid, &table);
         let line = found.line;
-        let step = line_step(s, line, numbers, units, rules, &mut heads, &mut nexts);
+        let step = line_step(
+            house,
+            s,
+            line,
+            numbers,
+            units,
+            rules,
+            &mut heads,
+            &mut nexts,
+        );
         match step {
             Step::No(q) => {
                 return Reading::Refused(Refusal { number: q, line: n });
@@ -192,6 +236,10 @@ pub fn ask_text(text: &[u8], numbers: &mut [u16], units: &mut [u16], rules: &mut
         }
         at = found.next;
         n += 1;
+    }
+    if at < text.len() {
+        let q = read_line::last_line(house, text, at, &grid, &table);
+        return Reading::Refused(Refusal { number: q, line: n });
     }
     if s.span == 0 {
         return Reading::Refused(Refusal { number: 5, line: 0 });

@@ -1,25 +1,29 @@
--- The grid reads the forms: `grid-reads`, that the state after a line tells what the line is.
--- Key idea: what a line is, is the same read from a state as read past its first byte from the state that follows (`follows-law`). A byte and the
+-- The grid reads the forms: `grid-reads`, that the state past a line's feed is the code of what the line is.
+-- Key idea: what a line is, is the same read from a state as read past its first byte from the state that follows (`in-line-law`). A byte and the
 -- byte that stands for its class lead to the same state (`follows-same`). It is left that every state that follows over such a byte has a number: one
--- test over all states and classes, which is computed (`numbered`).
-use Prim.Native.Nat.{ℕ, zero, suc, _<_}
+-- test over all states and classes, which is computed for each house (`numbered`).
+use Prim.Native.Nat.{ℕ, zero, suc, _-_, _<_, _≤_}
 use mathlib.Core.Path.{_≡_, refl, sym, ap, ap₂, subst, _∙_}
 use mathlib.Core.Bool.{Bool, true, false, _&&_, _||_, not, cond, and-assoc}
 use mathlib.Core.List.{List, [], _∷_, _++_, map}
 use native.Mathlib.Omega.{arith}
-use lib.ListN.{length, getD, drop}
+use lib.ListN.{length, getD, drop, length-drop}
+use lib.Seq.{getD-drop}
 use lib.Dec.{T, eqb, eqb→eq, ltb→lt}
 use borrow.Author.Tests.{ne-eqb}
 use Rattle.lists.specs.Lists.{every, consIf}
-use Rattle.lists.specs.Members.{left, right, every-at}
-use Rattle.forms.specs.Words.{zeroDigit, text}
-use Rattle.forms.specs.Form.{isPrintable, isDigit, printable, some, leading, past, Piece, word, number, startsWith, matches}
-use Rattle.read_form.specs.Kinds.{Shape, shapes, firstShape, kindOf}
-use Rattle.read_form.specs.Grid.{Sign, byte, digit, more, signs, fits, Way, way, firstOf, goOn, over, State, unprintable, going, follows}
-use Rattle.read_form.specs.Grid.{kindFrom, startWays, code, signCode, sameAll, sameKind, sameSign, sameWay, sameState, memberBy, placeIn, states}
-use Rattle.read_form.specs.Grid.{start, placeOf, stateAt, kindAt, otherByte, classBytes, standIn, classOf, grid, nextOf, runOf}
+use Rattle.lists.specs.Members.{left, right, and-left, and-right, every-at}
+use Rattle.forms.specs.Words.{lineFeed, zeroDigit, text}
+use Rattle.forms.specs.Form.{isPrintable, isDigit, printable, some, leading, past, Piece, word, number, anyBytes, startsWith, matches}
+use Rattle.forms.specs.declared.House.{House}
+use Rattle.forms.specs.declared.House.the-variants.{Ours, Partner}
+use Rattle.read_form.specs.Kinds.{Shape, shapesOf, firstShape, kindOf}
+use Rattle.read_form.specs.Grid.{Sign, byte, digit, more, free, signs, fits, Way, way, firstOf, goOn, over, State, ended, unprintable, going}
+use Rattle.read_form.specs.Grid.{kindFrom, inLine, follows, startWays, code, kindOfCode, signCode, sameAll, sameKind, sameSign, sameWay, sameState}
+use Rattle.read_form.specs.Grid.{memberBy, placeIn, stateCount, ends, states, start, placeOf, stateAt, otherByte, classCount, classBytes, standIn}
+use Rattle.read_form.specs.Grid.{classOf, grid, nextOf, runOf}
 use Rattle.read_form.specs.declared.Kind.{Kind}
-use Rattle.read_form.specs.declared.Kind.the-variants.{Unprintable, Sheet, Unit, Rule, Other}
+use Rattle.read_form.specs.declared.Kind.the-variants.{Unprintable, Note, Sheet, Unit, Rule, Other}
 
 -- ---- forms, sign by sign
 
@@ -30,7 +34,7 @@ word-fits (x ∷ w) t [] = refl
 word-fits (x ∷ w) t (b ∷ l) =
     ap (λ (v : Bool). eqb x b && v) (word-fits w t l) ∙ sym (and-assoc (eqb x b) (startsWith w l) (fits t (drop (length w) l)))
 
-signs-fit : (f : List Piece) (l : List ℕ) → fits (signs f) l ≡ matches f l
+pub signs-fit : (f : List Piece) (l : List ℕ) → fits (signs f) l ≡ matches f l
 unfolding fits matches leading past
 signs-fit [] l = refl
 signs-fit (word w ∷ f) l = word-fits w (signs f) l ∙ ap (λ (v : Bool). startsWith w l && v) (signs-fit f (drop (length w) l))
@@ -41,6 +45,7 @@ signs-fit (number ∷ f) (b ∷ l) = go (isDigit b) (signs-fit f (past l))
         → (d && fits (signs f) (past l)) ≡ (some (cond d (b ∷ leading l) []) && matches f (cond d (past l) (b ∷ l)))
     go true e = e
     go false e = refl
+signs-fit (anyBytes ∷ f) l = refl
 
 -- ---- what a line is, from a state on
 
@@ -60,16 +65,18 @@ goOn-law k (more ∷ t) b l ws = go (isDigit b) (goOn-law k t b l ws)
         → firstOf (cond d (way k (more ∷ t) ∷ ws) (goOn k t b ws)) l ≡ cond (fits t (cond d (past l) (b ∷ l))) k (firstOf ws l)
     go true e = refl
     go false e = e
+goOn-law k (free ∷ t) b l ws = refl
 
 over-law : (ws : List Way) (b : ℕ) (l : List ℕ) → firstOf (over ws b) l ≡ firstOf ws (b ∷ l)
 unfolding firstOf over
 over-law [] b l = refl
 over-law (way k t ∷ ws) b l = goOn-law k t b l (over ws b) ∙ ap (cond (fits t (b ∷ l)) k) (over-law ws b l)
 
-follows-law : (s : State) (b : ℕ) (l : List ℕ) → kindFrom (follows s b) l ≡ kindFrom s (b ∷ l)
+in-line-law : (s : State) (b : ℕ) (l : List ℕ) → kindFrom (inLine s b) l ≡ kindFrom s (b ∷ l)
 unfolding printable
-follows-law unprintable b l = refl
-follows-law (going ws) b l = go (isPrintable b)
+in-line-law (ended k) b l = refl
+in-line-law unprintable b l = refl
+in-line-law (going ws) b l = go (isPrintable b)
   where
     go : (p : Bool) → kindFrom (cond p (going (over ws b)) unprintable) l ≡ cond (p && printable l) (firstOf ws (b ∷ l)) Unprintable
     go true = ap (λ (k : Kind). cond (printable l) k Unprintable) (over-law ws b l)
@@ -93,15 +100,22 @@ apart : (f : ℕ → Bool) (x b : ℕ) → f x ≡ false → f b ≡ true → eq
 apart f x b n y = ne-eqb x b (λ e. subst T (sym (sym n ∙ ap f e ∙ y)) tt)
 
 module _ (b : ℕ) where
-  stands-printable : isPrintable (standIn b) ≡ isPrintable b
+  -- printable, and the line feed, as what stands for it
+  stands-alike : (isPrintable (standIn b) ≡ isPrintable b) × (eqb (standIn b) lineFeed ≡ eqb b lineFeed)
   unfolding standIn
-  stands-printable = go (isPrintable b) (isDigit b) (memberBy eqb classBytes b) refl
+  stands-alike = go (isPrintable b) (isDigit b) (memberBy eqb classBytes b) (eqb b lineFeed) refl refl refl
     where
-      go : (p d m : Bool) → isPrintable b ≡ p → isPrintable (cond p (cond d zeroDigit (cond m b otherByte)) 0) ≡ isPrintable b
-      go false d m e = sym e
-      go true true m e = sym e
-      go true false true e = refl
-      go true false false e = sym e
+      no-feed : isPrintable b ≡ true → false ≡ eqb b lineFeed
+      no-feed p = sym (apart (λ x. not (isPrintable x)) b lineFeed (ap not p) refl)
+
+      go : (p d m f : Bool) → isPrintable b ≡ p → isDigit b ≡ d → eqb b lineFeed ≡ f
+          → (isPrintable (cond p (cond d zeroDigit (cond m b otherByte)) (cond f lineFeed 0)) ≡ isPrintable b)
+          × (eqb (cond p (cond d zeroDigit (cond m b otherByte)) (cond f lineFeed 0)) lineFeed ≡ eqb b lineFeed)
+      go false d m true p e f = (sym p, sym f)
+      go false d m false p e f = (sym p, sym f)
+      go true true m f p e g = (sym p, no-feed p)
+      go true false true f p e g = (refl, refl)
+      go true false false f p e g = (sym p, no-feed p)
 
   -- the same to every sign
   stands-same : isPrintable b ≡ true → (isDigit (standIn b) ≡ isDigit b) × ((x : ℕ) → T (shown x) → eqb x (standIn b) ≡ eqb x b)
@@ -127,11 +141,13 @@ firstShown [] = true
 firstShown (byte x ∷ t) = shown x
 firstShown (digit ∷ t) = true
 firstShown (more ∷ t) = firstShown t
+firstShown (free ∷ t) = true
 
 abbrev wayShown : Way → Bool
 wayShown (way k t) = firstShown t
 
 abbrev stateShown : State → Bool
+stateShown (ended k) = true
 stateShown unprintable = true
 stateShown (going ws) = every wayShown ws
 
@@ -142,6 +158,7 @@ module _ (b : ℕ) (p : isPrintable b ≡ true) where
   goOn-same k (digit ∷ t) ws h = ap (λ (e : Bool). consIf e (way k t) ws) (stands-same b p .0)
   goOn-same k (more ∷ t) ws h =
       ap₂ (λ (e : Bool) (us : List Way). cond e (way k (more ∷ t) ∷ ws) us) (stands-same b p .0) (goOn-same k t ws h)
+  goOn-same k (free ∷ t) ws h = refl
 
   over-same : (ws : List Way) → T (every wayShown ws) → over ws (standIn b) ≡ over ws b
   unfolding over
@@ -150,14 +167,18 @@ module _ (b : ℕ) (p : isPrintable b ≡ true) where
       goOn-same k t (over ws (standIn b)) (left (firstShown t) (every wayShown ws) h)
       ∙ ap (goOn k t b) (over-same ws (right (firstShown t) (every wayShown ws) h))
 
-follows-same : (s : State) → T (stateShown s) → (b : ℕ) → follows s (standIn b) ≡ follows s b
-follows-same unprintable h b = refl
-follows-same (going ws) h b =
-    ap (λ (p : Bool). cond p (going (over ws (standIn b))) unprintable) (stands-printable b) ∙ go (isPrintable b) refl
+in-line-same : (s : State) → T (stateShown s) → (b : ℕ) → inLine s (standIn b) ≡ inLine s b
+in-line-same (ended k) h b = refl
+in-line-same unprintable h b = refl
+in-line-same (going ws) h b =
+    ap (λ (p : Bool). cond p (going (over ws (standIn b))) unprintable) (stands-alike b .0) ∙ go (isPrintable b) refl
   where
     go : (p : Bool) → isPrintable b ≡ p → cond p (going (over ws (standIn b))) unprintable ≡ cond p (going (over ws b)) unprintable
     go true e = ap going (over-same b e ws h)
     go false e = refl
+
+follows-same : (s : State) → T (stateShown s) → (b : ℕ) → follows s (standIn b) ≡ follows s b
+follows-same s h b = ap₂ (λ (f : Bool) (r : State). cond f (ended (kindFrom s [])) r) (stands-alike b .1) (in-line-same s h b)
 
 -- ---- what has a place in a list is found there
 
@@ -190,21 +211,23 @@ module _ {A : Type 0} (same : A → A → Bool) (equal : (x y : A) → T (same x
 
 stands-in : (b : ℕ) → T (memberBy eqb classBytes (standIn b))
 unfolding standIn classBytes text
-stands-in b = go (isPrintable b) (isDigit b) (memberBy eqb classBytes b) refl
+stands-in b = go (isPrintable b) (isDigit b) (memberBy eqb classBytes b) (eqb b lineFeed) refl
   where
-    go : (p d m : Bool) → memberBy eqb classBytes b ≡ m → T (memberBy eqb classBytes (cond p (cond d zeroDigit (cond m b otherByte)) 0))
-    go false d m e = tt
-    go true true m e = tt
-    go true false true e = subst T (sym e) tt
-    go true false false e = tt
+    go : (p d m f : Bool) → memberBy eqb classBytes b ≡ m
+        → T (memberBy eqb classBytes (cond p (cond d zeroDigit (cond m b otherByte)) (cond f lineFeed 0)))
+    go false d m true e = tt
+    go false d m false e = tt
+    go true true m f e = tt
+    go true false true f e = subst T (sym e) tt
+    go true false false f e = tt
 
-pub class-small : (b : ℕ) → classOf b < length classBytes
-unfolding classOf
-class-small b = place-inside eqb eqb→eq classBytes (standIn b) (stands-in b)
-
-pub few-classes : length classBytes < 256
+class-bytes : length classBytes ≡ classCount
 unfolding classBytes text
-few-classes = ltb→lt (length classBytes) 256 tt
+class-bytes = refl
+
+pub class-small : (b : ℕ) → classOf b < classCount
+unfolding classOf
+class-small b = subst (λ n. classOf b < n) class-bytes (place-inside eqb eqb→eq classBytes (standIn b) (stands-in b))
 
 class-byte : (b : ℕ) → getD classBytes (classOf b) 0 ≡ standIn b
 unfolding classOf
@@ -215,15 +238,21 @@ class-byte b = placed eqb eqb→eq classBytes (standIn b) 0 (stands-in b)
 coded : {A : Type 0} (toCode : A → ℕ) (ofCode : ℕ → A) → ((x : A) → ofCode (toCode x) ≡ x) → (x y : A) → T (eqb (toCode x) (toCode y)) → x ≡ y
 coded toCode ofCode back x y h = sym (back x) ∙ ap ofCode (eqb→eq (toCode x) (toCode y) h) ∙ back y
 
-abbrev kindOfCode : ℕ → Kind
-kindOfCode n = cond (eqb n 0) Unprintable (cond (eqb n 1) Sheet (cond (eqb n 2) Unit (cond (eqb n 3) Rule Other)))
-
-kind-back : (k : Kind) → kindOfCode (code k) ≡ k
+pub kind-back : (k : Kind) → kindOfCode (code k) ≡ k
 kind-back Unprintable = refl
+kind-back Note = refl
 kind-back Sheet = refl
 kind-back Unit = refl
 kind-back Rule = refl
 kind-back Other = refl
+
+code-small : (k : Kind) → code k < ends
+code-small Unprintable = omega arith
+code-small Note = omega arith
+code-small Sheet = omega arith
+code-small Unit = omega arith
+code-small Rule = omega arith
+code-small Other = omega arith
 
 pub same-kind : (j k : Kind) → T (sameKind j k) → j ≡ k
 same-kind j k h = coded code kindOfCode kind-back j k h
@@ -231,11 +260,13 @@ same-kind j k h = coded code kindOfCode kind-back j k h
 abbrev signOfCode : ℕ → Sign
 signOfCode zero = digit
 signOfCode (suc zero) = more
-signOfCode (suc (suc x)) = byte x
+signOfCode (suc (suc zero)) = free
+signOfCode (suc (suc (suc x))) = byte x
 
 sign-back : (s : Sign) → signOfCode (signCode s) ≡ s
 sign-back digit = refl
 sign-back more = refl
+sign-back free = refl
 sign-back (byte x) = refl
 
 same-way : (v w : Way) → T (sameWay v w) → v ≡ w
@@ -244,70 +275,170 @@ same-way (way j t) (way k u) h =
     (same-all sameSign (coded signCode signOfCode sign-back) t u (right (sameKind j k) (sameAll sameSign t u) h))
 
 same-state : (r s : State) → T (sameState r s) → r ≡ s
+same-state (ended j) (ended k) h = ap ended (same-kind j k h)
+same-state (ended j) unprintable h = absurd h
+same-state (ended j) (going ws) h = absurd h
+same-state unprintable (ended k) h = absurd h
 same-state unprintable unprintable h = refl
 same-state unprintable (going ws) h = absurd h
+same-state (going vs) (ended k) h = absurd h
 same-state (going vs) unprintable h = absurd h
 same-state (going vs) (going ws) h = ap going (same-all sameWay same-way vs ws h)
 
 -- ---- the grid follows the states
 
 -- what a state looks at has a class of its own, and every state that follows has a number
-abbrev tested : State → Bool
-tested s = stateShown s && every (λ b. memberBy sameState states (follows s b)) classBytes
+abbrev tested : House → State → Bool
+tested h s = stateShown s && every (λ b. memberBy sameState (states h) (follows s b)) classBytes
 
-numbered : T (every tested states)
-unfolding states over classBytes text
-numbered = tt
+numbered : (h : House) → T (every (tested h) (states h))
+unfolding states over classBytes text printable firstOf fits past
+numbered Ours = tt
+numbered Partner = tt
+
+pub states-length : (h : House) → length (states h) ≡ stateCount
+unfolding states over text
+states-length Ours = refl
+states-length Partner = refl
 
 at-map : {A B : Type 0} (f : A → B) (xs : List A) (i : ℕ) (d : A) (e : B) → i < length xs → getD (map f xs) i e ≡ f (getD xs i d)
 at-map f [] i d e h = absurd (omega arith)
 at-map f (x ∷ xs) zero d e h = refl
 at-map f (x ∷ xs) (suc i) d e h = at-map f xs i d e (omega arith)
 
-abbrev following : ℕ → ℕ → State
-following q c = follows (stateAt q) (getD classBytes c 0)
+-- ---- the states of a line that has not ended
 
-module _ (q : ℕ) (hq : q < length states) where
-  state-tested : T (tested (stateAt q))
-  state-tested = every-at tested (going []) states numbered q hq
+abbrev goesOn : State → Bool
+goesOn (ended k) = false
+goesOn unprintable = true
+goesOn (going ws) = true
 
-  module _ (c : ℕ) (hc : c < length classBytes) where
-    next-is : nextOf q c ≡ placeOf (following q c)
+-- the first numbers are those of the ended states
+open-states : (h : House) → T (every goesOn (drop ends (states h)))
+unfolding states over text
+open-states Ours = tt
+open-states Partner = tt
+
+ended-place : (h : House) (k : Kind) → placeOf h (ended k) ≡ code k
+unfolding states
+ended-place h Unprintable = refl
+ended-place h Note = refl
+ended-place h Sheet = refl
+ended-place h Unit = refl
+ended-place h Rule = refl
+ended-place h Other = refl
+
+open-place : (h : House) (s : State) → T (goesOn s) → ends ≤ placeOf h s
+unfolding states
+open-place h (ended k) t = absurd t
+open-place h unprintable t = omega arith
+open-place h (going ws) t = omega arith
+
+open-follows : (s : State) (b : ℕ) → T (goesOn s) → eqb b lineFeed ≡ false → T (goesOn (follows s b))
+open-follows (ended k) b t e = absurd t
+open-follows unprintable b t e = rw e tt
+open-follows (going ws) b t e = rw e (go (isPrintable b))
+  where
+    go : (p : Bool) → T (goesOn (cond p (going (over ws b)) unprintable))
+    go true = tt
+    go false = tt
+
+-- ---- the grid follows the states
+
+module _ (h : House) (q : ℕ) (hq : q < stateCount) where
+  in-states : q < length (states h)
+  in-states = subst (λ n. q < n) (sym (states-length h)) hq
+
+  open-state : ends ≤ q → T (goesOn (stateAt h q))
+  open-state o =
+      subst (λ s. T (goesOn s)) (getD-drop ends (states h) (q - ends) (going []) ∙ ap (stateAt h) (omega arith))
+      (every-at goesOn (going []) (drop ends (states h)) (open-states h) (q - ends) (rw (length-drop ends (states h), states-length h) (omega arith)))
+
+  state-tested : T (tested h (stateAt h q))
+  state-tested = every-at (tested h) (going []) (states h) (numbered h) q in-states
+
+  module _ (b : ℕ) where
+    -- the byte of b's class leads to the same state
+    class-follows : follows (stateAt h q) (getD classBytes (classOf b) 0) ≡ follows (stateAt h q) b
+    class-follows =
+        ap (follows (stateAt h q)) (class-byte b) ∙ follows-same (stateAt h q) (left (stateShown (stateAt h q)) _ state-tested) b
+
+    in-classes : classOf b < length classBytes
+    in-classes = subst (λ n. classOf b < n) (sym class-bytes) (class-small b)
+
+    next-is : nextOf h q (classOf b) ≡ placeOf h (follows (stateAt h q) b)
     unfolding grid
     next-is =
-        ap (λ (row : List ℕ). getD row c 0) (at-map (λ s. map (λ b. placeOf (follows s b)) classBytes) states q (going []) [] hq)
-        ∙ at-map (λ b. placeOf (follows (stateAt q) b)) classBytes c 0 0 hc
+        ap (λ (row : List ℕ). getD row (classOf b) 0)
+        (at-map (λ s. map (λ x. placeOf h (follows s x)) classBytes) (states h) q (going []) [] in-states)
+        ∙ at-map (λ x. placeOf h (follows (stateAt h q) x)) classBytes (classOf b) 0 0 in-classes ∙ ap (placeOf h) class-follows
 
-    next-member : T (memberBy sameState states (following q c))
-    next-member = every-at (λ b. memberBy sameState states (follows (stateAt q) b)) 0 classBytes (right (stateShown (stateAt q)) _ state-tested) c hc
+    next-member : T (memberBy sameState (states h) (follows (stateAt h q) b))
+    next-member =
+        subst (λ s. T (memberBy sameState (states h) s)) class-follows
+        (every-at (λ x. memberBy sameState (states h) (follows (stateAt h q) x)) 0 classBytes (right (stateShown (stateAt h q)) _ state-tested) (classOf b)
+        in-classes)
 
-    pub next-inside : nextOf q c < length states
-    next-inside = rw next-is (place-inside sameState same-state states (following q c) next-member)
+    pub next-inside : nextOf h q (classOf b) < stateCount
+    next-inside =
+        subst (λ n. nextOf h q (classOf b) < n) (states-length h)
+        (rw next-is (place-inside sameState same-state (states h) (follows (stateAt h q) b) next-member))
 
-    next-state : stateAt (nextOf q c) ≡ following q c
-    next-state = rw next-is (placed sameState same-state states (following q c) (going []) next-member)
+    pub next-state : stateAt h (nextOf h q (classOf b)) ≡ follows (stateAt h q) b
+    next-state = rw next-is (placed sameState same-state (states h) (follows (stateAt h q) b) (going []) next-member)
 
-reads : (l : List ℕ) (q : ℕ) → q < length states → kindAt (runOf q l) ≡ kindFrom (stateAt q) l
-unfolding runOf kindAt
-reads [] q h = refl
-reads (b ∷ l) q h =
-    let c = class-small b in
-    reads l (nextOf q (classOf b)) (next-inside q h (classOf b) c)
-    ∙ ap (λ (s : State). kindFrom s l)
-    (next-state q h (classOf b) c ∙ ap (follows (stateAt q)) (class-byte b)
-    ∙ follows-same (stateAt q) (left (stateShown (stateAt q)) _ (state-tested q h)) b)
-    ∙ follows-law (stateAt q) b l
+    -- a line goes on up to its line feed
+    pub next-going : ends ≤ q → eqb b lineFeed ≡ false → ends ≤ nextOf h q (classOf b)
+    next-going o e = rw next-is (open-place h (follows (stateAt h q) b) (open-follows (stateAt h q) b (open-state o) e))
+
+  pub feed-ends : nextOf h q (classOf lineFeed) ≡ code (kindFrom (stateAt h q) [])
+  feed-ends = next-is lineFeed ∙ ended-place h (kindFrom (stateAt h q) [])
+
+  -- the line feed ends it
+  pub next-ended : nextOf h q (classOf lineFeed) < ends
+  next-ended = rw feed-ends (code-small (kindFrom (stateAt h q) []))
+
+-- ---- lines
+
+abbrev pub feedless : List ℕ → Bool
+feedless l = every (λ b. not (eqb b lineFeed)) l
+
+no-feed : (b : ℕ) (l : List ℕ) → feedless (b ∷ l) ≡ true → eqb b lineFeed ≡ false
+no-feed b l e = fails (eqb b lineFeed) (subst T (sym (and-left (not (eqb b lineFeed)) (feedless l) e)) tt)
+
+reads : (h : House) (l : List ℕ) (q : ℕ) → q < stateCount → feedless l ≡ true → nextOf h (runOf h q l) (classOf lineFeed) ≡ code (kindFrom (stateAt h q) l)
+unfolding runOf
+reads h [] q i e = feed-ends h q i
+reads h (b ∷ l) q i e =
+    reads h l (nextOf h q (classOf b)) (next-inside h q i b) (and-right (not (eqb b lineFeed)) (feedless l) e)
+    ∙ ap (λ (s : State). code (kindFrom s l)) (next-state h q i b)
+    ∙ ap (λ (f : Bool). code (kindFrom (cond f (ended (kindFrom (stateAt h q) [])) (inLine (stateAt h q) b)) l)) (no-feed b l e)
+    ∙ ap code (in-line-law (stateAt h q) b l)
 
 shapes-fit : (ss : List Shape) (l : List ℕ) → firstOf (startWays ss) l ≡ firstShape ss l
 unfolding firstOf
 shapes-fit [] l = refl
 shapes-fit (s ∷ ss) l = ap₂ (λ (m : Bool) (k : Kind). cond m (s .kind) k) (signs-fit (s .form) l) (shapes-fit ss l)
 
-pub start-inside : start < length states
-unfolding states over text
-start-inside = ltb→lt start (length states) tt
+pub start-inside : (ends ≤ start) × (start < stateCount)
+start-inside = (omega arith, omega arith)
 
--- the state after a line tells what the line is
-pub grid-reads : (l : List ℕ) → kindAt (runOf start l) ≡ kindOf l
-unfolding kindOf states over text
-grid-reads l = reads l start start-inside ∙ ap (λ (k : Kind). cond (printable l) k Unprintable) (shapes-fit shapes l)
+pub start-state : (h : House) → stateAt h start ≡ going (startWays (shapesOf h))
+unfolding states over text
+start-state Ours = refl
+start-state Partner = refl
+
+start-kind : (h : House) (l : List ℕ) → kindFrom (stateAt h start) l ≡ kindOf h l
+unfolding kindOf
+start-kind h l = ap (λ s. kindFrom s l) (start-state h) ∙ ap (λ (k : Kind). cond (printable l) k Unprintable) (shapes-fit (shapesOf h) l)
+
+-- a line has not ended before its line feed
+pub run-going : (h : House) (l : List ℕ) (q : ℕ) → ends ≤ q → q < stateCount → feedless l ≡ true → (ends ≤ runOf h q l) × (runOf h q l < stateCount)
+unfolding runOf
+run-going h [] q o i e = (o, i)
+run-going h (b ∷ l) q o i e =
+    run-going h l (nextOf h q (classOf b)) (next-going h q i b o (no-feed b l e)) (next-inside h q i b) (and-right (not (eqb b lineFeed)) (feedless l) e)
+
+-- the state past a line's feed is the code of what the line is
+pub grid-reads : (h : House) (l : List ℕ) → feedless l ≡ true → nextOf h (runOf h start l) (classOf lineFeed) ≡ code (kindOf h l)
+grid-reads h l e = reads h l start (start-inside .1) e ∙ ap code (start-kind h l)

@@ -1,14 +1,17 @@
 ghost use mathlib.Core.Path.{_≡_};
-ghost use mathlib.Core.Bool.{true};
-ghost use Prim.Native.Nat.{_-_, _≤_};
-ghost use lib.ListN.{length, drop};
+ghost use mathlib.Core.Bool.{true, false};
+ghost use Prim.Native.Nat.{_+_, _-_, _≤_};
+ghost use lib.ListN.{length, drop, getD};
 ghost use Rattle.forms.specs.Form.{isDigit, leading};
-ghost use Rattle.read_number.specs.Number.{numberRead, numberEnd};
+ghost use Rattle.forms.specs.Lines.{hasFeed};
+ghost use Rattle.read_number.specs.Number.{maxNumber, numberWith, numberRead};
 
-// A number's value and the place past it, or that question 4 is answered no.
-pub enum Number {
-    Plain { value: u16, next: usize },
-    Faulty,
+// A number's value, whether it has at most four digits and no needless zero (question 4), and the place past its digits. One that has more has the
+// value 0.
+pub struct Number {
+    pub value: u16,
+    pub plain: bool,
+    pub next: usize,
 }
 
 fn is_digit(b: u8) -> bool
@@ -27,34 +30,64 @@ fn digit(b: u8) -> u16
     (b - b'0') as u16
 }
 
-// The largest value to which a digit may still be added: it has three digits.
-const MAX_PREFIX: u16 = 999;
-
-// The number whose digits start at a place.
-pub fn number_at(s: &[u8], at: usize) -> Number
-    ensures { λ r. ⌜ r ≡ numberRead (leading (drop at (now (s .entry)))) at ⌝ }
-    ensures { λ r. ⌜ numberEnd r ≤ length (now (s .entry)) ⌝ }
+// A number that question 4 does not let pass. Its digits end before the line feed that is known to follow, so no byte is asked whether there is one.
+fn faulty(s: &[u8], at: usize) -> Number
+    requires { ⌜ hasFeed (drop at (now s)) ≡ true ⌝ }
+    ensures { λ r. ⌜ r ≡ numberWith 0 false (at + length (leading (drop at (now (s .entry))))) ⌝ }
 {
-    if s.len() <= at {
-        return Number::Faulty;
-    }
-    if !is_digit(s[at]) {
-        return Number::Faulty;
-    }
-    let mut value = digit(s[at]);
-    let mut i = at + 1;
-    while i < s.len() {
-        if !is_digit(s[i]) {
-            return Number::Plain { value, next: i };
-        }
-        if value == 0 {
-            return Number::Faulty;
-        }
-        if MAX_PREFIX < value {
-            return Number::Faulty;
-        }
-        value = value * 10 + digit(s[i]);
+    let mut i = at;
+    while is_digit(s[i]) {
         i += 1;
     }
-    Number::Plain { value, next: i }
+    Number {
+        value: 0,
+        plain: false,
+        next: i,
+    }
+}
+
+// The number whose first digit stands at a place, before a line feed. Digit by digit and without a loop, for most numbers have one digit or two.
+pub fn number_at(s: &[u8], at: usize) -> Number
+    requires { ⌜ (hasFeed (drop at (now s)) ≡ true) × (isDigit (getD (now s) at 0) ≡ true) ⌝ }
+    ensures { λ r. ⌜ r ≡ numberRead (leading (drop at (now (s .entry)))) at ⌝ }
+    ensures { λ r. ⌜ r .value ≤ maxNumber ⌝ }
+{
+    let one = digit(s[at]);
+    let second = s[at + 1];
+    if !is_digit(second) {
+        return Number {
+            value: one,
+            plain: true,
+            next: at + 1,
+        };
+    }
+    if one == 0 {
+        return faulty(s, at);
+    }
+    let two = one * 10 + digit(second);
+    let third = s[at + 2];
+    if !is_digit(third) {
+        return Number {
+            value: two,
+            plain: true,
+            next: at + 2,
+        };
+    }
+    let three = two * 10 + digit(third);
+    let fourth = s[at + 3];
+    if !is_digit(fourth) {
+        return Number {
+            value: three,
+            plain: true,
+            next: at + 3,
+        };
+    }
+    if is_digit(s[at + 4]) {
+        return faulty(s, at);
+    }
+    Number {
+        value: three * 10 + digit(fourth),
+        plain: true,
+        next: at + 4,
+    }
 }

@@ -2,6 +2,7 @@
 use mathlib.Core.Path.{_≡_}
 use mathlib.Core.List.{List}
 use Prim.Native.Nat.{ℕ}
+use Rattle.forms.specs.declared.House.{House}
 use Rattle.sheet.specs.Sheet.{Sheet}
 use Rattle.sheet.specs.Lists.{WrittenLists}
 use Rattle.plan_ask.specs.Questions.{Rooms, DecideRooms, SeatRooms}
@@ -9,10 +10,17 @@ use Rattle.plan_solve.specs.Planning.{Conclusion, Settled, DecideSettled, SeatS
 use Rattle.plan_solve.specs.Reply as planning
 use Rattle.print.specs.Printing as print
 use Rattle.print.specs.Reply as printing
-use Rattle.tugrokt_replies.specs.Numbers.{planningOf, seatingOf, printingOf}
+use Rattle.read_ask.specs.Reading.{ListRooms, reading}
+use Rattle.read.specs.Rooms.{sizesOf, roomsAfter}
+use Rattle.tugrokt_replies.specs.Numbers.{readingOf, planningOf, seatingOf, printingOf}
 use Rattle.tugrokt_replies.specs.declared.planning.Planning.{Planning}
 use Rattle.tugrokt_replies.specs.declared.printing.Printing.{Printing}
+use Rattle.tugrokt_replies.specs.declared.reading.Reading.{Reading}
 use Rattle.tugrokt_replies.specs.declared.seating.Seating.{Seating}
+
+pub record ReadTold (h : House) (text : List ℕ) (before : ListRooms (List ℕ)) (numbers : Reading) (after : ListRooms (List ℕ)) : Type 0 where
+  pub told : numbers ≡ readingOf (reading h text (sizesOf before))
+  pub left : after ≡ roomsAfter h text before
 
 pub record PlanTold (v : Conclusion) (s : Sheet) (before : Rooms) (numbers : Planning) (after : Rooms) : Type 0 where
   pub reply : planning.Reply

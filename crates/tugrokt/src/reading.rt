@@ -1,10 +1,32 @@
-ghost use mathlib.Core.Path.{_≡_};
-ghost use Rattle.read_ask.specs.Reading.{reading, rooms};
-ghost use Rattle.read.specs.Rooms.{sizesOf, roomsAfter};
-ghost use Rattle.tugrokt_replies.specs.Numbers.{readingOf};
+ghost use Rattle.read_ask.specs.Reading.{rooms};
+ghost use Rattle.tugrokt.specs.Told.{ReadTold};
+use forms::House;
 use tugrokt_replies::reading::Reading;
 
-// Reads a sheet from its text into the lent lists.
+// Reads a sheet of a house.
+fn read_house(
+    house: House,
+    text: &[u8],
+    loader: &mut [u16],
+    first: &mut [u16],
+    last: &mut [u16],
+    from: &mut [u16],
+    to: &mut [u16],
+    low: &mut [u16],
+    high: &mut [u16],
+) -> Reading
+    ensures { λ r.
+        let before = rooms (now (loader .entry)) (now (first .entry)) (now (last .entry))
+        (now (from .entry)) (now (to .entry)) (now (low .entry)) (now (high .entry)) in
+        let after = rooms (now (loader .exit)) (now (first .exit)) (now (last .exit))
+        (now (from .exit)) (now (to .exit)) (now (low .exit)) (now (high .exit)) in
+        ⌜ ReadTold house (now (text .entry)) before r after ⌝ }
+{
+    let reply = read::read(house, text, loader, first, last, from, to, low, high);
+    tugrokt_replies::reading::numbers_of(reply)
+}
+
+// Reads a sheet of our own from its text into the lent lists.
 #[no_mangle]
 pub extern "C" fn tugrokt_read(
     text: &[u8],
@@ -16,13 +38,44 @@ pub extern "C" fn tugrokt_read(
     low: &mut [u16],
     high: &mut [u16],
 ) -> Reading
-    ensures { λ r. ⌜ r ≡ readingOf (reading (now (text .entry)) (sizesOf (rooms (now (loader .entry)) (now (first .entry)) (now (last .entry))
-        (now (from .entry)) (now (to .entry)) (now (low .entry)) (now (high .entry))))) ⌝ }
-    ensures { λ _.
-        ⌜ rooms (now (loader .exit)) (now (first .exit)) (now (last .exit)) (now (from .exit)) (now (to .exit)) (now (low .exit)) (now (high .exit))
-        ≡ roomsAfter (now (text .entry)) (rooms (now (loader .entry)) (now (first .entry)) (now (last .entry))
-        (now (from .entry)) (now (to .entry)) (now (low .entry)) (now (high .entry))) ⌝ }
+    ensures { λ r.
+        let before = rooms (now (loader .entry)) (now (first .entry)) (now (last .entry))
+        (now (from .entry)) (now (to .entry)) (now (low .entry)) (now (high .entry)) in
+        let after = rooms (now (loader .exit)) (now (first .exit)) (now (last .exit))
+        (now (from .exit)) (now (to .exit)) (now (low .exit)) (now (high .exit)) in
+        ⌜ ReadTold House.Ours (now (text .entry)) before r after ⌝ }
 {
-    let reply = read::read(text, loader, first, last, from, to, low, high);
-    tugrokt_replies::reading::numbers_of(reply)
+    read_house(House::Ours, text, loader, first, last, from, to, low, high)
+}
+
+// Reads a sheet of the partner house into the same lists.
+#[no_mangle]
+pub extern "C" fn tugrokt_read_partner(
+    text: &[u8],
+    loader: &mut [u16],
+    first: &mut [u16],
+    last: &mut [u16],
+    from: &mut [u16],
+    to: &mut [u16],
+    low: &mut [u16],
+    high: &mut [u16],
+) -> Reading
+    ensures { λ r.
+        let before = rooms (now (loader .entry)) (now (first .entry)) (now (last .entry))
+        (now (from .entry)) (now (to .entry)) (now (low .entry)) (now (high .entry)) in
+        let after = rooms (now (loader .exit)) (now (first .exit)) (now (last .exit))
+        (now (from .exit)) (now (to .exit)) (now (low .exit)) (now (high .exit)) in
+        ⌜ ReadTold House.Partner (now (text .entry)) before r after ⌝ }
+{
+    read_house(
+        House::Partner,
+        text,
+        loader,
+        first,
+        last,
+        from,
+        to,
+        low,
+        high,
+    )
 }

@@ -7,6 +7,7 @@ ghost use Prim.Native.Nat.{_≤_};
 ghost use lib.ListN.{length, take};
 ghost use Rattle.wave_pipe.specs.Input.{InputAnswered};
 use answer::Query;
+use forms::House;
 use libc::STDIN_FILENO;
 use libc::STDOUT_FILENO;
 use print_page::MAX_PAGE;
@@ -66,6 +67,7 @@ fn read_text(buffer: &mut [u8]) -> Input
 
 // The answer to what is asked of the whole input, by the n bytes that the buffer took of it.
 pub fn answer_input(
+    house: House,
     query: Query,
     buffer: &[u8; TEXT_BYTES],
     n: usize,
@@ -73,11 +75,11 @@ pub fn answer_input(
 ) -> usize
     requires { ⌜ n ≤ length (now buffer) ⌝ }
     ensures { λ r. let text = now (buffer .entry) in
-        ⌜ InputAnswered query (length text) (take n text) (now (page .entry)) (now (page .exit)) r ⌝ }
+        ⌜ InputAnswered house query (length text) (take n text) (now (page .entry)) (now (page .exit)) r ⌝ }
     ensures { λ r. ⌜ r ≤ length (now (page .exit)) ⌝ }
 {
     let text: &[u8] = buffer;
-    answer::answer(query, &text[..n], page)
+    answer::answer(house, query, &text[..n], page)
 }
 
 // From standard input to standard output.
@@ -89,7 +91,7 @@ fn answer_pipe(query: Query) {
         return;
     }
     let mut page = [0u8; MAX_PAGE];
-    let end = answer_input(query, &text, input.length, &mut page);
+    let end = answer_input(House::Ours, query, &text, input.length, &mut page);
     if !io::write_all(STDOUT_FILENO, &page[..end]) {
         os::fail(b"write");
     }

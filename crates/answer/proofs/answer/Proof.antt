@@ -5,6 +5,7 @@ use Prim.Native.Nat.{ℕ}
 use native.Mathlib.Omega.{arith}
 use denote.Ref.{now}
 use lib.ListN.{replicate}
+use Rattle.forms.specs.declared.House.{House}
 use Rattle.read_ask.specs.Reading.{ListRooms, rooms, roomsForAll, refused, read, reading, replyOf}
 use Rattle.read.specs.Rooms.{sizesOf}
 use Rattle.sheet.specs.Sizes.{maxUnits, maxRules}
@@ -34,6 +35,9 @@ sheet-call c = c .before .before .before .before .before .before .before .before
 abbrev start : tie.After-read → tie.Start
 start c = c .before .before .before .before .before .before .before .before .before
 
+abbrev house : tie.After-read → House
+house c = start c .args .house
+
 abbrev asked : tie.After-read → Query
 asked c = start c .args .query
 
@@ -41,33 +45,35 @@ abbrev input : tie.After-read → List ℕ
 input c = now (start c .args .text)
 
 refused-told : (c : tie.After-reading)
-    → refused (c .reading .given .0 .0 .number) (c .reading .given .0 .0 .line) ≡ reading (input (refused-call c)) (sizesOf empty)
+    → refused (c .reading .given .0 .0 .number) (c .reading .given .0 .0 .line) ≡ reading (house (refused-call c)) (input (refused-call c)) (sizesOf empty)
 refused-told c = sym (ap replyOf (c .reading .given .1)) ∙ refused-call c .read .ensures .0
 
 read-told : (c : tie.After-reading2)
-    → let s = c .reading2 .given .0 .0 in read (s .span) (s .units) (s .rules) ≡ reading (input (sheet-call c)) (sizesOf empty)
+    → let s = c .reading2 .given .0 .0 in read (s .span) (s .units) (s .rules) ≡ reading (house (sheet-call c)) (input (sheet-call c)) (sizesOf empty)
 read-told c = sym (ap replyOf (c .reading2 .given .1)) ∙ sheet-call c .read .ensures .0
 
 refuse-requires : tie.Need-refuse-requires
 refuse-requires c κs =
-    let r = refused-small (input (refused-call (c .before .before))) empty sizes _ _ (refused-told (c .before .before)) in
+    let d = c .before .before in
+    let p = refused-call d in
+    let r = refused-small (house p) (input p) empty sizes _ _ (refused-told d) in
     (omega (arith, r .0), omega (arith, r .1))
 
 answer-fronts-requires : tie.Need-answer-fronts-requires
 answer-fronts-requires c κs =
     let d = c .before .before .before .before .before .before .before .before .before in
-    read-held (input (sheet-call d)) empty sizes _ (read-told d) _ (sheet-call d .read .ensures .1)
+    read-held (house (sheet-call d)) (input (sheet-call d)) empty sizes _ (read-told d) _ (sheet-call d .read .ensures .1)
 
 returns : tie.Need-returns
 returns c =
     let d = c .before .before .before in
     let p = refused-call d in
-    record { bytes = _; answers = refused-answer (input p) empty sizes _ _ (refused-told d) (asked p); written = c .refuse .ensures }
+    record { bytes = _; answers = refused-answer (house p) (input p) empty sizes _ _ (refused-told d) (asked p); written = c .refuse .ensures }
 
 returns-2 : tie.Need-returns-2
 returns-2 c =
     let d = c .before .before .before .before .before .before .before .before .before .before in
-    read-answered (input (sheet-call d)) empty sizes _ (read-told d) _ (sheet-call d .read .ensures .1)
+    read-answered (house (sheet-call d)) (input (sheet-call d)) empty sizes _ (read-told d) _ (sheet-call d .read .ensures .1)
     (asked (sheet-call d)) _ _ _ (c .answer-fronts .ensures)
 
 pub answer-spec : {M : Type 1} → statement M

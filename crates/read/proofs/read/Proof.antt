@@ -36,17 +36,19 @@ short c = c .if1 .left
 
 -- of a sheet that the pass found: its numbers, and what the arrays hold
 answered : (c : tie.After-known-told2) → let s = c .before .asked2 .given .0 .0 in
-    read (s .span) (s .units) (s .rules) ≡ passReply (start (told-short c) .args .text .now)
+    let a = start (told-short c) .args in
+    read (s .span) (s .units) (s .rules) ≡ passReply (a .house) (a .text .now)
 answered c = sym (ap replyOf (c .before .asked2 .given .1)) ∙ c .before .before .before .before .before .before .ask-text .ensures .0
 
 kept : (c : tie.After-known-told2) → let k = c .before .before .before .before .before .before .ask-text in
-    KeptNumbers (c .before .asked2 .given .0 .0) (start (told-short c) .args .text .now) (replicate maxUnits 0) (k .last .1 .0)
-    (replicate (2 * maxUnits) 0) (k .last .1 .1 .0) (replicate (4 * maxRules) 0) (k .last .1 .1 .1 .0)
+    let a = start (told-short c) .args in
+    KeptNumbers (a .house) (c .before .asked2 .given .0 .0) (a .text .now) (replicate maxUnits 0) (k .last .1 .1 .0)
+    (replicate (2 * maxUnits) 0) (k .last .1 .1 .1 .0) (replicate (4 * maxRules) 0) (k .last .1 .1 .1 .1 .0)
 kept c =
     let k = c .before .before .before .before .before .before .ask-text in
-    let text = start (told-short c) .args .text .now in
-    subst (λ (r : Reading). Kept r text (replicate maxUnits 0) (k .last .1 .0) (replicate (2 * maxUnits) 0) (k .last .1 .1 .0)
-    (replicate (4 * maxRules) 0) (k .last .1 .1 .1 .0))
+    let a = start (told-short c) .args in
+    subst (λ (r : Reading). Kept (a .house) r (a .text .now) (replicate maxUnits 0) (k .last .1 .1 .0) (replicate (2 * maxUnits) 0) (k .last .1 .1 .1 .0)
+    (replicate (4 * maxRules) 0) (k .last .1 .1 .1 .1 .0))
     (c .before .asked2 .given .1) (k .ensures .1)
 
 fitting : (c : tie.Else2) → let a = start (told-short (fits-told c)) .args in
@@ -59,30 +61,30 @@ returns : tie.Need-returns
 returns c =
     let a = c .before .before .before .before .before .before .before .before .before .args in
     let m = rooms (a .loader .now) (a .first .now) (a .last .now) (a .from .now) (a .to .now) (a .low .now) (a .high .now) in
-    let e = answer-long (a .text .now) (sizesOf m) (c .if1 .taken) in
-    (e, rooms-kept (a .text .now) m 1 0 e)
+    let e = answer-long (a .house) (a .text .now) (sizesOf m) (c .if1 .taken) in
+    (e, rooms-kept (a .house) (a .text .now) m 1 0 e)
 
 returns-2 : tie.Need-returns-2
 returns-2 c =
     let a = start (told-short (c .before .before)) .args in
     let m = rooms (a .loader .now) (a .first .now) (a .last .now) (a .from .now) (a .to .now) (a .low .now) (a .high .now) in
-    let e = answer-rooms (a .text .now) (sizesOf m) (short (told-short (c .before .before))) _ _ _
+    let e = answer-rooms (a .house) (a .text .now) (sizesOf m) (short (told-short (c .before .before))) _ _ _
     (answered (c .before .before)) (sym (c .before .lists-fit .ensures) ∙ not-true _ (c .if2 .taken)) in
-    (e, rooms-kept (a .text .now) m 12 0 e)
+    (e, rooms-kept (a .house) (a .text .now) m 12 0 e)
 
 fill-requires : tie.Need-fill-requires
 fill-requires c κs =
     let f = c .before .before .before .before .before .before .before .before .before .before in
-    fills _ _ _ _ _ _ _ _ _ (lit≤ tt) (lit≤ tt) (lit≤ tt) (kept (fits-told f)) (fitting f)
+    fills _ _ _ _ _ _ _ _ _ _ (lit≤ tt) (lit≤ tt) (lit≤ tt) (kept (fits-told f)) (fitting f)
 
 returns-3 : tie.Need-returns-3
 returns-3 c =
     let z = c .before .before .before .before .before .before .before .before .before .before in
     let a = start z .args in
     let m = rooms (a .loader .now) (a .first .now) (a .last .now) (a .from .now) (a .to .now) (a .low .now) (a .high .now) in
-    let e = answer-no (a .text .now) (sizesOf m) (short z) _ _
+    let e = answer-no (a .house) (a .text .now) (sizesOf m) (short z) _ _
     (sym (ap replyOf (c .before .asked .given .1)) ∙ c .before .before .before .before .before .before .ask-text .ensures .0) in
-    (e, rooms-kept (a .text .now) m _ _ e)
+    (e, rooms-kept (a .house) (a .text .now) m _ _ e)
 
 returns-4 : tie.Need-returns-4
 returns-4 c =
@@ -90,9 +92,9 @@ returns-4 c =
     let d = fits-told f in
     let a = start (told-short d) .args in
     let m = rooms (a .loader .now) (a .first .now) (a .last .now) (a .from .now) (a .to .now) (a .low .now) (a .high .now) in (
-      answer-read (a .text .now) (sizesOf m) (short (told-short d)) _ _ _ (answered d) (fitting f),
+      answer-read (a .house) (a .text .now) (sizesOf m) (short (told-short d)) _ _ _ (answered d) (fitting f),
       c .before .before .before .before .before .before .before .before .before .before .before .before .before .before .fill .ensures
-          ∙ rooms-filled _ (a .text .now) _ _ _ _ _ _ m (lit≤ tt) (lit≤ tt) (lit≤ tt) (short (told-short d)) (answered d) (fitting f) (kept d),
+          ∙ rooms-filled (a .house) _ (a .text .now) _ _ _ _ _ _ m (lit≤ tt) (lit≤ tt) (lit≤ tt) (short (told-short d)) (answered d) (fitting f) (kept d),
     )
 
 pub read-spec : {M : Type 1} → statement M

@@ -1,4 +1,4 @@
--- The one test of two ends, asked with the carried place as the last slot's bound.
+-- The one test of two ends, asked with the house's last place as the last slot's bound.
 use mathlib.Core.Path.{ap, _∙_}
 use Rattle.sheet.specs.Questions.{rising}
 use borrow.Author.Needs.{needs}
@@ -8,7 +8,7 @@ use Rattle.read_ask.proofs.is_window.Tie as tie
 returns : tie.Need-returns
 returns c =
     let a = c .before .before .args in
-    c .rises .ensures ∙ ap (λ most. rising 1 (a .span) most (a .first) (a .last)) (c .before .carried-place .ensures)
+    c .rises .ensures ∙ ap (λ most. rising 1 (a .span) most (a .first) (a .last)) (c .before .last-place .ensures)
 
 pub is-window-spec : {M : Type 1} → statement M
 is-window-spec = tie.close (tie.spec (λ c κs. search needs) (λ c κs. search needs) returns)

@@ -15,7 +15,7 @@ returns : tie.Need-returns
 unfolding stepOf
 returns c =
     let a = start (c .before .before .before) .args in
-    line-stepped (take (a .s .units) (a .numbers .now)) (a .s) (a .line) _ _ (a .numbers .now) _ (a .units .now) _ (a .rules .now) _ (a .heads .now)
+    line-stepped (a .house) (take (a .s .units) (a .numbers .now)) (a .s) (a .line) _ _ (a .numbers .now) _ (a .units .now) _ (a .rules .now) _ (a .heads .now)
     (a .nexts .now) (c .before .line .given .1) refl tt refl refl refl
 
 returns-2 : tie.Need-returns-2
@@ -23,7 +23,7 @@ unfolding stepOf
 returns-2 c =
     let z = start (c .before .before) in
     let a = z .args in
-    line-stepped (take (a .s .units) (a .numbers .now)) (a .s) (a .line) _ _ (a .numbers .now) _ (a .units .now) _ (a .rules .now) _ (a .heads .now)
+    line-stepped (a .house) (take (a .s .units) (a .numbers .now)) (a .s) (a .line) _ _ (a .numbers .now) _ (a .units .now) _ (a .rules .now) _ (a .heads .now)
     (a .nexts .now) (c .enum-told .given .1) refl (z .pre .0) refl refl refl
 
 returns-3 : tie.Need-returns-3
@@ -32,19 +32,20 @@ returns-3 c =
     let a = z .args in
     let r = c .sheet-step in
     let ks = take (a .s .units) (a .numbers .now) in
-    let stays = sheet-stays (a .s) _ _ _ (z .pre .0) _ (r .result) (r .ensures) ks in
-    line-stepped ks (a .s) (a .line) _ _ (a .numbers .now) _ (a .units .now) _ (a .rules .now) _ (a .heads .now)
+    let stays = sheet-stays (a .s) _ _ _ (z .pre .0) (a .house) ks _ (r .result) (r .ensures) in
+    line-stepped (a .house) ks (a .s) (a .line) _ _ (a .numbers .now) _ (a .units .now) _ (a .rules .now) _ (a .heads .now)
     (a .nexts .now) (c .before .before .line2 .given .1) (stays .0) (stays .1)
     (kept-none (r .result) (a .numbers .now) (a .s .units)) (kept-none (r .result) (a .units .now) (2 * a .s .units))
     (kept-none (r .result) (a .rules .now) (4 * a .s .rules))
 
 returns-4 : tie.Need-returns-4
+unfolding stepOf
 returns-4 c =
     let d = c .before .before .before .before .before .before .before .before in
     let l = d .before .before .before .before .before .before in
     let a = start (l .before .before) .args in
     let r = d .unit-step in
-    line-stepped (take (a .s .units) (a .numbers .now)) (a .s) (a .line) _ _ (a .numbers .now) _ (a .units .now) _ (a .rules .now) _ _ _
+    line-stepped (a .house) (take (a .s .units) (a .numbers .now)) (a .s) (a .line) _ _ (a .numbers .now) _ (a .units .now) _ (a .rules .now) _ _ _
     (l .line3 .given .1) (r .ensures .0) (r .ensures .1 .0) (r .ensures .1 .1 .0) (r .ensures .1 .1 .1)
     (kept-none (r .result) (a .rules .now) (4 * a .s .rules))
 
@@ -56,8 +57,8 @@ returns-5 c =
     let a = z .args in
     let r = d .rule-step in
     let ks = take (a .s .units) (a .numbers .now) in
-    let stays = rule-stays (a .s) _ _ _ (z .pre .0) _ _ _ _ (r .result) (r .ensures .0) ks in
-    line-stepped ks (a .s) (a .line) _ _ (a .numbers .now) _ (a .units .now) _ (a .rules .now) _ (a .heads .now)
+    let stays = rule-stays (a .s) _ _ _ (z .pre .0) (a .house) ks _ _ _ _ (r .result) (r .ensures .0) in
+    line-stepped (a .house) ks (a .s) (a .line) _ _ (a .numbers .now) _ (a .units .now) _ (a .rules .now) _ (a .heads .now)
     (a .nexts .now) (l .line4 .given .1) (stays .0) (stays .1)
     (kept-none (r .result) (a .numbers .now) (a .s .units)) (kept-none (r .result) (a .units .now) (2 * a .s .units)) (r .ensures .1)
 

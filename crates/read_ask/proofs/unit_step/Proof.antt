@@ -7,8 +7,8 @@ use native.Mathlib.Omega.{arith}
 use lib.ListN.{take, length-set}
 use lib.Dec.{eqb}
 use borrow.Author.Tests.{not-true, not-false, eq-eqb, ne-eqb, lt-ltb, le-ltb}
-use Rattle.sheet.specs.Questions.{isWindow, isNew}
-use Rattle.read_ask.specs.Steps.{stepOf}
+use Rattle.sheet.specs.Questions.{rising, isNew}
+use Rattle.read_ask.specs.Reading.{lastPlace}
 use Rattle.read_ask.proofs.StepLaws.{two-set, unit-chained}
 use borrow.Author.Needs.{needs}
 use Rattle.read_ask.proofs.unit_step.Statement.{statement}
@@ -28,20 +28,18 @@ fitted c = c .before .before .before .before .before
 order : (c : tie.Else1) → eqb (start c .args .s .span) 0 ≡ false
 order c = ne-eqb _ _ (c .if1 .left)
 
-window : (c : tie.Else2) → let a = start (ordered c) .args in isWindow (a .s .span) (a .first) (a .last) ≡ true
+window : (c : tie.Else2) → let a = start (ordered c) .args in rising 1 (a .s .span) (lastPlace (a .house) (a .s .span)) (a .first) (a .last) ≡ true
 window c = sym (c .before .is-window .ensures) ∙ not-false _ (c .if2 .left)
 
 new : (c : tie.Else3) → let a = start (ordered (fitted c)) .args in isNew (take (a .s .units) (a .numbers .now)) (a .loader) ≡ true
 new c = sym (c .before .is-new .ensures) ∙ not-false _ (c .if3 .left)
 
 returns-3 : tie.Need-returns-3
-unfolding stepOf
 returns-3 c =
     let d = c .before .before .before .before .before in
     (simp (order (ordered d), window d, sym (c .before .is-new .ensures) ∙ not-true _ (c .if3 .taken)), (tt, (refl, refl)))
 
 returns-4 : tie.Need-returns-4
-unfolding stepOf
 returns-4 c =
     let k = c .before .before .before .before .link .ensures in
     let t = c .before .before .before .before .before .before .before in
@@ -56,13 +54,11 @@ returns-4 c =
     )
 
 returns-5 : tie.Need-returns-5
-unfolding stepOf
 returns-5 c =
     let d = fitted (c .before) in
     (simp (order (ordered d), window d, new (c .before), le-ltb _ _ (c .if4 .left)), (tt, (refl, refl)))
 
 pub unit-step-spec : {M : Type 1} → statement M
-unfolding stepOf
 unit-step-spec = tie.close (tie.spec (λ c. (simp (eq-eqb _ _ (c .if1 .taken)), (tt, (refl, refl)))) (λ c κs. search needs)
     (λ c. (simp (order (c .before .before), sym (c .before .is-window .ensures) ∙ not-true _ (c .if2 .taken)), (tt, (refl, refl))))
     (λ c κs. search needs) (λ c. search needs) (λ c. search needs) (λ c. search needs) returns-3 (λ c. search needs) (λ c. search needs)

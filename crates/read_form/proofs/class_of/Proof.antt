@@ -7,7 +7,7 @@ use lib.ListN.{getD}
 use borrow.Author.Needs.{needs}
 use Rattle.lists.specs.Values.{listOf-at}
 use Rattle.read_form.specs.Grid.{classOf, classes}
-use Rattle.read_form.specs.GridLaws.{class-small, few-classes}
+use Rattle.read_form.specs.GridLaws.{class-small}
 use Rattle.read_form.proofs.class_of.Statement.{statement}
 use Rattle.read_form.proofs.class_of.Tie as tie
 
@@ -15,10 +15,11 @@ at : (table : List ℕ) (b : ℕ) → table ≡ classes → b < 256 → getD tab
 unfolding classes
 at table b e h = ap (λ (k : List ℕ). getD k b 0) e ∙ listOf-at classOf 256 b 0 h
 
-pub class-of-spec : {M : Type 1} → statement M
-class-of-spec = tie.close (tie.spec (λ c. search needs)
-    (λ c. let a = c .before .args in
-    omega (arith, at (a .table .now) (a .b) (c .before .pre) (search needs), class-small (a .b), few-classes))
-    (λ c. let a = c .before .args in
+returns : tie.Need-returns
+returns c =
+    let a = c .before .args in
     let e = at (a .table .now) (a .b) (c .before .pre) (search needs) in
-    (e, omega (arith, class-small (a .b)))))
+    (e, omega (arith, class-small (a .b)))
+
+pub class-of-spec : {M : Type 1} → statement M
+class-of-spec = tie.close (tie.spec (λ c. search needs) (λ c. omega (arith, returns c .1)) returns)

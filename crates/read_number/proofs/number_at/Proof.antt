@@ -1,61 +1,137 @@
--- The invariant: what the digits from here on make of the value so far is what all the digits make of the number (`more` of NumberLaws). Each way out
--- is one case of `more`: the digits end, a digit follows a leading 0, or a fifth digit follows.
+-- Digit by digit: at each test the digits so far are known (`Upto` of NumberLaws), and each return is one case of what they make.
+use Prim.Native.Nat.{_+_}
+use mathlib.Core.Path.{_≡_, refl, sym, ap, subst, _∙_}
+use mathlib.Core.Bool.{true, false, not}
+use mathlib.Core.List.{List, [], _∷_}
 use native.Mathlib.Omega.{arith}
-use Prim.Native.Nat.{_-_, _≤_}
-use mathlib.Core.Path.{_≡_, sym, _∙_}
-use lib.ListN.{length, drop}
-use borrow.Author.Tests.{not-true, not-false}
-use Rattle.forms.specs.Form.{leading}
-use Rattle.read_number.specs.Number.{numberRead}
-use Rattle.read_number.proofs.NumberLaws.{more, none-end, none-other, begins, stops-end, stops-other, bad-zero, bad-long, goes-on}
+use lib.ListN.{length, getD, drop}
+use lib.Dec.{eqb}
+use borrow.Author.Tests.{not-true, not-false, ne-eqb}
+use Rattle.forms.specs.Form.{leading, valueFrom}
+use Rattle.read_number.specs.Number.{numberWith, numberRead}
+use Rattle.read_number.proofs.NumberLaws.{Upto, upto-one, upto-inside, upto-more, upto-all, few-read, zero-read, long-read, digit-bounds}
+use borrow.Author.Needs.{needs}
 use Rattle.read_number.proofs.number_at.Statement.{statement}
 use Rattle.read_number.proofs.number_at.Tie as tie
 
-abbrev Inv-loop : tie.InvT-loop
-Inv-loop s at value₀ i₀ value i = (i ≤ length s) × (more value i (leading (drop i s)) ≡ numberRead (leading (drop at s)) at)
+-- back from each test to the one before it, and to the function's start
+abbrev start : tie.Else1 → tie.Start
+start c = c .before .before .before .before .before .before
 
-abbrev μ-loop : tie.MeasureT-loop
-μ-loop s at value₀ i₀ value i = length s - i
+abbrev first : tie.Else3 → tie.Else1
+first c = c .before .before .before .before .before
+
+abbrev second : tie.Else4 → tie.Else3
+second c = c .before .before .before .before
+
+-- the digits that are known at each
+one : (z : tie.Start) → Upto (z .args .s .now) (z .args .at) 1 (getD (z .args .s .now) (z .args .at) 0 ∷ [])
+one z = upto-one (z .args .s .now) (z .args .at) (z .pre .0) (z .pre .1)
+
+two : (c : tie.Else1) → let a = start c .args in
+    let s = a .s .now in
+    Upto s (a .at) 2 (getD s (a .at) 0 ∷ getD s (a .at + 1) 0 ∷ [])
+two c = upto-more _ _ 1 _ (one (start c)) (sym (c .before .is-digit .ensures) ∙ not-false _ (c .if1 .left))
+
+three : (c : tie.Else3) → let a = start (first c) .args in
+    let s = a .s .now in
+    Upto s (a .at) 3 (getD s (a .at) 0 ∷ getD s (a .at + 1) 0 ∷ getD s (a .at + 2) 0 ∷ [])
+three c = upto-more _ _ 2 _ (two (first c)) (sym (c .before .is-digit2 .ensures) ∙ not-false _ (c .if3 .left))
+
+four : (c : tie.Else4) → let a = start (first (second c)) .args in
+    let s = a .s .now in
+    Upto s (a .at) 4 (getD s (a .at) 0 ∷ getD s (a .at + 1) 0 ∷ getD s (a .at + 2) 0 ∷ getD s (a .at + 3) 0 ∷ [])
+four c = upto-more _ _ 3 _ (three (second c)) (sym (c .before .is-digit3 .ensures) ∙ not-false _ (c .if4 .left))
+
+-- where a digit follows, the first one is no zero
+no-zero : (c : tie.Else2) → let a = start (c .before) .args in not (eqb (getD (a .s .now) (a .at) 0) 48) ≡ true
+no-zero c =
+    let a = start (c .before) .args in
+    let d = c .before .before .before .before .digit .ensures .0 in
+    ap not (ne-eqb (getD (a .s .now) (a .at) 0) 48 (λ e. c .if2 .left (omega (arith, d, e))))
+
+-- the digits are known to be all
+all-one : (c : tie.Then1) → let a = c .before .before .before .before .before .before .args in leading (drop (a .at) (a .s .now)) ≡ getD (a .s .now) (a .at) 0 ∷ []
+all-one c = upto-all _ _ 1 _ (one (c .before .before .before .before .before .before)) (sym (c .before .is-digit .ensures) ∙ not-true _ (c .if1 .taken))
+
+returns : tie.Need-returns
+unfolding valueFrom
+returns c =
+    let a = c .before .before .before .before .before .before .args in
+    (few-read _ [] _ (a .at) (omega arith) refl (omega (arith, c .before .before .before .digit .ensures .0)) ∙ ap (λ ds. numberRead ds (a .at)) (sym (all-one c)),
+    omega (arith, c .before .before .before .digit .ensures .1))
+
+returns-2 : tie.Need-returns-2
+returns-2 c =
+    let e = c .before .before in
+    let a = start e .args in
+    let z : getD (a .s .now) (a .at) 0 ≡ 48 = omega (arith, e .before .before .before .digit .ensures .0, digit-bounds (getD (a .s .now) (a .at) 0) (start e .pre .1)) in
+    let ds = two e .digits in
+    let f = ds ∙ ap (λ x. x ∷ getD (a .s .now) (a .at + 1) 0 ∷ leading (drop (a .at + 2) (a .s .now))) z in
+    (c .faulty .ensures ∙ subst (λ l. numberWith 0 false (a .at + length l) ≡ numberRead l (a .at)) (sym f) (zero-read _ _ (a .at)),
+    omega (arith, ap (λ n. n .value) (c .faulty .ensures)))
+
+returns-3 : tie.Need-returns-3
+unfolding valueFrom
+returns-3 c =
+    let d = c .before .before .before .before in
+    let a = start (d .before) .args in
+    let all = upto-all _ _ 2 _ (two (d .before)) (sym (c .before .is-digit2 .ensures) ∙ not-true _ (c .if3 .taken)) in
+    let x = d .before .before .before .before .digit .ensures in
+    let y = c .before .before .before .digit2 .ensures in
+    (few-read _ (_ ∷ []) _ (a .at) (omega arith) (no-zero d) (omega (arith, x .0, y .0)) ∙ ap (λ ds. numberRead ds (a .at)) (sym all),
+    omega (arith, x .1, y .1))
+
+returns-4 : tie.Need-returns-4
+unfolding valueFrom
+returns-4 c =
+    let e = c .before .before .before .before in
+    let d = e .before .before .before .before in
+    let a = start (d .before) .args in
+    let all = upto-all _ _ 3 _ (three e) (sym (c .before .is-digit3 .ensures) ∙ not-true _ (c .if4 .taken)) in
+    let x = d .before .before .before .before .digit .ensures in
+    let y = e .before .before .before .digit2 .ensures in
+    let z = c .before .before .before .digit3 .ensures in
+    (few-read _ (_ ∷ _ ∷ []) _ (a .at) (omega arith) (no-zero d) (omega (arith, x .0, y .0, z .0)) ∙ ap (λ ds. numberRead ds (a .at)) (sym all),
+    omega (arith, x .1, y .1, z .1))
+
+returns-5 : tie.Need-returns-5
+returns-5 c =
+    let t = c .before in
+    let f = t .before .before .before in
+    let a = start (first (second f)) .args in
+    let ds = upto-more _ _ 4 _ (four f) (sym (t .before .is-digit4 .ensures) ∙ t .if5 .taken) .digits in
+    (c .faulty2 .ensures ∙ subst (λ l. numberWith 0 false (a .at + length l) ≡ numberRead l (a .at)) (sym ds) (long-read _ _ _ _ _ _ (a .at)),
+    omega (arith, ap (λ n. n .value) (c .faulty2 .ensures)))
+
+returns-6 : tie.Need-returns-6
+unfolding valueFrom
+returns-6 c =
+    let f = c .before .before .before .before in
+    let e = f .before .before .before .before in
+    let d = e .before .before .before .before in
+    let a = start (d .before) .args in
+    let all = upto-all _ _ 4 _ (four f) (sym (c .before .before .is-digit4 .ensures) ∙ c .before .if5 .left) in
+    let x = d .before .before .before .before .digit .ensures in
+    let y = e .before .before .before .digit2 .ensures in
+    let z = f .before .before .before .digit3 .ensures in
+    let w = c .digit4 .ensures in
+    (few-read _ (_ ∷ _ ∷ _ ∷ []) _ (a .at) (omega arith) (no-zero d) (omega (arith, x .0, y .0, z .0, w .0)) ∙ ap (λ ds. numberRead ds (a .at)) (sym all),
+    omega (arith, x .1, y .1, z .1, w .1))
 
 pub number-at-spec : {M : Type 1} → statement M
-number-at-spec = tie.close (tie.spec Inv-loop μ-loop
-    (λ c. let a = c .before .before .args in (none-end (a .s .now) (a .at) (c .if1 .taken), omega arith))
-    (λ c. omega arith) (λ c κs. tt)
-    (λ c. let a = c .before .before .before .before .before .args in
-    (none-other (a .s .now) (a .at) (omega arith) (sym (c .before .is-digit .ensures) ∙ not-true _ (c .if2 .taken)), omega arith))
-    (λ c. omega arith) (λ c κs. sym (c .before .before .is-digit .ensures) ∙ not-false _ (c .before .if2 .left)) (λ c. omega arith)
-    (λ c. let a = c .before .before .before .before .before .before .before .args in (
-      omega arith,
-      begins (a .s .now) (a .at) (c .digit .result) (omega arith)
-          (sym (c .before .before .before .is-digit .ensures) ∙ not-false _ (c .before .before .if2 .left)) (c .digit .ensures .0),
-    ))
-    (λ c. omega arith) (λ c κs. tt)
-    (λ c. let a = c .before .before .before .before .before .before .before .before .before .before .before .before .args in
-    let l = c .before .before .before .before .loop in
-    (stops-other (a .s .now) (l .i) (l .value) (omega arith) (sym (c .before .is-digit2 .ensures) ∙ not-true _ (c .if3 .taken)) ∙ l .inv .1, l .inv .0))
-    (λ c. let a = c .before .before .before .before .before .before .before .before .before .before .before .before .before .args in
-    let l = c .before .before .before .before .before .loop in (
-      bad-zero (a .s .now) (l .i) (l .value) (omega arith) (sym (c .before .before .is-digit2 .ensures) ∙ not-false _ (c .before .if3 .left))
-          (c .if4 .taken) ∙ l .inv .1,
-      omega arith,
-    ))
-    (λ c. let a = c .before .before .before .before .before .before .before .before .before .before .before .before .before .before .args in
-    let l = c .before .before .before .before .before .before .loop in (
-      bad-long (a .s .now) (l .i) (l .value) (omega arith) (sym (c .before .before .before .is-digit2 .ensures)
-          ∙ not-false _ (c .before .before .if3 .left)) (c .if5 .taken) ∙ l .inv .1,
-      omega arith,
-    ))
-    (λ c. omega arith) (λ c. omega arith)
-    (λ c κs. sym (c .before .before .before .before .is-digit2 .ensures) ∙ not-false _ (c .before .before .before .if3 .left))
-    (λ c. omega arith) (λ c. omega arith) (λ c. omega arith)
-    (λ c.
-    let a = c .before .before .before .before .before .before .before .before .before .before .before .before .before .before .before .before .args in
-    let l = c .before .before .before .before .before .before .before .before .loop in (
-      omega arith,
-      goes-on (a .s .now) (l .i) (l .value) (c .digit2 .result) (omega arith)
-          (sym (c .before .before .before .before .before .is-digit2 .ensures) ∙ not-false _ (c .before .before .before .before .if3 .left)) (omega arith)
-          (omega arith) (c .digit2 .ensures .0) ∙ l .inv .1,
-    ))
-    (λ c. let a = c .before .before .before .before .before .before .before .before .before .args in
-    let l = c .before .loop in
-    (stops-end (a .s .now) (l .i) (l .value) (omega arith) ∙ l .inv .1, l .inv .0)))
+number-at-spec = tie.close (tie.spec
+    (λ c. omega (arith, upto-inside _ _ 1 _ (one (c .before .before)))) (λ c κs. search needs)
+    (λ c. omega (arith, upto-inside _ _ 1 _ (one (c .before .before .before)))) (λ c. upto-inside _ _ 1 _ (one (c .before .before .before .before))) (λ c κs. search needs)
+    (λ c. omega (arith, upto-inside _ _ 1 _ (one (c .before .before .before .before .before .before)))) returns
+    (λ c κs. search needs) returns-2 (λ c. search needs)
+    (λ c κs. sym (c .before .before .is-digit .ensures) ∙ not-false _ (c .before .if1 .left)) (λ c. search needs)
+    (λ c. omega (arith, upto-inside _ _ 2 _ (two (c .before .before)))) (λ c. upto-inside _ _ 2 _ (two (c .before .before .before))) (λ c κs. search needs)
+    (λ c. omega (arith, upto-inside _ _ 2 _ (two (c .before .before .before .before .before)))) returns-3 (λ c. search needs)
+    (λ c κs. sym (c .before .is-digit2 .ensures) ∙ not-false _ (c .if3 .left)) (λ c. search needs)
+    (λ c. omega (arith, upto-inside _ _ 3 _ (three (c .before)))) (λ c. upto-inside _ _ 3 _ (three (c .before .before))) (λ c κs. search needs)
+    (λ c. omega (arith, upto-inside _ _ 3 _ (three (c .before .before .before .before)))) returns-4
+    (λ c. omega (arith, upto-inside _ _ 4 _ (four c))) (λ c. upto-inside _ _ 4 _ (four (c .before))) (λ c κs. search needs)
+    (λ c κs. search needs) returns-5 (λ c. search needs)
+    (λ c κs. sym (c .before .before .before .before .is-digit3 .ensures) ∙ not-false _ (c .before .before .before .if4 .left)) (λ c. search needs)
+    (λ c. omega (arith, upto-inside _ _ 4 _ (four (c .before .before .before .before)))) returns-6)
