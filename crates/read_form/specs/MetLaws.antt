@@ -502,8 +502,11 @@ module _ (h : House) (q : ℕ) (hq : q < stateCount) (b : ℕ) where
       let there = follows-among h q hq b (digit-printable b d) (m .0) (more ∷ m .1) (ap (λ (e : Bool). cond e true (goes (m .1) b)) d) (m .2) in
       let same = subst (λ (u : List Sign). Among (way (m .0) u) (waysOf (stateAt h (nextOf h q (classOf b)))))
       (ap (λ (e : Bool). cond e (more ∷ m .1) (after (m .1) b)) d) there in
-      omega (arith, own-number h q hq (m .0) (more ∷ m .1) (m .2) refl .1,
-      own-number h (nextOf h q (classOf b)) (next-inside h q hq b) (m .0) (more ∷ m .1) same refl .1)
+      omega (
+        arith,
+        own-number h q hq (m .0) (more ∷ m .1) (m .2) refl .1,
+        own-number h (nextOf h q (classOf b)) (next-inside h q hq b) (m .0) (more ∷ m .1) same refl .1,
+      )
 
 -- so past a number's first digit the others may be left out
 module _ (h : House) (q : ℕ) (n : isNumber q ≡ true) where

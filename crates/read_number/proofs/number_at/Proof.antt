@@ -57,9 +57,10 @@ all-one c = upto-all _ _ 1 _ (one (c .before .before .before .before .before .be
 returns : tie.Need-returns
 unfolding valueFrom
 returns c =
-    let a = c .before .before .before .before .before .before .args in
-    (few-read _ [] _ (a .at) (omega arith) refl (omega (arith, c .before .before .before .digit .ensures .0)) ∙ ap (λ ds. numberRead ds (a .at)) (sym (all-one c)),
-    omega (arith, c .before .before .before .digit .ensures .1))
+    let a = c .before .before .before .before .before .before .args in (
+      few-read _ [] _ (a .at) (omega arith) refl (omega (arith, c .before .before .before .digit .ensures .0)) ∙ ap (λ ds. numberRead ds (a .at)) (sym (all-one c)),
+      omega (arith, c .before .before .before .digit .ensures .1),
+    )
 
 returns-2 : tie.Need-returns-2
 returns-2 c =
@@ -67,9 +68,10 @@ returns-2 c =
     let a = start e .args in
     let z : getD (a .s .now) (a .at) 0 ≡ 48 = omega (arith, e .before .before .before .digit .ensures .0, digit-bounds (getD (a .s .now) (a .at) 0) (start e .pre .1)) in
     let ds = two e .digits in
-    let f = ds ∙ ap (λ x. x ∷ getD (a .s .now) (a .at + 1) 0 ∷ leading (drop (a .at + 2) (a .s .now))) z in
-    (c .faulty .ensures ∙ subst (λ l. numberWith 0 false (a .at + length l) ≡ numberRead l (a .at)) (sym f) (zero-read _ _ (a .at)),
-    omega (arith, ap (λ n. n .value) (c .faulty .ensures)))
+    let f = ds ∙ ap (λ x. x ∷ getD (a .s .now) (a .at + 1) 0 ∷ leading (drop (a .at + 2) (a .s .now))) z in (
+      c .faulty .ensures ∙ subst (λ l. numberWith 0 false (a .at + length l) ≡ numberRead l (a .at)) (sym f) (zero-read _ _ (a .at)),
+      omega (arith, ap (λ n. n .value) (c .faulty .ensures)),
+    )
 
 returns-3 : tie.Need-returns-3
 unfolding valueFrom
@@ -78,9 +80,10 @@ returns-3 c =
     let a = start (d .before) .args in
     let all = upto-all _ _ 2 _ (two (d .before)) (sym (c .before .is-digit2 .ensures) ∙ not-true _ (c .if3 .taken)) in
     let x = d .before .before .before .before .digit .ensures in
-    let y = c .before .before .before .digit2 .ensures in
-    (few-read _ (_ ∷ []) _ (a .at) (omega arith) (no-zero d) (omega (arith, x .0, y .0)) ∙ ap (λ ds. numberRead ds (a .at)) (sym all),
-    omega (arith, x .1, y .1))
+    let y = c .before .before .before .digit2 .ensures in (
+      few-read _ (_ ∷ []) _ (a .at) (omega arith) (no-zero d) (omega (arith, x .0, y .0)) ∙ ap (λ ds. numberRead ds (a .at)) (sym all),
+      omega (arith, x .1, y .1),
+    )
 
 returns-4 : tie.Need-returns-4
 unfolding valueFrom
@@ -91,18 +94,20 @@ returns-4 c =
     let all = upto-all _ _ 3 _ (three e) (sym (c .before .is-digit3 .ensures) ∙ not-true _ (c .if4 .taken)) in
     let x = d .before .before .before .before .digit .ensures in
     let y = e .before .before .before .digit2 .ensures in
-    let z = c .before .before .before .digit3 .ensures in
-    (few-read _ (_ ∷ _ ∷ []) _ (a .at) (omega arith) (no-zero d) (omega (arith, x .0, y .0, z .0)) ∙ ap (λ ds. numberRead ds (a .at)) (sym all),
-    omega (arith, x .1, y .1, z .1))
+    let z = c .before .before .before .digit3 .ensures in (
+      few-read _ (_ ∷ _ ∷ []) _ (a .at) (omega arith) (no-zero d) (omega (arith, x .0, y .0, z .0)) ∙ ap (λ ds. numberRead ds (a .at)) (sym all),
+      omega (arith, x .1, y .1, z .1),
+    )
 
 returns-5 : tie.Need-returns-5
 returns-5 c =
     let t = c .before in
     let f = t .before .before .before in
     let a = start (first (second f)) .args in
-    let ds = upto-more _ _ 4 _ (four f) (sym (t .before .is-digit4 .ensures) ∙ t .if5 .taken) .digits in
-    (c .faulty2 .ensures ∙ subst (λ l. numberWith 0 false (a .at + length l) ≡ numberRead l (a .at)) (sym ds) (long-read _ _ _ _ _ _ (a .at)),
-    omega (arith, ap (λ n. n .value) (c .faulty2 .ensures)))
+    let ds = upto-more _ _ 4 _ (four f) (sym (t .before .is-digit4 .ensures) ∙ t .if5 .taken) .digits in (
+      c .faulty2 .ensures ∙ subst (λ l. numberWith 0 false (a .at + length l) ≡ numberRead l (a .at)) (sym ds) (long-read _ _ _ _ _ _ (a .at)),
+      omega (arith, ap (λ n. n .value) (c .faulty2 .ensures)),
+    )
 
 returns-6 : tie.Need-returns-6
 unfolding valueFrom
@@ -115,9 +120,10 @@ returns-6 c =
     let x = d .before .before .before .before .digit .ensures in
     let y = e .before .before .before .digit2 .ensures in
     let z = f .before .before .before .digit3 .ensures in
-    let w = c .digit4 .ensures in
-    (few-read _ (_ ∷ _ ∷ _ ∷ []) _ (a .at) (omega arith) (no-zero d) (omega (arith, x .0, y .0, z .0, w .0)) ∙ ap (λ ds. numberRead ds (a .at)) (sym all),
-    omega (arith, x .1, y .1, z .1, w .1))
+    let w = c .digit4 .ensures in (
+      few-read _ (_ ∷ _ ∷ _ ∷ []) _ (a .at) (omega arith) (no-zero d) (omega (arith, x .0, y .0, z .0, w .0)) ∙ ap (λ ds. numberRead ds (a .at)) (sym all),
+      omega (arith, x .1, y .1, z .1, w .1),
+    )
 
 pub number-at-spec : {M : Type 1} → statement M
 number-at-spec = tie.close (tie.spec
