@@ -60,6 +60,10 @@ shortfallLine k = formLine shortfallForm (k ∷ [])
 unfoldable pub refusedLine : ℕ → ℕ → List ℕ
 refusedLine question line = formLine refusedForm (question ∷ line ∷ [])
 
+-- the longest one: its question has at most two digits and its line number at most five
+abbrev pub maxRefusal : ℕ
+maxRefusal = 26
+
 -- ---- the forms of so many numbers, by their words
 
 abbrev pub noNumber : List ℕ → List Piece

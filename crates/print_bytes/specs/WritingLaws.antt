@@ -13,9 +13,10 @@ use lib.Seq.{sets, length-sets, sets-eq, length-take-le, take-at, drop-at}
 use Rattle.lists.specs.Lists.{run, joined}
 use Rattle.forms.specs.Form.{Piece, word, number, written}
 use Rattle.forms.specs.Decimal.{digits, formLine}
-use Rattle.forms.specs.DecimalLaws.{digits-last}
-use Rattle.forms.specs.Words.{lineFeed}
-use Rattle.print_bytes.specs.Writing.{withBytes, Room, Written}
+use Rattle.forms.specs.DecimalLaws.{digits-last, line-short}
+use Rattle.forms.specs.Forms.{refusedForm}
+use Rattle.forms.specs.Words.{lineFeed, text}
+use Rattle.print_bytes.specs.Writing.{withBytes, Room, Written, refusedLine, maxRefusal}
 
 -- ---- writing one thing after another
 sets-append : (page : List ℕ) (at : ℕ) (xs ys : List ℕ) → sets (sets page at xs) (at + length xs) ys ≡ sets page at (xs ++ ys)
@@ -171,3 +172,8 @@ module _ (most : ℕ) where
 
       pub own-long : size ≤ length left
       own-long = omega (arith, w .moved, ap length (w .filled), bytes-length blank 0 bytes own-room, long)
+
+-- ---- the line of a refusal is short
+pub refused-short : (question line : ℕ) → question < 100 → line < 100000 → length (refusedLine question line) ≤ maxRefusal
+unfolding refusedLine text
+refused-short question line hq hl = line-short refusedForm (question ∷ line ∷ []) (2 ∷ 5 ∷ []) (hq, (hl, tt))

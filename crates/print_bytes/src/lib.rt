@@ -1,7 +1,7 @@
 ghost use mathlib.Core.List.{_++_, _∷_, []};
 ghost use Prim.Native.Nat.{_<_, _≤_};
 ghost use Rattle.forms.specs.Decimal.{digits, formLine};
-ghost use Rattle.print_bytes.specs.Writing.{Room, Written, unitLine, carriedLine, slotLine, rangeLine};
+ghost use Rattle.print_bytes.specs.Writing.{Room, Written, unitLine, carriedLine, slotLine, rangeLine, refusedLine};
 ghost use Rattle.print_bytes.specs.Writing.{noNumber, oneNumber, twoNumbers, threeNumbers, fourNumbers};
 
 // Words, numbers and lines, written into a slice from a place on. Each function gives the place just past what it wrote; that the slice holds it is
@@ -204,6 +204,14 @@ pub fn put_range(page: &mut [u8], at: usize, slot: u16, least: u16, greatest: u1
         greatest,
         b"))",
     )
+}
+
+// The line of a refusal.
+pub fn put_refusal(page: &mut [u8], at: usize, number: u16, line: u16) -> usize
+    requires { ⌜ Room (now page) at (refusedLine number line) ⌝ }
+    ensures { λ r. ⌜ Written (now (page .entry)) at (refusedLine number line) (now (page .exit)) r ⌝ }
+{
+    put_two_numbers(page, at, b"(refused ", number, b" (line ", line, b"))")
 }
 
 // The two lines that a page has many of call `put_word` themselves: so the compiler writes their words as they are.

@@ -9,15 +9,15 @@ use lib.Dec.{T, eqb, eqb-refl}
 use lib.ListN.{length, take, drop, length-append, length-map}
 use lib.Seq.{take-at}
 use Rattle.lists.specs.Members.{both}
-use Rattle.sheet.specs.Sheet.{Window, Rule, WrittenSheet, constraints, loaders}
+use Rattle.sheet.specs.Sheet.{Window, Rule, Sheet, SheetUnit, WrittenSheet, constraints, loaders}
 use Rattle.sheet.specs.Questions.{windowsOf, rulesOf, sheetOf, listsAgree, accepted, loadersFit}
 use Rattle.sheet.specs.declared.Sheet.{Sheet as Read}
 use Rattle.read_ask.specs.Reading.{ListRooms, read}
 use Rattle.lists.specs.Lists.{onFront}
 use Rattle.read.specs.Rooms.{leaves}
-use Rattle.sheet.specs.Lists.{WrittenLists, writtenLists, givenBy, agree}
+use Rattle.sheet.specs.Lists.{WrittenLists, writtenLists, givenBy, unitsOf, writtenBy, agree}
 use Rattle.plan_ask.specs.Asking.{Listed}
-use Rattle.answer.specs.Fronts.{fronts, Held}
+use Rattle.read_whole.specs.Fronts.{fronts, Held}
 
 -- ---- a sheet in parallel lists is the sheet again
 
@@ -36,9 +36,19 @@ listsOf w =
     writtenLists (s .span) (loaders w) (map (λ v. v .first) (s .units)) (map (λ v. v .last) (s .units))
     (map (λ r. r .from) (s .rules)) (map (λ r. r .to) (s .rules)) (map (λ r. r .low) (s .rules)) (map (λ r. r .high) (s .rules))
 
-given-back : (w : WrittenSheet) → givenBy (listsOf w) ≡ constraints w
+pub given-back : (w : WrittenSheet) → givenBy (listsOf w) ≡ constraints w
 unfolding sheetOf
 given-back w = rw (windows-back (constraints w .units), rules-back (w .rules)) refl
+
+-- as it is written, too
+units-back : (us : List SheetUnit) → unitsOf (map (λ u. u .loader) us) (map (λ u. u .window) us) ≡ us
+units-back [] = refl
+units-back (u ∷ us) = ap (λ r. u ∷ r) (units-back us)
+
+pub written-back : (w : WrittenSheet) → writtenBy (listsOf w) ≡ w
+written-back w =
+    ap (λ (s : Sheet). record { span = s .span; units = unitsOf (loaders w) (s .units); rules = s .rules }) (given-back w)
+    ∙ ap (λ (us : List SheetUnit). record { span = w .span; units = us; rules = w .rules }) (units-back (w .units))
 
 same-length : {A : Type 0} (xs : List A) (f g : A → ℕ) → T (eqb (length (map f xs)) (length (map g xs)))
 same-length xs f g = subst (λ k. T (eqb (length (map f xs)) k)) (length-map xs f ∙ sym (length-map xs g)) (eqb-refl (length (map f xs)))
@@ -81,7 +91,7 @@ module _ (w : WrittenSheet) (t : Read) (span : t .span ≡ w .span) (units : t .
   windows : t .units ≡ length (constraints w .units)
   windows = units ∙ sym (length-map (w .units) (λ u. u .window))
 
-  fronts-are : fronts t left ≡ listsOf w
+  pub fronts-are : fronts t left ≡ listsOf w
   fronts-are =
       rw (
         span,
@@ -105,9 +115,3 @@ module _ (w : WrittenSheet) (t : Read) (span : t .span ≡ w .span) (units : t .
     in-high = front-fits (λ r. r .high) (w .rules) (t .rules) rules (m .high);
     passes = subst Listed (sym fronts-are) (passes-back w ok fit);
   }
-
-  pub front-loaders : fronts t left .loader ≡ loaders w
-  front-loaders = ap (λ l. l .loader) fronts-are
-
-  pub front-sheet : givenBy (fronts t left) ≡ constraints w
-  front-sheet = ap givenBy fronts-are ∙ given-back w

@@ -1,4 +1,4 @@
--- The sheet at the front of the lists that reading was lent, and what printing is to know of it. Definitions only.
+-- The sheet at the front of the lists that reading was lent, and what a call that goes on with it is to know of it. Definitions only.
 use Prim.Native.Nat.{ℕ, _≤_}
 use mathlib.Core.List.{List}
 use lib.ListN.{length, take}
