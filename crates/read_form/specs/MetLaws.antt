@@ -253,11 +253,11 @@ module _ (h : House) (q : ℕ) (hq : q < stateCount) where
 -- ---- what a byte adds
 
 module _ (h : House) (q b : ℕ) (l : List ℕ) where
-  met-on : (isNumber (nextOf h q (classOf b)) && not (eqb q (nextOf h q (classOf b)))) ≡ false → met h q (b ∷ l) ≡ met h (nextOf h q (classOf b)) l
+  pub met-on : (isNumber (nextOf h q (classOf b)) && not (eqb q (nextOf h q (classOf b)))) ≡ false → met h q (b ∷ l) ≡ met h (nextOf h q (classOf b)) l
   unfolding met
   met-on e = rw e refl
 
-  met-new : (isNumber (nextOf h q (classOf b)) && not (eqb q (nextOf h q (classOf b)))) ≡ true
+  pub met-new : (isNumber (nextOf h q (classOf b)) && not (eqb q (nextOf h q (classOf b)))) ≡ true
       → met h q (b ∷ l) ≡ record { state = nextOf h q (classOf b); digits = leading (b ∷ l) } ∷ met h (nextOf h q (classOf b)) l
   unfolding met
   met-new e = rw e refl

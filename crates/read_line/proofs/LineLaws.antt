@@ -1,241 +1,38 @@
--- What the code of a line reads and asks is what the definition of a line says.
--- Key idea: the text past a number's digits is the text from the number's end on (`past-at`), so the code reads where `numbers` cuts the line, and
--- what it says of each answer is one equation a form (`sheet-said`, `unit-said`, `rule-said`). The questions in the code's order are `lineOf` (`asked`).
+-- What the code says of a line is what the definition of a line says.
+-- Key idea: the numbers that reading meets are those of the line's form, one after the other, and so are their values (`values-are`). The questions in the
+-- code's order are `lineOf`, by the line's kind (`line-said`, `line-unended`).
 use Prim.Native.Nat.{ℕ, zero, suc, _+_, _-_, _≤_, _<_}
-use mathlib.Core.Path.{_≡_, refl, sym, ap, subst, _∙_}
-use mathlib.Core.Bool.{Bool, true, false, _&&_, cond}
-use mathlib.Core.List.{List, [], _∷_}
+use mathlib.Core.Path.{_≡_, refl, sym, ap, ap₂, subst, _∙_}
+use mathlib.Core.Bool.{Bool, true, false, _&&_, cond, and-true, and-assoc}
+use mathlib.Core.List.{List, [], _∷_, map}
 use native.Mathlib.Omega.{arith}
-use native.Mathlib.Numerals.{add-one}
-use lib.ListN.{length, getD, drop, drop-of-length-le}
-use lib.Seq.{drop-cons, drop-drop}
+use native.Mathlib.Nat.{add-zero}
+use lib.ListN.{length, getD, set, drop, replicate, length-set, length-map}
+use lib.Seq.{sets, getD-set-same, getD-set-other}
 use lib.Dec.{eqb}
 use borrow.Author.Tests.{eq-eqb, ne-eqb}
-use Rattle.forms.specs.Words.{lineFeed, text}
-use Rattle.forms.specs.Form.{printable, leading, past, plain, value, Piece, word, number, startsWith, matches, numbers}
-use Rattle.forms.specs.Forms.{sheetForm, unitForm, ruleForm}
-use Rattle.read_form.specs.Kinds.{formOf, kindOf}
-use Rattle.forms.specs.FormLaws.{past-drop}
-use Rattle.lists.specs.Members.{false-not-true}
-use Rattle.read_form.specs.Grid.{runOf, kindAt, nextOf, classOf, start, states}
-use Rattle.read_form.specs.GridLaws.{grid-reads}
-use Rattle.read_form.specs.Number.{numberRead}
-use Rattle.read_form.specs.declared.Number.{Number}
-use Rattle.read_form.specs.declared.Number.the-variants as Number
+use Rattle.lists.specs.Lists.{every}
+use Rattle.lists.specs.Members.{and-left, and-right, false-not-true}
+use Rattle.forms.specs.Words.{text}
+use Rattle.forms.specs.Form.{printable, plain, value, matches, numbers}
+use Rattle.forms.specs.Forms.{noteForm, shortNoteForm, spanFormOf, unitFormOf, ruleFormOf}
+use Rattle.forms.specs.declared.House.{House}
+use Rattle.forms.specs.declared.House.the-variants.{Ours, Partner}
+use Rattle.read_form.specs.Kinds.{kindOf}
+use Rattle.read_form.specs.Grid.{code, ends, start}
+use Rattle.read_form.specs.Met.{Met, met, inTurn}
+use Rattle.read_form.specs.MetLaws.{sheet-met, unit-met, rule-met}
 use Rattle.read_form.specs.declared.Kind.{Kind}
 use Rattle.read_form.specs.declared.Kind.the-variants as Kind
 use Rattle.read_notes.specs.Readers.{Rest, rest, unmatched, afterList, endOf, atEnd}
 use Rattle.read_notes.specs.ReaderLaws.{list-matched}
 use Rattle.read_notes.specs.declared.End.the-variants as End
-use Rattle.forms.specs.Lines.{firstLine}
-use Rattle.forms.specs.LinesLaws.{lineEnd}
-use Rattle.read_line.specs.Content.{Content, isNote, noteMatched, bracketsMatch, contentOf, sheetContent, unitContent, ruleContent, formContent}
-use Rattle.read_line.specs.Line.{said, lineOf, pairOf, printableKind}
+use Rattle.read_number.specs.Number.{maxNumber, readValue}
+use Rattle.read_line.specs.Content.{noteMatched, bracketsMatch, valueAt, unitSaid, ruleSaid, formContent, contentOf}
+use Rattle.read_line.specs.Line.{said, lineOf}
+use Rattle.read_line.specs.Scan.{valued, withNumbers, Small, unitBy, ruleBy, lineSaid, unendedFault}
 use Rattle.read_line.specs.declared.Line.{Line}
-use Rattle.read_line.specs.declared.Line.the-variants.{Refused, Note, Sheet, Unit, Rule}
-use Rattle.read_line.specs.declared.Pair.{Pair}
-use Rattle.read_line.specs.declared.Pair.the-variants.{Both, Faulty}
-
--- ---- the scan: the states that are left to run through give the line's kind, and the place goes with its length
-
-abbrev pub runsOn : List ℕ → ℕ → ℕ → Kind
-runsOn text at state = kindAt (runOf state (firstLine (drop at text)))
-
-module _ (t : List ℕ) (i q : ℕ) where
-  pub scan-past : length t ≤ i → (lineEnd t i ≡ i) × (kindAt q ≡ runsOn t i q)
-  unfolding firstLine runOf
-  scan-past h =
-      let e = drop-of-length-le t h in
-      (omega (arith, ap (λ (l : List ℕ). length (firstLine l)) e), ap (λ (l : List ℕ). kindAt (runOf q (firstLine l))) (sym e))
-
-  pub scan-feed : i < length t → getD t i 0 ≡ lineFeed → (lineEnd t i ≡ i) × (kindAt q ≡ runsOn t i q)
-  unfolding firstLine runOf
-  scan-feed h e =
-      let f : firstLine (drop i t) ≡ [] = rw (drop-cons t i 0 h) (simp (eq-eqb (getD t i 0) lineFeed e)) in
-      (omega (arith, ap length f), ap (λ (l : List ℕ). kindAt (runOf q l)) (sym f))
-
-  pub scan-byte : (r : ℕ) → i < length t → (getD t i 0 ≡ lineFeed → ⊥) → r ≡ nextOf q (classOf (getD t i 0)) →
-      (lineEnd t i ≡ lineEnd t (i + 1)) × (runsOn t (i + 1) r ≡ runsOn t i q)
-  unfolding firstLine runOf
-  scan-byte r h e k =
-      let f : firstLine (drop i t) ≡ getD t i 0 ∷ firstLine (drop (i + 1) t) = rw (add-one i)
-      (rw (drop-cons t i 0 h) (simp (ne-eqb (getD t i 0) lineFeed e))) in (
-        omega (arith, ap length f),
-        ap (λ (p : ℕ). kindAt (runOf p (firstLine (drop (i + 1) t)))) k ∙ ap (λ (l : List ℕ). kindAt (runOf q l)) (sym f),
-      )
-
--- at the place i in the state q: what is left leads to the line's end and kind
-pub record Scanning (t : List ℕ) (at i q : ℕ) : Type 0 where
-  pub within : i ≤ length t
-  pub inside : q < length states
-  pub end : lineEnd t i ≡ lineEnd t at
-  pub kind : runsOn t i q ≡ runsOn t at start
-
-pub scan-done : (t : List ℕ) (at i q : ℕ) (k : Kind) → Scanning t at i q → (lineEnd t i ≡ i) × (kindAt q ≡ runsOn t i q) → k ≡ kindAt q →
-    (i ≡ lineEnd t at) × (k ≡ kindOf (firstLine (drop at t)))
-scan-done t at i q k s e h = (sym (e .0) ∙ s .end, h ∙ e .1 ∙ s .kind ∙ grid-reads (firstLine (drop at t)))
-
--- ---- a word, byte by byte
-
-module _ (w s : List ℕ) (i : ℕ) where
-  pub word-done : length w ≤ i → true ≡ startsWith (drop i w) (drop i s)
-  word-done h = ap (λ (v : List ℕ). startsWith v (drop i s)) (sym (drop-of-length-le w h))
-
-  pub word-short : i < length w → length s ≤ i → false ≡ startsWith (drop i w) (drop i s)
-  word-short h k = rw (drop-cons w i 0 h) (rw (drop-of-length-le s k) refl)
-
-  pub word-other : i < length w → i < length s → (getD s i 0 ≡ getD w i 0 → ⊥) → false ≡ startsWith (drop i w) (drop i s)
-  word-other h k e = rw (drop-cons w i 0 h) (rw (drop-cons s i 0 k) (simp (ne-eqb (getD w i 0) (getD s i 0) (λ f. e (sym f)))))
-
-  pub word-same : i < length w → i < length s → getD s i 0 ≡ getD w i 0 → startsWith (drop (i + 1) w) (drop (i + 1) s) ≡ startsWith (drop i w) (drop i s)
-  word-same h k e = rw (add-one i) (rw (drop-cons w i 0 h) (rw (drop-cons s i 0 k) (simp (eq-eqb (getD w i 0) (getD s i 0) (sym e)))))
-
--- ---- numbers, where the code reads them
-
--- the text past a number's digits, from k bytes on
-past-at : (s : List ℕ) (at k : ℕ) → drop (at + length (leading (drop at s)) + k) s ≡ drop k (past (drop at s))
-past-at s at k =
-    sym (ap (drop k) (past-drop (drop at s) ∙ drop-drop (length (leading (drop at s))) at s) ∙ drop-drop k (at + length (leading (drop at s))) s)
-
-abbrev pub numberAt : List ℕ → ℕ → Number
-numberAt s at = numberRead (leading (drop at s)) at
-
-abbrev withSecond : ℕ → Number → Pair
-withSecond v (Number.Plain w next) = Both v w next
-withSecond v Number.Faulty = Faulty
-
--- two numbers, one after the other
-abbrev inTurn : Number → (ℕ → Number) → Pair
-inTurn (Number.Plain v next) f = withSecond v (f next)
-inTurn Number.Faulty f = Faulty
-
-second-law : (v : ℕ) (digits : List ℕ) (at : ℕ)
-    → withSecond v (numberRead digits at) ≡ cond (plain digits) (Both v (value digits) (at + length digits)) Faulty
-unfolding numberRead
-second-law v digits at = go (plain digits) (value digits) (at + length digits)
-  where
-    go : (p : Bool) (w n : ℕ) → withSecond v (cond p (Number.Plain w n) Number.Faulty) ≡ cond p (Both v w n) Faulty
-    go true w n = refl
-    go false w n = refl
-
-abbrev secondOf : ℕ → List ℕ → List ℕ
-secondOf k l = leading (drop k (past l))
-
-pub pair-law : (s : List ℕ) (k at : ℕ) → inTurn (numberAt s at) (λ next. numberAt s (next + k)) ≡ pairOf (drop at s) k at
-unfolding pairOf numberRead
-pair-law s k at = go (plain (leading (drop at s)))
-  where
-    go : (p : Bool) → let l = drop at s in
-        inTurn (cond p (Number.Plain (value (leading l)) (at + length (leading l))) Number.Faulty) (λ next. numberAt s (next + k))
-        ≡ cond (p && plain (secondOf k l)) (Both (value (leading l)) (value (secondOf k l)) (at + length (leading l) + k + length (secondOf k l))) Faulty
-    go true = rw (past-at s at k) (second-law (value (leading (drop at s))) (secondOf k (drop at s)) (at + length (leading (drop at s)) + k))
-    go false = refl
-
--- ---- the three forms
-
--- how long a form's words are
-abbrev wordLengths : List Piece → List ℕ
-wordLengths [] = []
-wordLengths (word w ∷ f) = length w ∷ wordLengths f
-wordLengths (number ∷ f) = wordLengths f
-
-abbrev wordLength : List Piece → ℕ → ℕ
-wordLength f i = getD (wordLengths f) i 0
-
--- what the code says of the numbers that it reads
-abbrev sheetSays : Number → Line
-sheetSays (Number.Plain v next) = Sheet v
-sheetSays Number.Faulty = Refused 4
-
-abbrev pairSays : (ℕ → ℕ → Line) → Pair → Line
-pairSays line (Both v w next) = line v w
-pairSays line Faulty = Refused 4
-
-abbrev unitSays : Number → (ℕ → Pair) → Line
-unitSays (Number.Plain v next) f = pairSays (Unit v) (f next)
-unitSays Number.Faulty f = Refused 4
-
-abbrev ruleSays : Pair → (ℕ → Pair) → Line
-ruleSays (Both v w next) f = pairSays (Rule v w) (f next)
-ruleSays Faulty f = Refused 4
-
-pub sheet-said : (s : List ℕ) → sheetSays (numberAt s (wordLength sheetForm 0)) ≡ said (sheetContent s)
-unfolding said numbers numberRead
-sheet-said s = go (plain (leading (drop (wordLength sheetForm 0) s))) _ _
-  where
-    go : (p : Bool) (v n : ℕ) → sheetSays (cond p (Number.Plain v n) Number.Faulty) ≡ cond (p && true) (Sheet v) (Refused 4)
-    go true v n = refl
-    go false v n = refl
-
--- the last two numbers of a line, past those that `line` has already
-last-two : (line : ℕ → ℕ → Line) (l : List ℕ) (k at : ℕ) → pairSays line (pairOf l k at)
-    ≡ cond (plain (leading l) && (plain (secondOf k l) && true)) (line (value (leading l)) (value (secondOf k l))) (Refused 4)
-unfolding pairOf
-last-two line l k at = go (plain (leading l)) (plain (secondOf k l)) _ _ _
-  where
-    go : (p q : Bool) (x y n : ℕ) → pairSays line (cond (p && q) (Both x y n) Faulty) ≡ cond (p && (q && true)) (line x y) (Refused 4)
-    go true true x y n = refl
-    go true false x y n = refl
-    go false q x y n = refl
-
-number-and-pair : (s : List ℕ) (a b c : ℕ) →
-    let l = drop a s in
-    let t = drop b (past l) in
-    unitSays (numberAt s a) (λ next. pairOf (drop (next + b) s) c (next + b))
-    ≡ cond (plain (leading l) && (plain (leading t) && (plain (secondOf c t) && true)))
-    (Unit (value (leading l)) (value (leading t)) (value (secondOf c t))) (Refused 4)
-unfolding numberRead
-number-and-pair s a b c = go (plain (leading (drop a s)))
-  where
-    go : (p : Bool) →
-        let l = drop a s in
-        let t = drop b (past l) in
-        unitSays (cond p (Number.Plain (value (leading l)) (a + length (leading l))) Number.Faulty) (λ next. pairOf (drop (next + b) s) c (next + b))
-        ≡ cond (p && (plain (leading t) && (plain (secondOf c t) && true)))
-        (Unit (value (leading l)) (value (leading t)) (value (secondOf c t))) (Refused 4)
-    go true = rw (past-at s a b) (last-two (Unit _) (drop b (past (drop a s))) c _)
-    go false = refl
-
-pub unit-said : (s : List ℕ) →
-    let a = wordLength unitForm 0 in
-    let b = wordLength unitForm 1 in
-    unitSays (numberAt s a) (λ next. pairOf (drop (next + b) s) (wordLength unitForm 2) (next + b)) ≡ said (unitContent s)
-unfolding said numbers
-unit-said s = number-and-pair s (wordLength unitForm 0) (wordLength unitForm 1) (wordLength unitForm 2)
-
--- the text past two numbers, from c bytes on
-past-two : (s : List ℕ) (a b c : ℕ)
-    → drop (a + length (leading (drop a s)) + b + length (leading (drop b (past (drop a s)))) + c) s ≡ drop c (past (drop b (past (drop a s))))
-past-two s a b c =
-    let n = a + length (leading (drop a s)) + b in
-    subst (λ (l : List ℕ). drop (n + length (leading l) + c) s ≡ drop c (past l)) (past-at s a b) (past-at s n c)
-
-two-pairs : (s : List ℕ) (a b c d : ℕ) →
-    let l = drop a s in
-    let t = drop c (past (drop b (past l))) in
-    ruleSays (pairOf l b a) (λ next. pairOf (drop (next + c) s) d (next + c))
-    ≡ cond (plain (leading l) && (plain (secondOf b l) && (plain (leading t) && (plain (secondOf d t) && true))))
-    (Rule (value (leading l)) (value (secondOf b l)) (value (leading t)) (value (secondOf d t))) (Refused 4)
-unfolding pairOf
-two-pairs s a b c d = go (plain (leading (drop a s))) (plain (secondOf b (drop a s)))
-  where
-    go : (p q : Bool) →
-        let l = drop a s in
-        let t = drop c (past (drop b (past l))) in
-        ruleSays (cond (p && q) (Both (value (leading l)) (value (secondOf b l)) (a + length (leading l) + b + length (secondOf b l))) Faulty)
-        (λ next. pairOf (drop (next + c) s) d (next + c))
-        ≡ cond (p && (q && (plain (leading t) && (plain (secondOf d t) && true))))
-        (Rule (value (leading l)) (value (secondOf b l)) (value (leading t)) (value (secondOf d t))) (Refused 4)
-    go true true = rw (past-two s a b c) (last-two (Rule _ _) (drop c (past (drop b (past (drop a s))))) d _)
-    go true false = refl
-    go false q = refl
-
-pub rule-said : (s : List ℕ) →
-    let a = wordLength ruleForm 0 in
-    let c = wordLength ruleForm 2 in
-    ruleSays (pairOf (drop a s) (wordLength ruleForm 1) a) (λ next. pairOf (drop (next + c) s) (wordLength ruleForm 3) (next + c)) ≡ said (ruleContent s)
-unfolding said numbers
-rule-said s = two-pairs s (wordLength ruleForm 0) (wordLength ruleForm 1) (wordLength ruleForm 2) (wordLength ruleForm 3)
+use Rattle.read_line.specs.declared.Line.the-variants.{Refused, Note, Sheet}
 
 -- ---- a note's end
 
@@ -256,45 +53,219 @@ note-open s e = go (afterList (drop 1 s) zero 1) e ∙ list-matched (drop 1 s) z
     go (rest r) e = let z : _≡_ {A = ℕ} 0 1 = cc in absurd (omega arith)
     go unmatched e = refl
 
-pub note-some : (s : List ℕ) → isNote s ≡ true → 1 ≤ length s
-unfolding isNote text
-note-some [] h = false-not-true h
-note-some (b ∷ l) h = omega arith
+-- ---- the values of a line's numbers
+
+sets-before : (xs v : List ℕ) (n j : ℕ) → j < n → getD (sets v n xs) j 0 ≡ getD v j 0
+sets-before [] v n j h = refl
+sets-before (x ∷ xs) v n j h = sets-before xs (set v n x) (suc n) j (omega arith) ∙ getD-set-other v n j x 0 (λ e. omega arith)
+
+sets-at : (xs v : List ℕ) (n i : ℕ) → n + length xs ≤ length v → i < length xs → getD (sets v n xs) (n + i) 0 ≡ getD xs i 0
+sets-at [] v n i h l = absurd (omega arith)
+sets-at (x ∷ xs) v n zero h l =
+    ap (λ k. getD (sets (set v n x) (suc n) xs) k 0) (add-zero n) ∙ sets-before xs (set v n x) (suc n) n (omega arith)
+    ∙ getD-set-same v n x 0 (omega arith)
+sets-at (x ∷ xs) v n (suc i) h l =
+    let e : n + suc i ≡ suc n + i = omega arith in
+    ap (λ k. getD (sets (set v n x) (suc n) xs) k 0) e ∙ sets-at xs (set v n x) (suc n) i (omega (arith, length-set v n x)) (omega arith)
+
+turn-values : (n : ℕ) (ds : List (List ℕ)) (v : List ℕ) (p : Bool) →
+    withNumbers (valued v p) (inTurn (ends + n) ds) ≡ valued (sets v n (map readValue ds)) (p && every plain ds)
+unfolding withNumbers
+turn-values n [] v p = ap (valued v) (sym (and-true p))
+turn-values n (d ∷ ds) v p =
+    let e : ends + n - ends ≡ n = omega arith in
+    let f : suc (ends + n) ≡ ends + suc n = omega arith in
+    ap₂ (λ (k : ℕ) (q : ℕ). withNumbers (valued (set v k (readValue d)) (p && plain d)) (inTurn q ds)) e f
+    ∙ turn-values (suc n) ds (set v n (readValue d)) (p && plain d)
+    ∙ ap (valued (sets (set v n (readValue d)) (suc n) (map readValue ds))) (and-assoc p (plain d) (every plain ds))
+
+read-at : (ds : List (List ℕ)) (i : ℕ) → every plain ds ≡ true → i < length ds → getD (map readValue ds) i 0 ≡ valueAt ds i
+read-at [] i h l = absurd (omega arith)
+read-at (d ∷ ds) zero h l = ap (λ (b : Bool). cond b (value d) 0) (and-left (plain d) (every plain ds) h)
+read-at (d ∷ ds) (suc i) h l = read-at ds i (and-right (plain d) (every plain ds) h) (omega arith)
+
+-- numbers that were met in turn from the n-th on
+module _ (n : ℕ) (ds : List (List ℕ)) (before v : List ℕ) (p : Bool) (fits : n + length ds ≤ length before)
+    (e : valued v p ≡ withNumbers (valued before true) (inTurn (ends + n) ds)) where
+  whole : valued v p ≡ valued (sets before n (map readValue ds)) (every plain ds)
+  whole = e ∙ turn-values n ds before true
+
+  plain-is : p ≡ every plain ds
+  plain-is = ap (λ w. w .plain) whole
+
+  value-is : every plain ds ≡ true → (i : ℕ) → i < length ds → getD v (n + i) 0 ≡ valueAt ds i
+  value-is h i l =
+      ap (λ w. getD (w .values) (n + i) 0) whole
+      ∙ sets-at (map readValue ds) before n i (omega (arith, length-map ds readValue)) (omega (arith, length-map ds readValue)) ∙ read-at ds i h l
+
+  -- what the code says by the values it says by the digits
+  values-are : (x y : Line) → (every plain ds ≡ true → x ≡ y) → cond p x (Refused 4) ≡ cond (every plain ds) y (Refused 4)
+  values-are x y h = ap (λ (b : Bool). cond b x (Refused 4)) plain-is ∙ go (every plain ds) refl
+    where
+      go : (b : Bool) → every plain ds ≡ b → cond b x (Refused 4) ≡ cond b y (Refused 4)
+      go true k = h k
+      go false k = refl
+
+unit-said : (h : House) (ds : List (List ℕ)) → said (unitSaid h ds) ≡ cond (every plain ds) (unitBy h (valueAt ds 0) (valueAt ds 1) (valueAt ds 2)) (Refused 4)
+unfolding said
+unit-said Ours ds = refl
+unit-said Partner ds = refl
+
+rule-said : (h : House) (ds : List (List ℕ)) →
+    said (ruleSaid h ds) ≡ cond (every plain ds) (ruleBy h (valueAt ds 0) (valueAt ds 1) (valueAt ds 2) (valueAt ds 3)) (Refused 4)
+unfolding said
+rule-said Ours ds = refl
+rule-said Partner ds = refl
 
 -- ---- the questions of a line in their order
 
-form-printable : (l : List ℕ) → printableKind (formOf l) ≡ true
-form-printable l = go (matches sheetForm l) (matches unitForm l) (matches ruleForm l)
-  where
-    go : (p q r : Bool) → printableKind (cond p Kind.Sheet (cond q Kind.Unit (cond r Kind.Rule Kind.Other))) ≡ true
-    go true q r = refl
-    go false true r = refl
-    go false false true = refl
-    go false false false = refl
+-- with its line feed, by its kind
+abbrev ended : House → Kind → List ℕ → Line
+ended h Kind.Unprintable l = Refused 2
+ended h Kind.Note l = cond (noteMatched l) Note (Refused 11)
+ended h Kind.Sheet l = said (formContent h Kind.Sheet l)
+ended h Kind.Unit l = said (formContent h Kind.Unit l)
+ended h Kind.Rule l = said (formContent h Kind.Rule l)
+ended h Kind.Other l = Refused 3
 
--- only notes are asked about brackets
-form-brackets : (k : Kind) (l : List ℕ) → bracketsMatch (formContent k l) l ≡ true
-form-brackets Kind.Unprintable l = refl
-form-brackets Kind.Sheet l = refl
-form-brackets Kind.Unit l = refl
-form-brackets Kind.Rule l = refl
-form-brackets Kind.Other l = refl
+module _ (h : House) (l : List ℕ) where
+  by-kind : lineOf h l true ≡ ended h (kindOf h l) l
+  unfolding lineOf contentOf kindOf said
+  by-kind = go (printable l) (matches noteForm l) (matches shortNoteForm l) (matches (spanFormOf h) l) (matches (unitFormOf h) l) (matches (ruleFormOf h) l)
+    where
+      line : Bool → Kind → Line
+      line p k = cond p (cond (bracketsMatch (formContent h k l) l) (said (formContent h k l)) (Refused 11)) (Refused 2)
 
--- the questions as the code asks them
-pub asked : (l : List ℕ) (k : Kind) (ended : Bool) → k ≡ kindOf l → lineOf l ended
-    ≡ cond (printableKind k)
-    (cond (isNote l) (cond (noteMatched l) (cond ended Note (Refused 3)) (Refused 11)) (cond ended (said (formContent k l)) (Refused 3)))
-    (Refused 2)
-unfolding lineOf contentOf kindOf said
-asked l k ended e = rw e (go (printable l) (isNote l))
+      unit : (h : House) → cond (bracketsMatch (formContent h Kind.Unit l) l) (said (formContent h Kind.Unit l)) (Refused 11) ≡ ended h Kind.Unit l
+      unit Ours = refl
+      unit Partner = refl
+
+      rule : (h : House) → cond (bracketsMatch (formContent h Kind.Rule l) l) (said (formContent h Kind.Rule l)) (Refused 11) ≡ ended h Kind.Rule l
+      rule Ours = refl
+      rule Partner = refl
+
+      go : (p m n s u r : Bool) → let k = cond m Kind.Note (cond n Kind.Note (cond s Kind.Sheet (cond u Kind.Unit (cond r Kind.Rule Kind.Other)))) in
+          line p k ≡ ended h (cond p k Kind.Unprintable) l
+      go false m n s u r = refl
+      go true true n s u r = refl
+      go true false true s u r = refl
+      go true false false true u r = refl
+      go true false false false true r = unit h
+      go true false false false false true = rule h
+      go true false false false false false = refl
+
+  pub line-unended : Refused (unendedFault (kindOf h l) l) ≡ lineOf h l false
+  unfolding lineOf contentOf kindOf
+  line-unended = go (printable l) (matches noteForm l) (matches shortNoteForm l) (matches (spanFormOf h) l) (matches (unitFormOf h) l) (matches (ruleFormOf h) l)
+    where
+      noted : (b : Bool) → Refused (cond b 3 11) ≡ cond b (Refused 3) (Refused 11)
+      noted true = refl
+      noted false = refl
+
+      unit : (h : House) → Refused 3 ≡ cond (bracketsMatch (formContent h Kind.Unit l) l) (Refused 3) (Refused 11)
+      unit Ours = refl
+      unit Partner = refl
+
+      rule : (h : House) → Refused 3 ≡ cond (bracketsMatch (formContent h Kind.Rule l) l) (Refused 3) (Refused 11)
+      rule Ours = refl
+      rule Partner = refl
+
+      go : (p m n s u r : Bool) → let k = cond m Kind.Note (cond n Kind.Note (cond s Kind.Sheet (cond u Kind.Unit (cond r Kind.Rule Kind.Other)))) in
+          Refused (unendedFault (cond p k Kind.Unprintable) l) ≡ cond p (cond (bracketsMatch (formContent h k l) l) (Refused 3) (Refused 11)) (Refused 2)
+      go false m n s u r = refl
+      go true true n s u r = noted (noteMatched l)
+      go true false true s u r = noted (noteMatched l)
+      go true false false true u r = refl
+      go true false false false true r = unit h
+      go true false false false false true = rule h
+      go true false false false false false = refl
+
+empty-kind : (h : House) → kindOf h [] ≡ Kind.Other
+unfolding kindOf matches printable text
+empty-kind Ours = refl
+empty-kind Partner = refl
+
+-- a note has bytes
+pub note-bytes : (h : House) (l : List ℕ) → kindOf h l ≡ Kind.Note → 1 ≤ length l
+note-bytes h [] e = absurd (omega (arith, ap code (sym (empty-kind h) ∙ e)))
+note-bytes h (b ∷ l) e = omega arith
+
+-- ---- what the code says by the values
+
+-- how many numbers a line of each form has
+sheet-numbers : (h : House) (l : List ℕ) → length (numbers (spanFormOf h) l) ≡ 1
+unfolding numbers
+sheet-numbers Ours l = refl
+sheet-numbers Partner l = refl
+
+unit-numbers : (h : House) (l : List ℕ) → length (numbers (unitFormOf h) l) ≡ 3
+unfolding numbers
+unit-numbers Ours l = refl
+unit-numbers Partner l = refl
+
+rule-numbers : (h : House) (l : List ℕ) → (3 ≤ length (numbers (ruleFormOf h) l)) × (length (numbers (ruleFormOf h) l) ≤ 4)
+unfolding numbers
+rule-numbers Ours l = (omega arith, omega arith)
+rule-numbers Partner l = (omega arith, omega arith)
+
+-- ours has one more
+four : (l : List ℕ) → length (numbers (ruleFormOf Ours) l) ≡ 4
+unfolding numbers
+four l = refl
+
+module _ (h : House) (l before v : List ℕ) (p : Bool) (room : length before ≡ 8) (e : valued v p ≡ withNumbers (valued before true) (met h start l)) where
+  sheet-line : kindOf h l ≡ Kind.Sheet → cond p (Sheet (getD v 0 0)) (Refused 4) ≡ said (formContent h Kind.Sheet l)
+  unfolding said
+  sheet-line k =
+      let ds = numbers (spanFormOf h) l in
+      let n = sheet-numbers h l in
+      let there : valued v p ≡ withNumbers (valued before true) (inTurn (ends + 0) ds) = e ∙ ap (withNumbers (valued before true)) (sheet-met h l k) in
+      let fits : 0 + length ds ≤ length before = omega (arith, n) in
+      values-are 0 ds before v p fits there _ _ (λ t. ap Sheet (value-is 0 ds before v p fits there t 0 (omega (arith, n))))
+
+  unit-line : kindOf h l ≡ Kind.Unit → cond p (unitBy h (getD v 1 0) (getD v 2 0) (getD v 3 0)) (Refused 4) ≡ said (formContent h Kind.Unit l)
+  unit-line k =
+      let ds = numbers (unitFormOf h) l in
+      let n = unit-numbers h l in
+      let there : valued v p ≡ withNumbers (valued before true) (inTurn (ends + 1) ds) = e ∙ ap (withNumbers (valued before true)) (unit-met h l k) in
+      let fits : 1 + length ds ≤ length before = omega (arith, n) in
+      let at = value-is 1 ds before v p fits there in
+      values-are 1 ds before v p fits there _ _ (λ t. ap₂ (λ (a b : ℕ). unitBy h a b (getD v 3 0)) (at t 0 (omega (arith, n))) (at t 1 (omega (arith, n)))
+      ∙ ap (unitBy h (valueAt ds 0) (valueAt ds 1)) (at t 2 (omega (arith, n)))) ∙ sym (unit-said h ds)
+
+  rule-line : kindOf h l ≡ Kind.Rule → cond p (ruleBy h (getD v 4 0) (getD v 5 0) (getD v 6 0) (getD v 7 0)) (Refused 4) ≡ said (formContent h Kind.Rule l)
+  rule-line k =
+      let ds = numbers (ruleFormOf h) l in
+      let n = rule-numbers h l in
+      let there : valued v p ≡ withNumbers (valued before true) (inTurn (ends + 4) ds) = e ∙ ap (withNumbers (valued before true)) (rule-met h l k) in
+      let fits : 4 + length ds ≤ length before = omega (arith, n .1) in
+      let at = value-is 4 ds before v p fits there in
+      values-are 4 ds before v p fits there _ _ (λ t. ap₂ (λ (a b : ℕ). ruleBy h a b (getD v 6 0) (getD v 7 0)) (at t 0 (omega (arith, n .0))) (at t 1 (omega (arith, n .0)))
+      ∙ ap (λ c. ruleBy h (valueAt ds 0) (valueAt ds 1) c (getD v 7 0)) (at t 2 (omega (arith, n .0))) ∙ last h t at) ∙ sym (rule-said h ds)
+    where
+      last : (h : House) → every plain (numbers (ruleFormOf h) l) ≡ true → ((t : every plain (numbers (ruleFormOf h) l) ≡ true) (i : ℕ)
+          → i < length (numbers (ruleFormOf h) l) → getD v (4 + i) 0 ≡ valueAt (numbers (ruleFormOf h) l) i) →
+          let ds = numbers (ruleFormOf h) l in
+          ruleBy h (valueAt ds 0) (valueAt ds 1) (valueAt ds 2) (getD v 7 0) ≡ ruleBy h (valueAt ds 0) (valueAt ds 1) (valueAt ds 2) (valueAt ds 3)
+      last Ours t at = ap (ruleBy Ours _ _ _) (at t 3 (omega (arith, four l)))
+      last Partner t at = refl
+
+  pub line-said : (k : Kind) → k ≡ kindOf h l → lineSaid h k p v l ≡ lineOf h l true
+  line-said k is = go k is ∙ sym (by-kind h l)
+    where
+      go : (k : Kind) → k ≡ kindOf h l → lineSaid h k p v l ≡ ended h (kindOf h l) l
+      go Kind.Unprintable is = ap (λ j. ended h j l) is
+      go Kind.Note is = ap (λ j. ended h j l) is
+      go Kind.Sheet is = sheet-line (sym is) ∙ ap (λ j. ended h j l) is
+      go Kind.Unit is = unit-line (sym is) ∙ ap (λ j. ended h j l) is
+      go Kind.Rule is = rule-line (sym is) ∙ ap (λ j. ended h j l) is
+      go Kind.Other is = ap (λ j. ended h j l) is
+
+-- before a line is read every value is 0
+pub zeros-small : Small (replicate 8 0)
+zeros-small = record { each = λ i. zero-at 8 i }
   where
-    go : (p n : Bool)
-        → cond p (cond (bracketsMatch (cond n Content.note (formContent (formOf l) l)) l)
-        (cond ended (said (cond n Content.note (formContent (formOf l) l))) (Refused 3)) (Refused 11)) (Refused 2)
-        ≡ cond (printableKind (cond p (formOf l) Kind.Unprintable))
-        (cond n (cond (noteMatched l) (cond ended Note (Refused 3)) (Refused 11))
-        (cond ended (said (formContent (cond p (formOf l) Kind.Unprintable) l)) (Refused 3)))
-        (Refused 2)
-    go false n = refl
-    go true true = rw (form-printable l)
-    go true false = rw (form-printable l, form-brackets (formOf l) l)
+    zero-at : (n i : ℕ) → getD (replicate n 0) i 0 ≤ maxNumber
+    zero-at zero i = omega arith
+    zero-at (suc n) zero = omega arith
+    zero-at (suc n) (suc i) = zero-at n i

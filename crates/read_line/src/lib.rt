@@ -1,17 +1,22 @@
 ghost use mathlib.Core.Path.{_≡_};
+ghost use mathlib.Core.Bool.{true, false, cond};
 ghost use Prim.Native.Nat.{_+_, _≤_, _<_};
 ghost use lib.ListN.{length, drop};
-ghost use Rattle.forms.specs.Form.{startsWith};
-ghost use Rattle.read_form.specs.Kinds.{kindOf};
-ghost use Rattle.read_form.specs.Grid.{Tables};
-ghost use Rattle.forms.specs.Lines.{firstLine, hasFeed};
+ghost use Rattle.forms.specs.Lines.{hasFeed, wholeLines};
+ghost use Rattle.forms.specs.declared.House.{House};
 ghost use Rattle.forms.specs.LinesLaws.{lineEnd};
-ghost use Rattle.read_line.specs.Content.{isNote, noteMatched, sheetContent, unitContent, ruleContent, formContent};
-ghost use Rattle.read_line.specs.Line.{said, lineOf, pairOf, pairEnd, printableKind};
+ghost use Rattle.read_form.specs.Grid.{start, stateCount, runOf, Tables};
+ghost use Rattle.read_number.specs.Number.{maxNumber};
+ghost use Rattle.read_line.specs.Content.{noteMatched, lastOf};
+ghost use Rattle.read_line.specs.Line.{lineOf};
+ghost use Rattle.read_line.specs.Scan.{lineAt, Resumes, StopsAt, ScannedAs, Small, unitBy, ruleBy, NoteHasBytes, lineSaid, unendedFault};
+ghost use Rattle.read_line.specs.declared.Line.the-variants as Line;
+use forms::House;
+use read_form::ENDS;
 use read_form::Grid;
 use read_form::Kind;
-use read_form::Number;
-use read_form::tables;
+use read_form::START;
+use read_form::STOPS;
 use read_notes::End;
 
 // What one line says, or the question it fails. A unit has its loader number and the first and last slot of its window.
@@ -23,72 +28,127 @@ pub enum Line {
     Rule(u16, u16, u16, u16),
 }
 
-// Where a line ends, and what its bytes are.
-pub struct Scanned {
-    pub end: usize,
-    pub kind: Kind,
-}
-
 // A line, and the place where the next one starts.
 pub struct Found {
     pub line: Line,
     pub next: usize,
 }
 
-// Two numbers and the place past them, or that question 4 is answered no.
-pub enum Pair {
-    Both {
-        first: u16,
-        second: u16,
-        next: usize,
-    },
-    Faulty,
+// Where reading a line stops: the place of its line feed or of a number's first digit, and the state past that byte.
+struct Stop {
+    place: usize,
+    state: usize,
 }
 
-// The form reader over the bytes from a place to the next line feed or the text's end.
-fn scan(text: &[u8], at: usize, grid: &Grid, table: &[u8; 256]) -> Scanned
-    requires { ⌜ (at ≤ length (now text)) × Tables (now grid) (now table) ⌝ }
-    ensures { λ r. ⌜ (r .end ≡ lineEnd (now (text .entry)) at) × (r .kind ≡ kindOf (firstLine (drop at (now (text .entry))))) ⌝ }
+// Where a line ends, what its bytes are, and whether its numbers pass question 4.
+struct Scanned {
+    end: usize,
+    kind: Kind,
+    plain: bool,
+}
+
+// How many values a line's numbers have room for: one for each state in which a number has begun.
+const NUMBERS: usize = STOPS - ENDS;
+
+// Just past the last line feed of a text. Up to there every line has its own, so that no byte of it is asked whether the text ends.
+pub fn lines_end(text: &[u8]) -> usize
+    ensures { λ r. ⌜ r ≡ wholeLines (now (text .entry)) ⌝ }
 {
-    let mut state = tables::START;
-    let mut i = at;
-    while i < text.len() {
-        let b = text[i];
-        if b == b'\n' {
+    let mut n = text.len();
+    while 0 < n {
+        if text[n - 1] == b'\n' {
             break;
         }
-        state = read_form::next_state(grid, table, state, b);
+        n -= 1;
+    }
+    n
+}
+
+// The form reader from a place on, up to the line feed or the next number.
+fn to_stop(text: &[u8], at: usize, from: usize, grid: &Grid, table: &[u8; 256]) -> Stop
+    requires { ⌜ Resumes (now text) at from × ((h : House) × Tables h (now grid) (now table)) ⌝ }
+    ensures { λ r. ⌜ ((h : House) → Tables h (now (grid .entry)) (now (table .entry)) → StopsAt h (now (text .entry)) at from (r .place) (r .state)) ⌝ }
+{
+    let mut state = read_form::next_state(grid, table, from, text[at]);
+    let mut i = at + 1;
+    while STOPS <= state {
+        state = read_form::next_state(grid, table, state, text[i]);
         i += 1;
     }
-    Scanned {
-        end: i,
-        kind: read_form::kind_at(state),
+    Stop { place: i - 1, state }
+}
+
+// The line that starts at a place. Its numbers are read where they are met, each into the place of its state.
+fn scan(
+    text: &[u8],
+    at: usize,
+    grid: &Grid,
+    table: &[u8; 256],
+    values: &mut [u16; NUMBERS],
+) -> Scanned
+    requires { ⌜ (hasFeed (drop at (now text)) ≡ true) × ((h : House) × Tables h (now grid) (now table)) × Small (now values) ⌝ }
+    ensures { λ r. ⌜ ((h : House) → Tables h (now (grid .entry)) (now (table .entry))
+        → ScannedAs h (now (text .entry)) at (r .end) (r .kind) (r .plain) (now (values .entry)) (now (values .exit))) ⌝ }
+    ensures { λ _. ⌜ Small (now (values .exit)) ⌝ }
+{
+    let mut state = START;
+    let mut i = at;
+    let mut plain = true;
+    loop {
+        let stop = to_stop(text, i, state, grid, table);
+        if stop.state < ENDS {
+            return Scanned {
+                end: stop.place,
+                kind: read_form::kind_of_code(stop.state),
+                plain,
+            };
+        }
+        let number = read_number::number_at(text, stop.place);
+        values[stop.state - ENDS] = number.value;
+        if !number.plain {
+            plain = false;
+        }
+        state = stop.state;
+        i = number.next;
     }
 }
 
-fn starts_with(s: &[u8], word: &[u8]) -> bool
-    ensures { λ r. ⌜ r ≡ startsWith (now (word .entry)) (now (s .entry)) ⌝ }
+// The last slot of a stretch by its first and how many slots long it is. One of no slots ends before it starts, which question 7 then finds.
+fn last_of(start: u16, hours: u16) -> u16
+    requires { ⌜ (start ≤ maxNumber) × (hours ≤ maxNumber) ⌝ }
+    ensures { λ r. ⌜ r ≡ lastOf start hours ⌝ }
 {
-    let mut i: usize = 0;
-    while i < word.len() {
-        if s.len() <= i {
-            return false;
-        }
-        if s[i] != word[i] {
-            return false;
-        }
-        i += 1;
-    }
-    true
+    let past = start + hours;
+    if past == 0 { 0 } else { past - 1 }
 }
 
-fn is_note(s: &[u8]) -> bool
-    ensures { λ r. ⌜ r ≡ isNote (now (s .entry)) ⌝ }
+// A unit by its three numbers.
+fn unit_line(house: House, loader: u16, first: u16, third: u16) -> Line
+    requires { ⌜ (first ≤ maxNumber) × (third ≤ maxNumber) ⌝ }
+    ensures { λ r. ⌜ r ≡ unitBy house loader first third ⌝ }
 {
-    if starts_with(s, b"(note ") {
-        return true;
+    match house {
+        House::Ours => Line::Unit(loader, first, third),
+        House::Partner => Line::Unit(loader, first, last_of(first, third)),
     }
-    starts_with(s, b"(note)")
+}
+
+// A rule by its numbers, of which a partner's has three.
+fn rule_line(house: House, from: u16, second: u16, third: u16, fourth: u16) -> Line
+    requires { ⌜ (from ≤ maxNumber) × (second ≤ maxNumber) ⌝ }
+    ensures { λ r. ⌜ r ≡ ruleBy house from second third fourth ⌝ }
+{
+    match house {
+        House::Ours => Line::Rule(from, second, third, fourth),
+        House::Partner => Line::Rule(from, last_of(from, second), 0, third),
+    }
+}
+
+// Question 4, of a line by its numbers.
+fn checked(plain: bool, line: Line) -> Line
+    ensures { λ r. ⌜ r ≡ cond plain line (Line.Refused 4) ⌝ }
+{
+    if plain { line } else { Line::Refused(4) }
 }
 
 // Question 11.
@@ -103,152 +163,87 @@ fn note_matched(s: &[u8]) -> bool
     }
 }
 
-// Two numbers that are so many bytes apart, from a place on; few, so that no place wraps.
-fn pair_at(s: &[u8], at: usize, apart: usize) -> Pair
-    requires { ⌜ apart < 256 ⌝ }
-    ensures { λ r. ⌜ r ≡ pairOf (drop at (now (s .entry))) apart at ⌝ }
-    ensures { λ r. ⌜ pairEnd r ≤ length (now (s .entry)) ⌝ }
-{
-    let one = read_form::number_at(s, at);
-    match one {
-        Number::Plain {
-            value: first,
-            next: middle,
-        } => {
-            let two = read_form::number_at(s, middle + apart);
-            match two {
-                Number::Plain {
-                    value: second,
-                    next,
-                } => Pair::Both {
-                    first,
-                    second,
-                    next,
-                },
-                Number::Faulty => Pair::Faulty,
-            }
-        }
-        Number::Faulty => Pair::Faulty,
-    }
-}
-
-fn sheet_line(s: &[u8]) -> Line
-    ensures { λ r. ⌜ r ≡ said (sheetContent (now (s .entry))) ⌝ }
-{
-    let span = read_form::number_at(s, tables::SHEET_WORD_1);
-    match span {
-        Number::Plain { value, next: _ } => Line::Sheet(value),
-        Number::Faulty => Line::Refused(4),
-    }
-}
-
-fn unit_line(s: &[u8]) -> Line
-    ensures { λ r. ⌜ r ≡ said (unitContent (now (s .entry))) ⌝ }
-{
-    let number = read_form::number_at(s, tables::UNIT_WORD_1);
-    match number {
-        Number::Plain {
-            value: loader,
-            next,
-        } => {
-            let window = pair_at(s, next + tables::UNIT_WORD_2, tables::UNIT_WORD_3);
-            match window {
-                Pair::Both {
-                    first,
-                    second: last,
-                    next: _,
-                } => Line::Unit(loader, first, last),
-                Pair::Faulty => Line::Refused(4),
-            }
-        }
-        Number::Faulty => Line::Refused(4),
-    }
-}
-
-fn rule_line(s: &[u8]) -> Line
-    ensures { λ r. ⌜ r ≡ said (ruleContent (now (s .entry))) ⌝ }
-{
-    let slots = pair_at(s, tables::RULE_WORD_1, tables::RULE_WORD_2);
-    match slots {
-        Pair::Both {
-            first: from,
-            second: to,
-            next,
-        } => {
-            let count = pair_at(s, next + tables::RULE_WORD_3, tables::RULE_WORD_4);
-            match count {
-                Pair::Both {
-                    first: low,
-                    second: high,
-                    next: _,
-                } => Line::Rule(from, to, low, high),
-                Pair::Faulty => Line::Refused(4),
-            }
-        }
-        Pair::Faulty => Line::Refused(4),
-    }
-}
-
-// Questions 3 and 4 of a line that is no note and has its line feed.
-fn form_line(s: &[u8], kind: Kind) -> Line
-    ensures { λ r. ⌜ r ≡ said (formContent kind (now (s .entry))) ⌝ }
+// Questions 2, 11, 3 and 4 of a line that has its line feed, and else what it says.
+fn read_line(house: House, kind: Kind, plain: bool, values: &[u16; NUMBERS], s: &[u8]) -> Line
+    requires { ⌜ Small (now values) × NoteHasBytes kind (now s) ⌝ }
+    ensures { λ r. ⌜ r ≡ lineSaid house kind plain (now (values .entry)) (now (s .entry)) ⌝ }
 {
     match kind {
-        Kind::Sheet => sheet_line(s),
-        Kind::Unit => unit_line(s),
-        Kind::Rule => rule_line(s),
-        Kind::Unprintable => Line::Refused(3),
+        Kind::Unprintable => Line::Refused(2),
+        Kind::Note => {
+            if note_matched(s) {
+                Line::Note
+            } else {
+                Line::Refused(11)
+            }
+        }
+        Kind::Sheet => checked(plain, Line::Sheet(values[0])),
+        Kind::Unit => {
+            let unit = unit_line(house, values[1], values[2], values[3]);
+            checked(plain, unit)
+        }
+        Kind::Rule => {
+            let rule = rule_line(house, values[4], values[5], values[6], values[7]);
+            checked(plain, rule)
+        }
         Kind::Other => Line::Refused(3),
     }
 }
 
-fn is_printable(kind: Kind) -> bool
-    ensures { λ r. ⌜ r ≡ printableKind kind ⌝ }
-{
-    match kind {
-        Kind::Unprintable => false,
-        Kind::Sheet => true,
-        Kind::Unit => true,
-        Kind::Rule => true,
-        Kind::Other => true,
-    }
-}
-
-// Questions 2, 11, 3 and 4 of a line, in this order.
-fn read_line(s: &[u8], kind: Kind, ended: bool) -> Line
-    requires { ⌜ kind ≡ kindOf (now s) ⌝ }
-    ensures { λ r. ⌜ r ≡ lineOf (now (s .entry)) ended ⌝ }
-{
-    if !is_printable(kind) {
-        return Line::Refused(2);
-    }
-    if is_note(s) {
-        if !note_matched(s) {
-            return Line::Refused(11);
-        }
-        if ended {
-            return Line::Note;
-        }
-        return Line::Refused(3);
-    }
-    if !ended {
-        return Line::Refused(3);
-    }
-    form_line(s, kind)
-}
-
-// The line that starts at a place of a text.
-pub fn line_at(text: &[u8], at: usize, grid: &Grid, table: &[u8; 256]) -> Found
-    requires { ⌜ (at ≤ length (now text)) × Tables (now grid) (now table) ⌝ }
-    ensures { λ r. ⌜ r .line ≡ lineOf (firstLine (drop at (now (text .entry)))) (hasFeed (drop at (now (text .entry)))) ⌝ }
+// The line that starts at a place of a text, before its last line feed.
+pub fn line_at(house: House, text: &[u8], at: usize, grid: &Grid, table: &[u8; 256]) -> Found
+    requires { ⌜ (at < wholeLines (now text)) × Tables house (now grid) (now table) ⌝ }
+    ensures { λ r. ⌜ r .line ≡ lineOf house (lineAt (now (text .entry)) at) true ⌝ }
     ensures { λ r. ⌜ r .next ≡ lineEnd (now (text .entry)) at + 1 ⌝ }
 {
-    let found = scan(text, at, grid, table);
+    let mut values = [0u16; NUMBERS];
+    let found = scan(text, at, grid, table, &mut values);
     let end = found.end;
     let kind = found.kind;
-    let part = &text[at..end];
+    let plain = found.plain;
     Found {
-        line: read_line(part, kind, end < text.len()),
+        line: read_line(house, kind, plain, &values, &text[at..end]),
         next: end + 1,
     }
+}
+
+// The state past all bytes from a place on.
+fn run(text: &[u8], at: usize, grid: &Grid, table: &[u8; 256]) -> usize
+    requires { ⌜ (at ≤ length (now text)) × ((h : House) × Tables h (now grid) (now table)) ⌝ }
+    ensures { λ r. ⌜ (r < stateCount)
+        × ((h : House) → Tables h (now (grid .entry)) (now (table .entry)) → r ≡ runOf h start (drop at (now (text .entry)))) ⌝ }
+{
+    let mut state = START;
+    let mut i = at;
+    while i < text.len() {
+        state = read_form::next_state(grid, table, state, text[i]);
+        i += 1;
+    }
+    state
+}
+
+// The question that a line without its line feed fails: 2, 11 or, for want of the line feed, 3.
+fn unended(kind: Kind, s: &[u8]) -> usize
+    requires { ⌜ NoteHasBytes kind (now s) ⌝ }
+    ensures { λ r. ⌜ r ≡ unendedFault kind (now (s .entry)) ⌝ }
+{
+    match kind {
+        Kind::Unprintable => 2,
+        Kind::Note => { if note_matched(s) { 3 } else { 11 } }
+        Kind::Sheet => 3,
+        Kind::Unit => 3,
+        Kind::Rule => 3,
+        Kind::Other => 3,
+    }
+}
+
+// The question that the bytes past the last line feed fail.
+pub fn last_line(house: House, text: &[u8], at: usize, grid: &Grid, table: &[u8; 256]) -> usize
+    requires { ⌜ (wholeLines (now text) ≤ at) × (at ≤ length (now text)) × Tables house (now grid) (now table) ⌝ }
+    ensures { λ r. ⌜ Line.Refused r ≡ lineOf house (drop at (now (text .entry))) false ⌝ }
+{
+    let state = run(text, at, grid, table);
+    let end = read_form::next_state(grid, table, state, b'\n');
+    let kind = read_form::kind_of_code(end);
+    unended(kind, &text[at..])
 }

@@ -14,20 +14,25 @@ pub struct Number {
     pub next: usize,
 }
 
-fn is_digit(b: u8) -> bool
+// The bytes of 0 and 9. Bytes are taken as machine words, which the compiler need not cut back to eight bits.
+const ZERO: usize = 48;
+
+const NINE: usize = 57;
+
+fn is_digit(b: usize) -> bool
     ensures { λ r. ⌜ r ≡ isDigit b ⌝ }
 {
-    if b < b'0' {
+    if b < ZERO {
         return false;
     }
-    b <= b'9'
+    b <= NINE
 }
 
-fn digit(b: u8) -> u16
+fn digit(b: usize) -> usize
     requires { ⌜ isDigit b ≡ true ⌝ }
     ensures { λ r. ⌜ (r ≡ b - 48) × (r ≤ 9) ⌝ }
 {
-    (b - b'0') as u16
+    b - ZERO
 }
 
 // A number that question 4 does not let pass. Its digits end before the line feed that is known to follow, so no byte is asked whether there is one.
@@ -36,7 +41,7 @@ fn faulty(s: &[u8], at: usize) -> Number
     ensures { λ r. ⌜ r ≡ numberWith 0 false (at + length (leading (drop at (now (s .entry))))) ⌝ }
 {
     let mut i = at;
-    while is_digit(s[i]) {
+    while is_digit(s[i] as usize) {
         i += 1;
     }
     Number {
@@ -52,11 +57,11 @@ pub fn number_at(s: &[u8], at: usize) -> Number
     ensures { λ r. ⌜ r ≡ numberRead (leading (drop at (now (s .entry)))) at ⌝ }
     ensures { λ r. ⌜ r .value ≤ maxNumber ⌝ }
 {
-    let one = digit(s[at]);
-    let second = s[at + 1];
+    let one = digit(s[at] as usize);
+    let second = s[at + 1] as usize;
     if !is_digit(second) {
         return Number {
-            value: one,
+            value: one as u16,
             plain: true,
             next: at + 1,
         };
@@ -65,28 +70,28 @@ pub fn number_at(s: &[u8], at: usize) -> Number
         return faulty(s, at);
     }
     let two = one * 10 + digit(second);
-    let third = s[at + 2];
+    let third = s[at + 2] as usize;
     if !is_digit(third) {
         return Number {
-            value: two,
+            value: two as u16,
             plain: true,
             next: at + 2,
         };
     }
     let three = two * 10 + digit(third);
-    let fourth = s[at + 3];
+    let fourth = s[at + 3] as usize;
     if !is_digit(fourth) {
         return Number {
-            value: three,
+            value: three as u16,
             plain: true,
             next: at + 3,
         };
     }
-    if is_digit(s[at + 4]) {
+    if is_digit(s[at + 4] as usize) {
         return faulty(s, at);
     }
     Number {
-        value: three * 10 + digit(fourth),
+        value: (three * 10 + digit(fourth)) as u16,
         plain: true,
         next: at + 4,
     }

@@ -47,7 +47,7 @@ start c = c .before .before .before .before .before .before .before .before .bef
 abbrev text : tie.At-loop Inv-loop μ-loop → List ℕ
 text c = start c .args .text .now
 
--- what was asked of the whole text before the loop
+-- the form reader's tables, which were taken before the loop
 tables : (c : tie.At-loop Inv-loop μ-loop) →
     Tables (start c .args .house) (c .before .before .before .before .grid-of .result) (c .before .before .before .class-table .result)
 tables c = record { is-grid = c .before .before .before .before .grid-of .ensures; is-classes = c .before .before .before .class-table .ensures }

@@ -1,28 +1,50 @@
--- The scan's end is the end of the first line of what is left, so the part up to it is that line, and a line feed stands there if it is not the
--- text's end.
-use Prim.Native.Nat.{ℕ, _+_}
-use mathlib.Core.Path.{sym, ap, ap₂, _∙_}
+-- The part that is handed on is the line that was scanned, and what is said of it by the values is what the definition says (`line-said` of LineLaws).
+use Prim.Native.Nat.{_+_, _≤_}
+use mathlib.Core.Path.{_≡_, refl, sym, ap, ap₂, _∙_}
+use mathlib.Core.Bool.{true}
 use native.Mathlib.Omega.{arith}
-use Rattle.read_form.specs.Kinds.{kindOf}
-use Rattle.read_line.specs.Line.{lineOf}
-use Rattle.forms.specs.LinesLaws.{end-within, line-part, line-ended}
+use lib.ListN.{length, drop, getD, replicate}
+use Rattle.forms.specs.Lines.{hasFeed}
+use Rattle.forms.specs.LinesLaws.{lineEnd, end-within, line-part, whole-ended, whole-within, whole-next}
+use Rattle.read_line.specs.Scan.{ScannedAs, Small, lineSaid}
+use Rattle.read_line.proofs.LineLaws.{note-bytes, line-said, zeros-small}
 use borrow.Author.Needs.{needs}
 use Rattle.read_line.proofs.line_at.Statement.{statement}
 use Rattle.read_line.proofs.line_at.Tie as tie
 
+module _ (c : tie.After-scan) where
+  abbrev begun : tie.Start
+  begun = c .before .before .before
+
+  scanned : ScannedAs (begun .args .house) (begun .args .text .now) (begun .args .at) (c .scan .result .end) (c .scan .result .kind) (c .scan .result .plain)
+      (replicate 8 0) (c .scan .last .1 .1 .1 .1 .0)
+  scanned = c .scan .ensures .0 (begun .args .house) (begun .pre .1)
+
+  end-inside : c .scan .result .end + 1 ≤ length (begun .args .text .now)
+  end-inside =
+      let a = begun .args in
+      omega (arith, scanned .is-end, whole-next (a .text .now) (a .at) (begun .pre .0), whole-within (a .text .now))
+
+  start-inside : begun .args .at ≤ c .scan .result .end
+  start-inside = omega (arith, scanned .is-end)
+
 pub line-at-spec : {M : Type 1} → statement M
-line-at-spec = tie.close (tie.spec (λ c κs. search needs) (λ c. search needs) (λ c. search needs)
-    (λ c. let a = c .before .before .args in
-    omega (arith, end-within (a .text .now) (a .at) (c .before .before .pre .0), c .scan .ensures .0))
-    (λ c κs. let a = c .before .before .before .args in
-    let r = c .before .scan .ensures in
-    r .1 ∙ ap kindOf (sym (line-part (a .text .now) (a .at) (c .before .scan .result .end) (r .0))))
-    (λ c. let a = c .before .before .before .before .args in
-    omega (arith, end-within (a .text .now) (a .at) (c .before .before .before .before .pre .0), c .before .before .scan .ensures .0))
-    (λ c. let z = c .before .before .before .before in
-    let t = z .args .text .now in
-    let r = c .before .before .scan .ensures in
-    let end = c .before .before .scan .result .end in (
-      c .read-line .ensures ∙ ap₂ lineOf (line-part t (z .args .at) end (r .0)) (line-ended t (z .args .at) end (z .pre .0) (r .0)),
-      ap (λ (n : ℕ). n + 1) (r .0),
+line-at-spec = tie.close (tie.spec
+    (λ c κs. let z = c .before .before in (whole-ended (z .args .text .now) (z .args .at) (z .pre .0), (z .args .house, z .pre .1), zeros-small))
+    (λ c. start-inside (c .before)) (λ c. start-inside (c .before)) (λ c. omega (arith, end-inside (c .before)))
+    (λ c κs. let s = c .before .before in
+    let a = begun s .args in (
+      s .scan .ensures .1,
+      λ e. omega (
+        arith,
+        ap length (line-part (a .text .now) (a .at) _ (scanned s .is-end)),
+        note-bytes (a .house) _ (sym (scanned s .is-kind) ∙ e),
+      ),
+    ))
+    (λ c. omega (arith, end-inside (c .before .before .before)))
+    (λ c. let s = c .before .before .before in
+    let a = begun s .args in (
+      c .read-line .ensures ∙ ap (lineSaid (a .house) (s .scan .result .kind) (s .scan .result .plain) _) (line-part (a .text .now) (a .at) _ (scanned s .is-end))
+          ∙ line-said (a .house) _ (replicate 8 0) _ (s .scan .result .plain) refl (scanned s .are-values) (s .scan .result .kind) (scanned s .is-kind),
+      ap (λ n. n + 1) (scanned s .is-end),
     )))

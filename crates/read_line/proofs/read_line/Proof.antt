@@ -1,48 +1,36 @@
--- The branches ask the questions of a line in the order of `lineOf`: `asked` of LineLaws says so, and each return is `asked` at what the branches
--- before it say.
-use mathlib.Core.Path.{_≡_, sym, _∙_}
-use mathlib.Core.Bool.{true, false}
-use borrow.Author.Tests.{not-true, not-false}
-use Rattle.read_line.specs.Content.{isNote, noteMatched}
-use Rattle.read_line.specs.Line.{printableKind}
-use Rattle.read_line.proofs.LineLaws.{note-some, asked}
+-- The line's kind decides what is asked of it; each arm is one case of `lineSaid`.
+use Prim.Native.Nat.{ℕ}
+use mathlib.Core.Path.{_≡_, sym, ap, _∙_}
+use mathlib.Core.Bool.{Bool, cond}
+use mathlib.Core.List.{List}
+use Rattle.forms.specs.declared.House.{House}
+use Rattle.read_form.specs.declared.Kind.{Kind}
+use Rattle.read_line.specs.Scan.{lineSaid}
+use Rattle.read_line.specs.declared.Line.{Line}
+use Rattle.read_line.specs.declared.Line.the-variants.{Refused, Note}
 use borrow.Author.Needs.{needs}
 use Rattle.read_line.proofs.read_line.Statement.{statement}
 use Rattle.read_line.proofs.read_line.Tie as tie
 
--- what the branches say
-printable : (c : tie.Else1) → printableKind (c .before .before .before .args .kind) ≡ true
-printable c = sym (c .before .is-printable .ensures) ∙ not-false _ (c .if1 .left)
-
-note : (c : tie.Then2) → isNote (c .before .before .before .before .before .args .s .now) ≡ true
-note c = sym (c .before .is-note .ensures) ∙ c .if2 .taken
-
-no-note : (c : tie.Else2) → isNote (c .before .before .before .before .before .args .s .now) ≡ false
-no-note c = sym (c .before .is-note .ensures) ∙ c .if2 .left
-
-closed : (c : tie.Else3) → noteMatched (c .before .before .before .before .before .before .before .args .s .now) ≡ true
-closed c = sym (c .before .note-matched .ensures) ∙ not-false _ (c .if3 .left)
+-- what is said by the kind that the line was found to have
+as-kind : (h : House) (j k : Kind) (p : Bool) (v s : List ℕ) (x : Line) → k ≡ j → x ≡ lineSaid h j p v s → x ≡ lineSaid h k p v s
+as-kind h j k p v s x e f = f ∙ ap (λ i. lineSaid h i p v s) (sym e)
 
 pub read-line-spec : {M : Type 1} → statement M
-read-line-spec = tie.close (tie.spec (λ c κs. search needs)
-    (λ c. let z = c .before .before .before in
-    sym (asked (z .args .s .now) (z .args .kind) (z .args .ended) (z .pre)
-    ∙ simp (sym (c .before .is-printable .ensures) ∙ not-true _ (c .if1 .taken))))
-    (λ c κs. search needs) (λ c κs. note-some (c .before .before .before .before .before .args .s .now) (note c))
-    (λ c. let z = c .before .before .before .before .before .before .before in
-    let unclosed = sym (c .before .note-matched .ensures) ∙ not-true _ (c .if3 .taken) in
-    sym (asked (z .args .s .now) (z .args .kind) (z .args .ended) (z .pre)
-    ∙ simp (printable (c .before .before .before .before), note (c .before .before), unclosed)))
-    (λ c. let z = c .before .before .before .before .before .before .before .before in
-    sym (asked (z .args .s .now) (z .args .kind) (z .args .ended) (z .pre)
-    ∙ simp (printable (c .before .before .before .before .before), note (c .before .before .before), closed (c .before), c .if4 .taken)))
-    (λ c. let z = c .before .before .before .before .before .before .before .before in
-    sym (asked (z .args .s .now) (z .args .kind) (z .args .ended) (z .pre)
-    ∙ simp (printable (c .before .before .before .before .before), note (c .before .before .before), closed (c .before), c .if4 .left)))
-    (λ c. let z = c .before .before .before .before .before .before in
-    sym (asked (z .args .s .now) (z .args .kind) (z .args .ended) (z .pre)
-    ∙ simp (printable (c .before .before .before), no-note (c .before), not-true (z .args .ended) (c .if5 .taken))))
-    (λ c κs. search needs)
-    (λ c. let z = c .before .before .before .before .before .before .before in
-    c .form-line .ensures ∙ sym (asked (z .args .s .now) (z .args .kind) (z .args .ended) (z .pre)
-    ∙ simp (printable (c .before .before .before .before), no-note (c .before .before), not-false (z .args .ended) (c .before .if5 .left)))))
+read-line-spec = tie.close (tie.spec (λ c. search needs) (λ c. search needs)
+    (λ c κs. c .before .before .before .pre .1 (c .enum-told2 .given .1))
+    (λ c. search needs) (λ c. search needs) (λ c κs. search needs) (λ c. search needs) (λ c. search needs) (λ c. search needs) (λ c. search needs)
+    (λ c κs. let s = c .before .before .before .before .before .before .pre .0 in (s .each 2, s .each 3)) (λ c κs. search needs)
+    (λ c. search needs) (λ c. search needs) (λ c. search needs) (λ c. search needs) (λ c. search needs)
+    (λ c κs. let s = c .before .before .before .before .before .before .before .pre .0 in (s .each 4, s .each 5)) (λ c κs. search needs) (λ c. search needs)
+    (λ c. search needs)
+    (λ c. as-kind _ _ _ _ _ _ _ (c .before .before .enum-told2 .given .1)
+    (ap (λ t. cond t Note (Refused 11)) (sym (sym (c .before .note-matched .ensures) ∙ c .if1 .taken))))
+    (λ c. as-kind _ _ _ _ _ _ _ (c .before .before .enum-told2 .given .1)
+    (ap (λ t. cond t Note (Refused 11)) (sym (sym (c .before .note-matched .ensures) ∙ c .if1 .left))))
+    (λ c. as-kind _ _ _ _ _ _ _ (c .before .before .enum-told3 .given .1) (c .checked .ensures))
+    (λ c. as-kind _ _ _ _ _ _ _ (c .before .before .before .before .before .enum-told4 .given .1)
+    (c .checked2 .ensures ∙ ap (λ l. cond (c .before .before .before .before .before .before .before .before .args .plain) l (Refused 4)) (c .before .unit-line .ensures)))
+    (λ c. as-kind _ _ _ _ _ _ _ (c .before .before .before .before .before .before .enum-told5 .given .1)
+    (c .checked3 .ensures ∙ ap (λ l. cond (c .before .before .before .before .before .before .before .before .before .args .plain) l (Refused 4)) (c .before .rule-line .ensures)))
+    (λ c. search needs))

@@ -22,7 +22,7 @@ inside c = some-here (c .before .before .args .s .now) (c .loop .i) (c .loop .in
 
 pub faulty-spec : {M : Type 1} → statement M
 faulty-spec = tie.close (tie.spec Inv-loop μ-loop (λ c. (c .before .pre, refl))
-    (λ c. inside (c .before)) (λ c κs. tt)
+    (λ c. inside (c .before)) (λ c. omega (arith, c .shared-slice-known2 .given (c .before .loop .i))) (λ c κs. tt)
     (λ c. omega (arith, inside (c .before .before .before))) (λ c. omega (arith, inside (c .before .before .before)))
     (λ c. let l = c .before .before .before .loop in
     let s = c .before .before .before .before .before .args .s .now in

@@ -127,17 +127,21 @@ returns-6 c =
 
 pub number-at-spec : {M : Type 1} → statement M
 number-at-spec = tie.close (tie.spec
-    (λ c. omega (arith, upto-inside _ _ 1 _ (one (c .before .before)))) (λ c κs. search needs)
-    (λ c. omega (arith, upto-inside _ _ 1 _ (one (c .before .before .before)))) (λ c. upto-inside _ _ 1 _ (one (c .before .before .before .before))) (λ c κs. search needs)
-    (λ c. omega (arith, upto-inside _ _ 1 _ (one (c .before .before .before .before .before .before)))) returns
+    (λ c. omega (arith, upto-inside _ _ 1 _ (one (c .before .before)))) (λ c. omega (arith, c .shared-slice-known2 .given (c .before .before .args .at)))
+    (λ c κs. search needs) (λ c. omega (arith, upto-inside _ _ 1 _ (one (c .before .before .before))))
+    (λ c. upto-inside _ _ 1 _ (one (c .before .before .before .before))) (λ c. omega (arith, c .shared-slice-known3 .given (c .before .before .before .before .args .at + 1)))
+    (λ c κs. search needs) (λ c. search needs) (λ c. omega (arith, upto-inside _ _ 1 _ (one (c .before .before .before .before .before .before)))) returns
     (λ c κs. search needs) returns-2 (λ c. search needs)
     (λ c κs. sym (c .before .before .is-digit .ensures) ∙ not-false _ (c .before .if1 .left)) (λ c. search needs)
-    (λ c. omega (arith, upto-inside _ _ 2 _ (two (c .before .before)))) (λ c. upto-inside _ _ 2 _ (two (c .before .before .before))) (λ c κs. search needs)
-    (λ c. omega (arith, upto-inside _ _ 2 _ (two (c .before .before .before .before .before)))) returns-3 (λ c. search needs)
+    (λ c. omega (arith, upto-inside _ _ 2 _ (two (c .before .before)))) (λ c. upto-inside _ _ 2 _ (two (c .before .before .before)))
+    (λ c. omega (arith, c .shared-slice-known4 .given (start (c .before .before .before) .args .at + 2))) (λ c κs. search needs)
+    (λ c. search needs) (λ c. omega (arith, upto-inside _ _ 2 _ (two (c .before .before .before .before .before)))) returns-3 (λ c. search needs)
     (λ c κs. sym (c .before .is-digit2 .ensures) ∙ not-false _ (c .if3 .left)) (λ c. search needs)
-    (λ c. omega (arith, upto-inside _ _ 3 _ (three (c .before)))) (λ c. upto-inside _ _ 3 _ (three (c .before .before))) (λ c κs. search needs)
-    (λ c. omega (arith, upto-inside _ _ 3 _ (three (c .before .before .before .before)))) returns-4
-    (λ c. omega (arith, upto-inside _ _ 4 _ (four c))) (λ c. upto-inside _ _ 4 _ (four (c .before))) (λ c κs. search needs)
+    (λ c. omega (arith, upto-inside _ _ 3 _ (three (c .before)))) (λ c. upto-inside _ _ 3 _ (three (c .before .before)))
+    (λ c. omega (arith, c .shared-slice-known5 .given (start (first (c .before .before)) .args .at + 3))) (λ c κs. search needs)
+    (λ c. search needs) (λ c. omega (arith, upto-inside _ _ 3 _ (three (c .before .before .before .before)))) returns-4
+    (λ c. omega (arith, upto-inside _ _ 4 _ (four c))) (λ c. upto-inside _ _ 4 _ (four (c .before)))
+    (λ c. omega (arith, c .shared-slice-known6 .given (start (first (second (c .before))) .args .at + 4))) (λ c κs. search needs)
     (λ c κs. search needs) returns-5 (λ c. search needs)
     (λ c κs. sym (c .before .before .before .before .is-digit3 .ensures) ∙ not-false _ (c .before .before .before .if4 .left)) (λ c. search needs)
-    (λ c. omega (arith, upto-inside _ _ 4 _ (four (c .before .before .before .before)))) returns-6)
+    (λ c. search needs) (λ c. omega (arith, upto-inside _ _ 4 _ (four (c .before .before .before .before)))) returns-6)
