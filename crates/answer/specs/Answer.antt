@@ -15,10 +15,6 @@ use Rattle.pages.specs.SheetPages.{planBytes, fitsBytes, ringBytes}
 use Rattle.answer.specs.declared.Query.{Query}
 use Rattle.answer.specs.declared.Query.the-variants.{Plan, Fits}
 
--- the longest line of a refusal: its question has at most two digits and its line number at most five
-abbrev pub maxRefusal : ℕ
-maxRefusal = 26
-
 -- the page of a sheet that fits, by what is asked of it: its plan, with its units' loader numbers, or its slots' ranges alone
 abbrev pub pageOf : Query → List ℕ → Sheet → List ℕ
 pageOf Plan ks s = planBytes ks s

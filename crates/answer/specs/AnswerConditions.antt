@@ -34,8 +34,9 @@ use Rattle.pages.specs.PagesLaws.{plan-page, fits-page, none-page}
 use Rattle.answer.specs.declared.Query.{Query}
 use Rattle.answer.specs.declared.Query.the-variants.{Plan, Fits}
 use Rattle.answer.specs.Answer.{pageOf, ByPass, ByReading, AnswerTo, Answered}
-use Rattle.answer.specs.FrontsLaws.{listsOf, passes-back}
-use Rattle.answer.specs.AnswerLaws.{refused-short, two-digits}
+use Rattle.print_bytes.specs.WritingLaws.{refused-short}
+use Rattle.read_whole.specs.FrontsLaws.{listsOf, passes-back}
+use Rattle.read_whole.specs.WholeLaws.{two-digits}
 
 -- the question that refuses a text, by number and line, or that every answer is yes
 abbrev pub verdict : House → List ℕ → Verdict
@@ -67,7 +68,7 @@ bytes-short h query input bytes = by-reading (verdict h input) refl
     by-reading : (v : Verdict) → verdict h input ≡ v → ByReading query v w bytes → length bytes ≤ maxPage
     by-reading (no n l) e a =
         let r = reading-refusals h input n l e in
-        omega (arith, ap length a, refused-short n l (two-digits n (r .number-known)) (r .line-known))
+        omega (arith, ap length a, refused-short n l (two-digits n (r .number-known)) (omega (arith, r .line-known)))
     by-reading allYes e a = by-pass (passed (constraints w)) e a
 
 module _ (h : House) (query : Query) (input page left : List ℕ) (next : ℕ) (call : Answered (AnswerTo h query input) page left next)

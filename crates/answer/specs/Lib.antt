@@ -1,6 +1,4 @@
 pub mod Answer
-pub mod Fronts
-pub mod FrontsLaws
 pub mod SheetLaws
 pub mod AnswerLaws
 pub mod AnswerConditions

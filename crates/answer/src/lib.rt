@@ -1,19 +1,18 @@
 ghost use mathlib.Core.Bool.{true};
 ghost use mathlib.Core.List.{List};
-ghost use Prim.Native.Nat.{ℕ, _≤_, _<_};
+ghost use Prim.Native.Nat.{ℕ};
 ghost use lib.Dec.{T};
 ghost use lib.ListN.{length};
-ghost use Rattle.sheet.specs.Sizes.{maxBytes};
 ghost use Rattle.sheet.specs.Sheet.{isRing};
 ghost use Rattle.sheet.specs.Questions.{sheetOf};
 ghost use Rattle.sheet.specs.Lists.{listed, writtenLists, givenBy};
 ghost use Rattle.limits.specs.LimitTable.{Fillable};
 ghost use Rattle.plan_ask.specs.Asking.{Listed, Solvable};
 ghost use Rattle.read_ask.specs.Reading.{rooms};
-ghost use Rattle.print_bytes.specs.Writing.{Written, refusedLine};
+ghost use Rattle.print_bytes.specs.Writing.{Written};
 ghost use Rattle.pages.specs.SheetPages.{ringBytes};
 ghost use Rattle.answer.specs.Answer.{AnswerToSheet, AnswerTo, Answered};
-ghost use Rattle.answer.specs.Fronts.{fronts, Held};
+ghost use Rattle.read_whole.specs.Fronts.{fronts, Held};
 use forms::House;
 use plan_solve::Fit;
 use print_page::MAX_PAGE;
@@ -24,27 +23,6 @@ use sheet::Sheet;
 pub enum Query {
     Plan,
     Fits,
-}
-
-// No line of a refusal is longer: its question has at most two digits and its line number at most five.
-const MAX_REFUSAL: usize = 26;
-
-// The line of a refusal, from the first place of the page on.
-fn refuse(page: &mut [u8; MAX_PAGE], number: usize, line: usize) -> usize
-    requires { ⌜ (number < 100) × (line ≤ maxBytes) ⌝ }
-    ensures { λ r. ⌜ Written (now (page .entry)) 0 (refusedLine number line) (now (page .exit)) r ⌝ }
-{
-    let mut own = [0u8; MAX_REFUSAL];
-    let length = print_bytes::put_two_numbers(
-        &mut own,
-        0,
-        b"(refused ",
-        number as u16,
-        b" (line ",
-        line as u16,
-        b"))",
-    );
-    print_writer::write(page, 0, &own[..length])
 }
 
 // The page of a ring. Its limits are the sheet's own, which are worked out again.
@@ -267,7 +245,12 @@ pub fn answer(house: House, query: Query, text: &[u8], page: &mut [u8; MAX_PAGE]
         &mut high,
     );
     match reading {
-        Reading::Refused(refusal) => refuse(page, refusal.number, refusal.line),
+        Reading::Refused(refusal) => print_bytes::put_refusal(
+            page,
+            0,
+            refusal.number as u16,
+            refusal.line as u16,
+        ),
         Reading::Sheet(s) => answer_fronts(
             query,
             s,

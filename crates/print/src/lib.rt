@@ -1,7 +1,7 @@
 ghost use mathlib.Core.Path.{_≡_};
 ghost use mathlib.Core.List.{[], _++_};
-ghost use Prim.Native.Nat.{_+_, _*_, _≤_};
-ghost use lib.Dec.{T, leb};
+ghost use Prim.Native.Nat.{_*_, _≤_};
+ghost use lib.Dec.{T};
 ghost use lib.ListN.{length, drop};
 ghost use Rattle.network.specs.Table.{entry, cleared};
 ghost use Rattle.sheet.specs.Questions.{sheetOf, loadersFit};
@@ -25,16 +25,6 @@ pub enum Printed {
     Refused(Refusal),
     Plan(usize),
     None(usize, usize),
-}
-
-// Question 15.
-fn holds(page: usize, at: usize, answer: usize) -> bool
-    ensures { λ r. ⌜ r ≡ leb (at + answer) page ⌝ }
-{
-    if page < at {
-        return false;
-    }
-    answer <= page - at
 }
 
 // The finished table, the plan and the narrowed windows, at the front of their rooms.
@@ -91,7 +81,7 @@ fn print_plan(
 {
     let mut answer = [0u8; MAX_PAGE];
     let length = print_page::put_plan(&mut answer, 0, span, loader, seats, firsts, lasts, closed);
-    if holds(page.len(), at, length) {
+    if print_writer::holds(page.len(), at, length) {
         keep_plan(closed, seats, firsts, lasts, table, plan, earliest, latest);
         let next = print_writer::write(page, at, &answer[..length]);
         Printed::Plan(next)
@@ -126,7 +116,7 @@ fn print_ring(
 {
     let mut answer = [0u8; MAX_RING_PAGE];
     let length = print_none::put_none(&mut answer, 0, limits, w, found);
-    if holds(page.len(), at, length) {
+    if print_writer::holds(page.len(), at, length) {
         network::clear(w * w, table);
         lists::copy_list(found, ring);
         let next = print_writer::write(page, at, &answer[..length]);

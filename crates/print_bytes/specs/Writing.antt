@@ -60,6 +60,10 @@ shortfallLine k = formLine shortfallForm (k ∷ [])
 unfoldable pub refusedLine : ℕ → ℕ → List ℕ
 refusedLine question line = formLine refusedForm (question ∷ line ∷ [])
 
+-- the longest one: its question has at most two digits and its line number at most five
+abbrev pub maxRefusal : ℕ
+maxRefusal = 26
+
 -- ---- the forms of so many numbers, by their words
 
 abbrev pub noNumber : List ℕ → List Piece
@@ -73,3 +77,6 @@ twoNumbers first second end = word first ∷ number ∷ oneNumber second end
 
 abbrev pub threeNumbers : List ℕ → List ℕ → List ℕ → List ℕ → List Piece
 threeNumbers first second third end = word first ∷ number ∷ twoNumbers second third end
+
+abbrev pub fourNumbers : List ℕ → List ℕ → List ℕ → List ℕ → List ℕ → List Piece
+fourNumbers first second third fourth end = word first ∷ number ∷ threeNumbers second third fourth end

@@ -8,14 +8,15 @@ use Prim.Native.Nat.{ℕ, suc, _+_, _-_, _/_, _%_, _≤_, _<_}
 use native.Mathlib.Omega.{arith}
 use native.Mathlib.Nat.{add-zero, add-suc, suc-add}
 use native.Mathlib.Numerals.{add-one}
-use lib.ListN.{length, set, take, drop, length-append, length-set}
+use lib.ListN.{length, set, take, drop, replicate, length-append, length-set, length-replicate}
 use lib.Seq.{sets, length-sets, sets-eq, length-take-le, take-at, drop-at}
 use Rattle.lists.specs.Lists.{run, joined}
 use Rattle.forms.specs.Form.{Piece, word, number, written}
 use Rattle.forms.specs.Decimal.{digits, formLine}
-use Rattle.forms.specs.DecimalLaws.{digits-last}
-use Rattle.forms.specs.Words.{lineFeed}
-use Rattle.print_bytes.specs.Writing.{withBytes, Room, Written}
+use Rattle.forms.specs.DecimalLaws.{digits-last, line-short}
+use Rattle.forms.specs.Forms.{refusedForm}
+use Rattle.forms.specs.Words.{lineFeed, text}
+use Rattle.print_bytes.specs.Writing.{withBytes, Room, Written, refusedLine, maxRefusal}
 
 -- ---- writing one thing after another
 sets-append : (page : List ℕ) (at : ℕ) (xs ys : List ℕ) → sets (sets page at xs) (at + length xs) ys ≡ sets page at (xs ++ ys)
@@ -149,3 +150,30 @@ written-part {page} {at} {bytes} {left} {next} room w =
     ap (drop at) (w .filled ∙ append-assoc (take at page) bytes (drop (at + length bytes) page))
     ∙ drop-at (take at page) (bytes ++ drop (at + length bytes) page) at front in
     ap₂ take n e ∙ take-at bytes (drop (at + length bytes) page) (length bytes) refl
+
+-- ---- bytes in an array of a call's own, of which they are the front
+module _ (most : ℕ) where
+  abbrev blank : List ℕ
+  blank = replicate most 0
+
+  long : length blank ≡ most
+  long = length-replicate {A = ℕ} most 0
+
+  module _ {bytes : List ℕ} (short : length bytes ≤ most) where
+    pub own-room : Room blank 0 bytes
+    own-room = record { fits = omega (arith, long) }
+
+    module _ {left : List ℕ} {size : ℕ} (w : Written blank 0 bytes left size) where
+      pub own-part : take size left ≡ bytes
+      own-part = let e : size ≡ size - 0 = omega arith in ap (λ n. take n left) e ∙ written-part own-room w
+
+      pub own-size : size ≡ length bytes
+      own-size = omega (arith, w .moved)
+
+      pub own-long : size ≤ length left
+      own-long = omega (arith, w .moved, ap length (w .filled), bytes-length blank 0 bytes own-room, long)
+
+-- ---- the line of a refusal is short
+pub refused-short : (question line : ℕ) → question < 100 → line < 100000 → length (refusedLine question line) ≤ maxRefusal
+unfolding refusedLine text
+refused-short question line hq hl = line-short refusedForm (question ∷ line ∷ []) (2 ∷ 5 ∷ []) (hq, (hl, tt))

@@ -1,8 +1,8 @@
 ghost use mathlib.Core.List.{_++_, _∷_, []};
 ghost use Prim.Native.Nat.{_<_, _≤_};
 ghost use Rattle.forms.specs.Decimal.{digits, formLine};
-ghost use Rattle.print_bytes.specs.Writing.{Room, Written, unitLine, carriedLine, slotLine, rangeLine};
-ghost use Rattle.print_bytes.specs.Writing.{noNumber, oneNumber, twoNumbers, threeNumbers};
+ghost use Rattle.print_bytes.specs.Writing.{Room, Written, unitLine, carriedLine, slotLine, rangeLine, refusedLine};
+ghost use Rattle.print_bytes.specs.Writing.{noNumber, oneNumber, twoNumbers, threeNumbers, fourNumbers};
 
 // Words, numbers and lines, written into a slice from a place on. Each function gives the place just past what it wrote; that the slice holds it is
 // asked of the caller, so that no byte is asked whether it fits.
@@ -93,7 +93,7 @@ fn put_pair(page: &mut [u8], at: usize, word: &[u8], n: u16) -> usize
     put_number(page, next, n)
 }
 
-// A line of no number, of one number, of two and of three: its words and numbers, and a line feed.
+// A line of no number, of one number, of two, of three and of four: its words and numbers, and a line feed.
 pub fn put_no_number(page: &mut [u8], at: usize, end: &[u8]) -> usize
     requires { ⌜ Room (now page) at (formLine (noNumber (now end)) []) ⌝ }
     ensures { λ r. ⌜ Written (now (page .entry)) at (formLine (noNumber (now (end .entry))) []) (now (page .exit)) r ⌝ }
@@ -148,6 +148,28 @@ pub fn put_three_numbers(
     put_two_numbers(page, next, second, b, third, c, end)
 }
 
+pub fn put_four_numbers(
+    page: &mut [u8],
+    at: usize,
+    first: &[u8],
+    a: u16,
+    second: &[u8],
+    b: u16,
+    third: &[u8],
+    c: u16,
+    fourth: &[u8],
+    d: u16,
+    end: &[u8],
+) -> usize
+    requires { ⌜ Room (now page) at (formLine (fourNumbers (now first) (now second) (now third) (now fourth) (now end)) (a ∷ b ∷ c ∷ d ∷ [])) ⌝ }
+    ensures { λ r. ⌜ Written (now (page .entry)) at
+        (formLine (fourNumbers (now (first .entry)) (now (second .entry)) (now (third .entry)) (now (fourth .entry)) (now (end .entry))) (a ∷ b ∷ c ∷ d ∷ []))
+        (now (page .exit)) r ⌝ }
+{
+    let next = put_pair(page, at, first, a);
+    put_three_numbers(page, next, second, b, third, c, fourth, d, end)
+}
+
 // The line of a unit that is carried over into the next wave.
 pub fn put_carried(page: &mut [u8], at: usize, loader: u16, earliest: u16, latest: u16) -> usize
     requires { ⌜ Room (now page) at (carriedLine loader earliest latest) ⌝ }
@@ -182,6 +204,14 @@ pub fn put_range(page: &mut [u8], at: usize, slot: u16, least: u16, greatest: u1
         greatest,
         b"))",
     )
+}
+
+// The line of a refusal.
+pub fn put_refusal(page: &mut [u8], at: usize, number: u16, line: u16) -> usize
+    requires { ⌜ Room (now page) at (refusedLine number line) ⌝ }
+    ensures { λ r. ⌜ Written (now (page .entry)) at (refusedLine number line) (now (page .exit)) r ⌝ }
+{
+    put_two_numbers(page, at, b"(refused ", number, b" (line ", line, b"))")
 }
 
 // The two lines that a page has many of call `put_word` themselves: so the compiler writes their words as they are.

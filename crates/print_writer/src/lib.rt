@@ -1,4 +1,6 @@
 ghost use mathlib.Core.Path.{_≡_};
+ghost use Prim.Native.Nat.{_+_};
+ghost use lib.Dec.{leb};
 ghost use Rattle.print_bytes.specs.Writing.{Room, Written};
 ghost use Rattle.print_writer.specs.Advanced.{advanced};
 
@@ -37,6 +39,16 @@ pub fn place<'a>(w: Writer<'a>) -> usize
     ensures { λ r. ⌜ (r ≡ w .entry .place) × (now (w .exit .0) ≡ now (w .entry .page)) ⌝ }
 {
     w.place
+}
+
+// Question 15: does a page of this length, from the place on, hold so many bytes?
+pub fn holds(page: usize, at: usize, bytes: usize) -> bool
+    ensures { λ r. ⌜ r ≡ leb (at + bytes) page ⌝ }
+{
+    if page < at {
+        return false;
+    }
+    bytes <= page - at
 }
 
 // The bytes, onto a page from a place on, and the place just past them.

@@ -9,4 +9,5 @@ pub mod QuestionLaws
 pub mod CarriedLaws
 pub mod LoaderLaws
 pub mod Lists
+pub mod WrittenLaws
 pub mod Solved

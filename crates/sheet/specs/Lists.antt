@@ -1,11 +1,11 @@
 -- A sheet in parallel lists, as a call is given it. Definitions only.
 use mathlib.Core.Bool.{Bool, _&&_}
-use mathlib.Core.List.{List}
+use mathlib.Core.List.{List, [], _∷_}
 use Prim.Native.Nat.{ℕ}
 use lib.Dec.{eqb}
 use lib.ListN.{length}
 use Rattle.slots.specs.Slots.{Slot}
-use Rattle.sheet.specs.Sheet.{Sheet}
+use Rattle.sheet.specs.Sheet.{Window, Sheet, SheetUnit, WrittenSheet}
 use Rattle.sheet.specs.Questions.{sheetOf, listsAgree}
 
 -- what a plan must keep to: the windows and the rules
@@ -38,6 +38,16 @@ writtenLists p ks fs ls rs ts lo hi = record { loader = ks; constraints = listed
 -- the sheet that its plans must keep to
 abbrev pub givenBy : WrittenLists → Sheet
 givenBy l = given (l .constraints)
+
+-- the units by their loader numbers and windows
+abbrev pub unitsOf : List ℕ → List Window → List SheetUnit
+unitsOf [] ws = []
+unitsOf (k ∷ ks) [] = []
+unitsOf (k ∷ ks) (w ∷ ws) = record { loader = k; window = w } ∷ unitsOf ks ws
+
+-- the sheet as it is written
+abbrev pub writtenBy : WrittenLists → WrittenSheet
+writtenBy l = let s = givenBy l in record { span = s .span; units = unitsOf (l .loader) (s .units); rules = s .rules }
 
 -- 13 of all lists
 abbrev pub allAgree : WrittenLists → Bool

@@ -10,7 +10,9 @@ use Rattle.read_ask.specs.Reading.{ListRooms, rooms, roomsForAll, refused, read
 use Rattle.read.specs.Rooms.{sizesOf}
 use Rattle.sheet.specs.Sizes.{maxUnits, maxRules}
 use Rattle.answer.specs.declared.Query.{Query}
-use Rattle.answer.specs.AnswerLaws.{refused-small, refused-answer, read-held, read-answered}
+use Rattle.print_bytes.specs.WritingLaws.{refused-short}
+use Rattle.read_whole.specs.WholeLaws.{refused-small, read-held}
+use Rattle.answer.specs.AnswerLaws.{refused-answer, read-answered}
 use borrow.Author.Needs.{needs}
 use Rattle.answer.proofs.answer.Statement.{statement}
 use Rattle.answer.proofs.answer.Tie as tie

@@ -7,7 +7,8 @@ use denote.Ref.{now}
 use lib.ListN.{length, take}
 use lib.Seq.{length-take-le}
 use Rattle.pages.specs.Page.{tablePage, maxPage}
-use Rattle.print.specs.PrintingLaws.{own-room, own-part, own-size, own-long, room, asked-yes, asked-no}
+use Rattle.print_bytes.specs.WritingLaws.{own-room, own-part, own-size, own-long}
+use Rattle.print.specs.PrintingLaws.{room, asked-yes, asked-no}
 use Rattle.print.proofs.print_plan.Statement.{statement}
 use Rattle.print.proofs.print_plan.Tie as tie
 

@@ -8,7 +8,8 @@ use lib.ListN.{length, take}
 use lib.Seq.{length-take-le}
 use Rattle.network.specs.Table.{entry}
 use Rattle.pages.specs.Page.{nonePage, maxRingPage}
-use Rattle.print.specs.PrintingLaws.{own-room, own-part, own-size, own-long, room, asked-yes, asked-no}
+use Rattle.print_bytes.specs.WritingLaws.{own-room, own-part, own-size, own-long}
+use Rattle.print.specs.PrintingLaws.{room, asked-yes, asked-no}
 use Rattle.print.proofs.print_ring.Statement.{statement}
 use Rattle.print.proofs.print_ring.Tie as tie
 

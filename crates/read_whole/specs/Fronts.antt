@@ -1,0 +1,25 @@
+-- The sheet at the front of the lists that reading was lent, and what a call that goes on with it is to know of it. Definitions only.
+use Prim.Native.Nat.{ℕ, _≤_}
+use mathlib.Core.List.{List}
+use lib.ListN.{length, take}
+use Rattle.sheet.specs.declared.Sheet.{Sheet}
+use Rattle.read_ask.specs.Reading.{ListRooms}
+use Rattle.sheet.specs.Lists.{WrittenLists, writtenLists}
+use Rattle.plan_ask.specs.Asking.{Listed}
+
+-- of each list as many places as there are units or rules
+abbrev pub fronts : Sheet → ListRooms (List ℕ) → WrittenLists
+fronts s m =
+    writtenLists (s .span) (take (s .units) (m .loader)) (take (s .units) (m .first)) (take (s .units) (m .last))
+    (take (s .rules) (m .from)) (take (s .rules) (m .to)) (take (s .rules) (m .low)) (take (s .rules) (m .high))
+
+-- the lists hold a sheet that planning accepts
+pub record Held (s : Sheet) (m : ListRooms (List ℕ)) : Type 0 where
+  pub in-loader : s .units ≤ length (m .loader)
+  pub in-first : s .units ≤ length (m .first)
+  pub in-last : s .units ≤ length (m .last)
+  pub in-from : s .rules ≤ length (m .from)
+  pub in-to : s .rules ≤ length (m .to)
+  pub in-low : s .rules ≤ length (m .low)
+  pub in-high : s .rules ≤ length (m .high)
+  pub passes : Listed (fronts s m)

@@ -1,0 +1,88 @@
+-- Reading with rooms for every sheet: the first no decides, or the lists hold the text's sheet at their fronts.
+-- Key idea: every list is long enough for a sheet that reading accepts, so that 12 is never a no.
+use mathlib.Core.Path.{_≡_, refl, sym, ap, ap₂, _∙_, subst}
+use mathlib.Core.Logic.{_⊎_, inl, inr, ⊎-elim}
+use mathlib.Core.Bool.{Bool, true, false, _||_}
+use mathlib.Core.List.{List}
+use Prim.Native.Nat.{ℕ, _≤_, _<_}
+use native.Mathlib.Omega.{arith}
+use lib.Dec.{T, eqb, eqb→eq}
+use lib.ListN.{length}
+use Rattle.lists.specs.Lists.{within}
+use Rattle.lists.specs.Members.{within-iff}
+use Rattle.sheet.specs.declared.Sheet.{Sheet as Read}
+use Rattle.questions.specs.Questions.{Verdict, no, allYes, firstNo}
+use Rattle.sheet.specs.Sizes.{maxBytes}
+use Rattle.forms.specs.declared.House.{House}
+use Rattle.read_ask.specs.Reading.{ListRooms, roomsForAll, refused, read, reading, questions, concluded, sheetIn}
+use Rattle.read_ask.specs.AcceptedLaws.{reading-accepts, reading-loaders}
+use Rattle.read_ask.specs.RefusalLaws.{asksText, reading-refusals}
+use Rattle.read.specs.Rooms.{sizesOf, leaves, roomsAfter}
+use Rattle.read_whole.specs.Fronts.{fronts, Held}
+use Rattle.read_whole.specs.FrontsLaws.{listsOf, held, fronts-are}
+
+-- a question that is asked of a text has at most two digits
+pub two-digits : (q : ℕ) → T (asksText q) → q < 100
+two-digits q h =
+    ⊎-elim (λ (a : T (within 1 11 q)). omega (arith, within-iff 1 11 q .0 a .1)) (λ (b : T (eqb q 16)). omega (arith, eqb→eq q 16 b))
+    (either (within 1 11 q) (eqb q 16) h)
+  where
+    either : (a b : Bool) → T (a || b) → T a ⊎ T b
+    either true b h = inl tt
+    either false b h = inr h
+
+-- ---- what reading comes to, with rooms for every sheet
+module _ (h : House) (input : List ℕ) (m : ListRooms (List ℕ)) (sizes : sizesOf m ≡ roomsForAll) where
+  abbrev pub verdict : Verdict
+  verdict = firstNo (questions h input roomsForAll)
+
+  decided : reading h input (sizesOf m) ≡ concluded verdict (sheetIn h input)
+  unfolding reading
+  decided = ap (λ z. concluded (firstNo (questions h input z)) (sheetIn h input)) sizes
+
+  module _ (number line : ℕ) (e : refused number line ≡ reading h input (sizesOf m)) where
+    pub first-no : verdict ≡ no number line
+    first-no = go verdict (e ∙ decided)
+      where
+        go : (v : Verdict) → refused number line ≡ concluded v (sheetIn h input) → v ≡ no number line
+        go (no q n) f = let a : q ≡ number = cc in let b : n ≡ line = cc in ap₂ no a b
+        go allYes f = let z : _≡_ {A = ℕ} 0 1 = cc in absurd (omega arith)
+
+    pub refused-small : (number < 100) × (line ≤ maxBytes)
+    refused-small =
+        let r = reading-refusals h input number line first-no in
+        (two-digits number (r .number-known), r .line-known)
+
+  module _ (t : Read) (e : read (t .span) (t .units) (t .rules) ≡ reading h input (sizesOf m))
+      (after : ListRooms (List ℕ)) (lists : after ≡ roomsAfter h input m) where
+    pub all-yes : verdict ≡ allYes
+    all-yes = go verdict (e ∙ decided)
+      where
+        go : (v : Verdict) → read (t .span) (t .units) (t .rules) ≡ concluded v (sheetIn h input) → v ≡ allYes
+        go (no q n) f = let z : _≡_ {A = ℕ} 0 1 = cc in absurd (omega arith)
+        go allYes f = refl
+
+    same : read (t .span) (t .units) (t .rules) ≡ read (sheetIn h input .span) (length (sheetIn h input .units)) (length (sheetIn h input .rules))
+    same = e ∙ decided ∙ ap (λ v. concluded v (sheetIn h input)) all-yes
+
+    span-same : t .span ≡ sheetIn h input .span
+    span-same = let q = same in cc
+
+    units-same : t .units ≡ length (sheetIn h input .units)
+    units-same = let q = same in cc
+
+    rules-same : t .rules ≡ length (sheetIn h input .rules)
+    rules-same = let q = same in cc
+
+    left-is : after ≡ leaves (read 0 0 0) (sheetIn h input) m
+    left-is = lists ∙ ap (λ a. leaves a (sheetIn h input) m) (sym e)
+
+    -- the lists hold the text's sheet
+    pub read-held : Held t after
+    read-held =
+        subst (Held t) (sym left-is)
+        (held (sheetIn h input) t span-same units-same rules-same m (reading-accepts h input roomsForAll all-yes) (reading-loaders h input roomsForAll all-yes))
+
+    -- just these
+    pub read-lists : fronts t after ≡ listsOf (sheetIn h input)
+    read-lists = ap (fronts t) left-is ∙ fronts-are (sheetIn h input) t span-same units-same rules-same m

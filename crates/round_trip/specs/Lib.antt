@@ -1,0 +1,4 @@
+pub mod WrittenLines
+pub mod WrittenContents
+pub mod Passing
+pub mod RoundTrip

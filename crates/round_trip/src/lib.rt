@@ -1,0 +1,1 @@
+// What goes out to a house comes back: theorems only.

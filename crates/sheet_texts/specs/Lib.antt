@@ -1,0 +1,3 @@
+pub mod SheetText
+pub mod SheetTextLaws
+pub mod Samples

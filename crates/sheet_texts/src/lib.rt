@@ -1,0 +1,1 @@
+// The texts of sheets, by house: definitions and laws only.

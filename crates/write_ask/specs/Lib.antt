@@ -1,0 +1,2 @@
+pub mod HouseQuestions
+pub mod HouseQuestionsLaws
