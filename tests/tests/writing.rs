@@ -1,7 +1,7 @@
 //! Writing, our form and the partner's, through the border: reply, place and every byte of the page against the model, refusals by every
 //! question, and what is written is read back by the planner as the same lists, place by place.
 
-use model::calls::{lent, marked_u16, write_onto, writing_fault, Written};
+use model::calls::{marked_u16, write_onto, writing_fault, Written};
 use model::house::House;
 use model::questions::{outgoing_refusal, written, Lists};
 use model::random::{any_sheet, largest_sheet, small_sheet, Random, Reach};
@@ -304,7 +304,6 @@ fn refusals_alone_and_in_pairs() {
             let length = if [*one, *other].contains(&15) { 20 } else { 20_000 };
             let number = written(House::Partner, &lists, length, 0).map_or_else(|r| r.number, |_| 0);
             if rank(*one) != rank(*other) {
-                // A second fault of the lists may mend the first only where both are of one question.
                 assert_eq!(rank(number), rank(*one).min(rank(*other)), "{one} and {other}");
             }
             for house in House::BOTH {
@@ -346,16 +345,4 @@ fn refusals_at_random() {
         assert!(2_000 * tally.refused_by(number) > tally.all(), "{number} refuses too seldom");
     }
     assert!(5 * tally.count(TEXT) > tally.all());
-}
-
-/// Lists that are lent are only read.
-#[test]
-fn lists_stay_as_they_are() {
-    let lists = Lists::from(&Sheet::new(7, &[(3, 4), (7, 7)], &[(1, 3, 0, 2)]));
-    let before = lists.clone();
-    for house in House::BOTH {
-        text_of(house, &lists);
-        assert_eq!(lists, before);
-    }
-    assert_eq!(lent(&lists).span, 7);
 }
