@@ -198,11 +198,12 @@ fn rooms_are_asked_last() {
 
 #[test]
 fn partner_lines() {
-    let sheet = read(House::Partner, b"(note a)\n(day 7)\n(limit (from 1) (hours 3) (most 2))\n(job 4017 (start 3) (hours 2))\n(job 12 (start 7) (hours 1))\n");
-    assert_eq!(sheet, Ok(Sheet::new(7, &[(3, 4), (7, 7)], &[(1, 3, 0, 2)]).numbered(&[4_017, 12])));
+    let text = b"(note a)\n(day 7)\n(limit (from 1) (hours 3) (most 2))\n(job 4017 (start 3) (hours 2))\n(job 12 (start 7) (hours 1))\n";
+    assert_eq!(read(House::Partner, text), Ok(Sheet::new(7, &[(3, 4), (7, 7)], &[(1, 3, 0, 2)]).numbered(&[4_017, 12])));
     for line in [
         "", "(day)", "(day  4)", "(Day 4)", "(day 4) ", "(sheet 4)", "(unit 1 (window 1 2))", "(rule (slots 1 2) (count 0 1))", "(job (start 1) (hours 1))",
-        "(job 1 (hours 1) (start 1))", "(job 1 (start 1)(hours 1))", "(job 1 (start 1 1))", "(job 1 (start 1))", "(job 1 (start 1) (hours 1)", "(job 1 (start 1) (hours ))",
+        "(job 1 (hours 1) (start 1))", "(job 1 (start 1)(hours 1))", "(job 1 (start 1 1))", "(job 1 (start 1))", "(job 1 (start 1) (hours 1)",
+        "(job 1 (start 1) (hours ))",
         "(job 1 (from 1) (hours 1))", "(job 1 (start 1) (hours -1))", "(limit (from 1) (hours 1))", "(limit (start 1) (hours 1) (most 1))",
         "(limit (from 1) (hours 1) (most 1)) ", "(limit 1 (from 1) (hours 1) (most 1))", "(limit (from 1) (hours 1) (count 0 1))", "(noted)",
     ] {
@@ -277,7 +278,8 @@ fn outgoing_questions() {
         assert_eq!((asked(change, House::Ours), asked(change, House::Partner)), (ours, theirs));
     }
     let text = good.sheet().text_for(House::Partner);
-    for (length, place, yes) in [(text.len(), 0, true), (text.len() - 1, 0, false), (text.len() + 3, 3, true), (text.len() + 2, 3, false), (500, 501, false), (500, usize::MAX, false)] {
+    let n = text.len();
+    for (length, place, yes) in [(n, 0, true), (n - 1, 0, false), (n + 3, 3, true), (n + 2, 3, false), (500, 501, false), (500, usize::MAX, false)] {
         let expected = if yes { Ok(text.clone()) } else { Err(Refusal { number: 15, line: 0 }) };
         assert_eq!(written(House::Partner, &good, length, place), expected, "{length} from {place} on");
     }

@@ -66,7 +66,9 @@ fn the_word_is_handed_on() {
     assert_eq!(end(start_with(&["fits"], "fits_refused", b"(sheet 49)\n")), (2, "(refused 6 (line 1))\n".into(), String::new()));
     assert_eq!(end(start_with(&["fits"], "fits_empty", b"")), (2, "(refused 5 (line 0))\n".into(), String::new()));
     assert_eq!(end(start_with(&["plan"], "word_plan", &p2)), (0, cases::P2_PAGE.into(), String::new()));
-    for words in [&["fit"][..], &["--help"], &[""], &["fits", ""], &["fits", "plan"], &["plan", "fits"], &["fits", "fits"], &["to", "partner"], &["to-partner", ""]] {
+    let none: [&[&str]; 9] =
+        [&["fit"], &["--help"], &[""], &["fits", ""], &["fits", "plan"], &["plan", "fits"], &["fits", "fits"], &["to", "partner"], &["to-partner", ""]];
+    for words in none {
         let (status, page, said) = end(start_with(words, "no_word", &p2));
         assert_eq!((status, page.as_str()), (3, ""), "{words:?}");
         // The program's own lines with its words, and then the command's.
@@ -80,15 +82,15 @@ fn the_word_is_handed_on() {
 /// of a sheet that the partner cannot have comes through.
 #[test]
 fn sheets_of_the_partner() {
-    let theirs = b"(day 7)\n(note)\n(job 4017 (start 3) (hours 2))\n(limit (from 1) (hours 3) (most 2))\n";
-    let (ours, back) = ("(sheet 7)\n(unit 4017 (window 3 4))\n(rule (slots 1 3) (count 0 2))\n", String::from_utf8_lossy(theirs).replace("(note)\n", ""));
-    let (status, page, said) = end(start_with(&["partner"], "partner", theirs));
+    let theirs = "(day 7)\n(note)\n(job 4017 (start 3) (hours 2))\n(limit (from 1) (hours 3) (most 2))\n";
+    let (ours, back) = ("(sheet 7)\n(unit 4017 (window 3 4))\n(rule (slots 1 3) (count 0 2))\n", theirs.replace("(note)\n", ""));
+    let (status, page, said) = end(start_with(&["partner"], "partner", theirs.as_bytes()));
     assert_eq!((status, said.as_str()), (0, ""));
     assert!(page.starts_with("(answer plan 1)\n(unit 4017 (slot 3) (between 3 4))\n"), "{page}");
     let none = b"(day 2)\n(job 1 (start 1) (hours 2))\n(limit (from 1) (hours 2) (most 0))\n";
     let ring = "(answer none)\n(at-most 0 (slots 1 2))\n(at-least 1 (slots 1 2))\n(shortfall 1)\n";
     assert_eq!(end(start_with(&["partner"], "partner_none", none)), (1, ring.into(), String::new()));
-    assert_eq!(end(start_with(&["from-partner"], "from_partner", theirs)), (0, ours.into(), String::new()));
+    assert_eq!(end(start_with(&["from-partner"], "from_partner", theirs.as_bytes())), (0, ours.into(), String::new()));
     assert_eq!(end(start_with(&["to-partner"], "to_partner", ours.as_bytes())), (0, back, String::new()));
     for word in ["partner", "from-partner"] {
         assert_eq!(end(start_with(&[word], &format!("{word}_refused"), b"(day 49)\n")), (2, "(refused 6 (line 1))\n".into(), String::new()));

@@ -66,7 +66,8 @@ fn document_cases() {
         }
     }
     for (case, asked) in cases::all().iter().flat_map(|case| Asked::ALL.map(|asked| (case, asked))) {
-        for text in [case.sheet.text_for(asked.house()), case.sheet.kept_by(House::Partner).text_for(asked.house()), case.sheet.text_for(asked.house().other())] {
+        let (own, kept) = (asked.house(), case.sheet.kept_by(House::Partner));
+        for text in [case.sheet.text_for(own), kept.text_for(own), case.sheet.text_for(own.other())] {
             assert_eq!(asked_fault(asked, &text, &[], None), None, "{}", case.name);
         }
     }
@@ -85,7 +86,8 @@ fn words() {
     let unknown = [
         "", "f", "fit", "fitss", "fits ", " fits", "Fits", "FITS", "fots", "fits\n", "fits=1", "p", "pla", "plann", "plan ", " plan", "Plan", "plam", "slan",
         "plan fits", "decide", "seat", "write", "partne", "partners", "partner ", " partner", "Partner", "PARTNER", "partnes", "pertner", "from", "to",
-        "from-partne", "from-partners", "from-partner ", "from_partner", "from partner", "From-partner", "to-partne", "to-partners", "to-partner ", "to_partner",
+        "from-partne", "from-partners", "from-partner ", "from_partner", "from partner", "From-partner", "to-partne", "to-partners", "to-partner ",
+        "to_partner",
         "to partner", "to-Partner", "no-partner", "fro-partner", "-partner", "topartner", "from-partner\n", "-h", "--help", "--", "(sheet 4)", &long,
     ];
     let two: [&[&str]; 16] = [
@@ -310,7 +312,13 @@ fn damaged_texts() {
 /// The partner's sheets are planned as ours are.
 #[test]
 fn partner_sheets() {
-    let text = "(note theirs)\n(day 4)\n(job 4017 (start 1) (hours 2))\n(limit (from 1) (hours 1) (most 0))\n(job 12 (start 1) (hours 4))\n(limit (from 2) (hours 2) (most 1))\n";
+    let text = "(note theirs)
+(day 4)
+(job 4017 (start 1) (hours 2))
+(limit (from 1) (hours 1) (most 0))
+(job 12 (start 1) (hours 4))
+(limit (from 2) (hours 2) (most 1))
+";
     let page = "(answer plan 2)
 (unit 4017 (slot 2) (between 2 2))
 (unit 12 (slot 4) (between 4 4))

@@ -89,7 +89,8 @@ fn a_known_sheet() {
         assert_eq!(String::from_utf8(text_of(House::Partner, &lists)).unwrap(), theirs);
     }
     // Units come before rules, each in the order of its lists, however the text mixed them; notes go.
-    let mixed = "(note)\n(day 7)\n(limit (from 1) (hours 3) (most 2))\n(job 4017 (start 3) (hours 2))\n(limit (from 7) (hours 1) (most 300))\n(note (a))\n(job 1 (start 7) (hours 1))\n";
+    let lines: Vec<&str> = theirs.lines().collect();
+    let mixed = ["(note)", lines[0], lines[3], lines[1], lines[4], "(note (a))", lines[2], ""].join("\n");
     let lists = Lists::from(&read(House::Partner, mixed.as_bytes()).unwrap());
     assert_eq!(String::from_utf8(text_of(House::Partner, &lists)).unwrap(), theirs);
 }
