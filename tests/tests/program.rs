@@ -237,11 +237,13 @@ fn texts_that_are_too_long() {
             }
         }
         let text = vec![b'x'; length];
-        assert_eq!(run(Asked::Plan, &text, &[1_000], None), b"(refused 1 (line 0))\n", "{length} in parts");
+        for asked in Asked::ALL {
+            assert_eq!(run(asked, &text, &[1_000], None), b"(refused 1 (line 0))\n", "{length} {asked:?} in parts");
+        }
     }
 }
 
-/// The longest texts that are taken, and one byte more, with each word.
+/// The longest texts that are taken, and one byte more, with each word; the last byte may come late.
 #[test]
 fn texts_at_the_longest() {
     for asked in Asked::ALL {
@@ -253,6 +255,7 @@ fn texts_at_the_longest() {
                 let (page, _) = run_with(asked.words(), &text, &[], None);
                 assert_eq!(page == b"(refused 1 (line 0))\n", length > 16_000, "{length} {asked:?}");
                 assert_eq!(asked_fault(asked, &text, &[], None), None);
+                assert_eq!(asked_fault(asked, &text, &[length - 1, 1], Some(Duration::from_millis(20))), None);
             }
         }
     }

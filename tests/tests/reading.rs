@@ -407,7 +407,7 @@ fn loader_numbers_of_many_units() {
     for i in 0..effort(600) {
         let mut r = Random::of_case(seed(203), i);
         let house = House::BOTH[i / 6 % 2];
-        let n = *r.pick(&[2, 40, 256, 257, 299, 300, 301]);
+        let n = [2, 40, 256, 257, 299, 300, 301][i / 12 % 7];
         let mut numbers: Vec<String> = loaders(&mut r, n).iter().map(u16::to_string).collect();
         let at = if r.chance(50) { n - 1 } else { r.between(1, n - 1) };
         let before = r.below(at);
