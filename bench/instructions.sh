@@ -10,7 +10,7 @@ count() {
     valgrind --tool=callgrind --callgrind-out-file=/dev/null "$bench" --count "$@" 2>&1 | sed -nE 's/.*Collected : ([0-9]+).*/\1/p'
 }
 declare -A took
-printf '%-14s %-6s %12s %12s %7s %7s\n' instructions job planner plain ratio 'of plan'
+printf '%-14s %-7s %12s %12s %7s %7s\n' instructions job planner plain ratio 'of plan'
 for name in ${@:-$("$bench" --list)}; do
     for job in $("$bench" --jobs); do
         for side in planner plain; do
@@ -21,6 +21,6 @@ for name in ${@:-$("$bench" --list)}; do
     done
     for job in $("$bench" --jobs); do
         awk -v name="$name" -v job=$job -v p="${took[planner-$job]}" -v q="${took[plain-$job]}" -v plan="${took[planner-plan]}" \
-            'BEGIN { printf "%-14s %-6s %12d %12d %7.2f %7.2f\n", name, job, p, q, p / q, p / plan }'
+            'BEGIN { printf "%-14s %-7s %12d %12d %7.2f %7.2f\n", name, job, p, q, p / q, p / plan }'
     done
 done

@@ -17,8 +17,13 @@
  *     tugrokt_seat     the same; 12 of its own rooms, table, plan, earliest and latest
  *     tugrokt_print    what tugrokt_plan asks, then 15
  *
+ *     tugrokt_read_partner    what tugrokt_read asks, of a partner's text
+ *     tugrokt_write_sheet     what tugrokt_plan asks but 12, then 15
+ *     tugrokt_write_partner   what tugrokt_plan asks but 12, then 17, 18 and 15
+ *
  * 16 asks of each unit: is its loader number 1 to TUGROKT_MAX_LOADER and on no earlier unit? 13 asks whether the lists of units are
- * equally long, the loader numbers among them, and so are the lists of rules.
+ * equally long, the loader numbers among them, and so are the lists of rules. 17 asks whether no unit may be carried, and 18 whether the
+ * low of every rule is 0; a refusal by one of them has for its line the place of the first unit or rule at fault in its list, from 1.
  *
  * A refused call changes nothing that it was lent. Places of a room past those that an answer needs never change.
  *
@@ -31,8 +36,8 @@
 #include <stdint.h>
 
 /*
- * The sheet's sizes, the greatest count of a rule, the largest loader number, the longest text, the largest table and the longest
- * page. Rooms and pages of such lengths refuse no sheet.
+ * The sheet's sizes, the greatest count of a rule, the largest loader number, the longest text that is read, the largest table, the
+ * longest page, and the longest text that is written. Rooms and pages of such lengths refuse no sheet.
  */
 #define TUGROKT_MAX_SLOTS 48
 #define TUGROKT_MAX_UNITS 300
@@ -43,6 +48,7 @@
 #define TUGROKT_MAX_BOUNDARIES (TUGROKT_MAX_SLOTS + 2)
 #define TUGROKT_MAX_CELLS (TUGROKT_MAX_BOUNDARIES * TUGROKT_MAX_BOUNDARIES)
 #define TUGROKT_MAX_PAGE 13242
+#define TUGROKT_MAX_TEXT 12309
 
 /*
  * The place behind the last slot of a span. A unit whose window ends there may be carried over into the next wave, and one that has
@@ -84,11 +90,28 @@ struct tugrokt_printing {
     size_t place;  /* just past the answer; as it was given where the call was refused */
 };
 
+struct tugrokt_writing {
+    size_t number;
+    size_t line;  /* for 17 the place in the lists of units, for 18 that in the lists of rules, from 1 */
+    size_t place; /* just past the text; as it was given where the call was refused */
+};
+
 /*
  * Reads a sheet into seven lists, each at the front of its room: each unit's loader number, loader, and its window, first to last;
  * each rule's stretch, from to to, and its count, low to high.
  */
 struct tugrokt_reading tugrokt_read(
+    const uint8_t *text, size_t text_length, uint16_t *loader, size_t loader_length,
+    uint16_t *first, size_t first_length, uint16_t *last, size_t last_length,
+    uint16_t *from, size_t from_length, uint16_t *to, size_t to_length,
+    uint16_t *low, size_t low_length, uint16_t *high, size_t high_length);
+
+/*
+ * Reads a partner's sheet into the same lists: (day N) gives the span; a job with its start and its hours a unit whose window is the
+ * slots from start to start + hours - 1, all of them inside the span (7); a limit the rule on the slots from from to from + hours - 1,
+ * with the count 0 to most.
+ */
+struct tugrokt_reading tugrokt_read_partner(
     const uint8_t *text, size_t text_length, uint16_t *loader, size_t loader_length,
     uint16_t *first, size_t first_length, uint16_t *last, size_t last_length,
     uint16_t *from, size_t from_length, uint16_t *to, size_t to_length,
@@ -151,6 +174,29 @@ struct tugrokt_printing tugrokt_print(
     int16_t *table, size_t table_length, uint16_t *plan, size_t plan_length,
     uint16_t *earliest, size_t earliest_length, uint16_t *latest, size_t latest_length,
     uint16_t *ring, size_t ring_length, uint8_t *page, size_t page_length, size_t place);
+
+/*
+ * Writes the lists as a sheet's text on the page from the given place on: the span, the units and the rules, in the order of the lists,
+ * a line each and no notes. tugrokt_read makes the same lists of it. Where the page does not hold the whole text the call is refused by
+ * 15 and the page is unchanged; TUGROKT_MAX_TEXT places hold every text.
+ */
+struct tugrokt_writing tugrokt_write_sheet(
+    size_t span, const uint16_t *loader, size_t loader_length,
+    const uint16_t *first, size_t first_length, const uint16_t *last, size_t last_length,
+    const uint16_t *from, size_t from_length, const uint16_t *to, size_t to_length,
+    const uint16_t *low, size_t low_length, const uint16_t *high, size_t high_length,
+    uint8_t *page, size_t page_length, size_t place);
+
+/*
+ * The same in the partner's form, of lists in which no unit may be carried (17) and every low is 0 (18). tugrokt_read_partner makes the
+ * same lists of the text.
+ */
+struct tugrokt_writing tugrokt_write_partner(
+    size_t span, const uint16_t *loader, size_t loader_length,
+    const uint16_t *first, size_t first_length, const uint16_t *last, size_t last_length,
+    const uint16_t *from, size_t from_length, const uint16_t *to, size_t to_length,
+    const uint16_t *low, size_t low_length, const uint16_t *high, size_t high_length,
+    uint8_t *page, size_t page_length, size_t place);
 
 #ifdef __cplusplus
 }

@@ -1,5 +1,6 @@
 //! The sheets that are measured.
 
+use model::house::House;
 use model::random::{largest_sheet, paper_sheet, Random, Reach};
 use model::sheet::{Sheet, Unit};
 
@@ -8,6 +9,9 @@ pub struct Case {
     pub texts: Vec<Vec<u8>>,
     pub sheets: Vec<plain::Sheet>,
     pub limits: Vec<Vec<i16>>,
+    /// The sheets as a partner can have them, without carried units and lows, and their texts.
+    pub partner_texts: Vec<Vec<u8>>,
+    pub partner_sheets: Vec<plain::Sheet>,
 }
 
 /// Sheets as in Chabert and Demassey, section 4, by their number of units, rules and slots; the largest sheets, loose, tight, and with no plan by
@@ -35,7 +39,7 @@ pub fn make(name: &str) -> Case {
         "largest-none" => largest(0).into_iter().map(none_by_one).collect(),
         "loaders" => largest(0).into_iter().map(|sheet| sheet.numbered(&of_few_remainders())).collect(),
         "carried" => reaching(0, Reach::PastWave),
-        "narrowing" => vec![model::reading::read(NARROWING).expect("a sheet")],
+        "narrowing" => vec![model::reading::read(House::Ours, NARROWING).expect("a sheet")],
         "distinct" => (0..5).map(distinct).collect(),
         "chain-2" => vec![chain(2)],
         "chain-4" => vec![chain(4)],
@@ -43,10 +47,12 @@ pub fn make(name: &str) -> Case {
         "smallest" => vec![Sheet::new(1, &[], &[])],
         _ => panic!("no case {name}; --list has them"),
     };
+    let partner_texts: Vec<Vec<u8>> = sheets.iter().map(|sheet| sheet.kept_by(House::Partner).text_for(House::Partner)).collect();
+    let partner_sheets: Vec<plain::Sheet> = partner_texts.iter().map(|text| plain::read_partner(text).expect("a partner's sheet")).collect();
     let texts: Vec<Vec<u8>> = sheets.iter().map(Sheet::text).collect();
     let sheets: Vec<plain::Sheet> = texts.iter().map(|text| plain::read(text).expect("a sheet")).collect();
     let limits = sheets.iter().map(|sheet| plain::limits(sheet, &plain::windows_inside(sheet))).collect();
-    Case { name: name.into(), texts, sheets, limits }
+    Case { name: name.into(), texts, sheets, limits, partner_texts, partner_sheets }
 }
 
 /// 300 loader numbers of four digits, in any order.

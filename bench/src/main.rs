@@ -18,12 +18,14 @@ use std::time::{Duration, Instant};
 
 use cases::Case;
 
-/// What is measured: from a text to lists; the pass alone, over a copy of the sheet's limits; from lists to the rooms (table,
+/// What is measured: from a text to lists, and from a partner's text to lists; from lists to a partner's text; the pass alone, over a copy of the sheet's limits; from lists to the rooms (table,
 /// seats, narrowed windows or ring); from lists to table or ring alone; from lists to table, seats and narrowed windows, and no ring; from
 /// lists to a page, so that `print` less `plan` is printing; from a text to a page.
 #[derive(Clone, Copy, PartialEq)]
 enum Job {
     Read,
+    Partner,
+    Write,
     Pass,
     Plan,
     Decide,
@@ -32,8 +34,10 @@ enum Job {
     Whole,
 }
 
-const JOBS: [(Job, &str); 7] = [
+const JOBS: [(Job, &str); 9] = [
     (Job::Read, "read"),
+    (Job::Partner, "partner"),
+    (Job::Write, "write"),
     (Job::Pass, "pass"),
     (Job::Plan, "plan"),
     (Job::Decide, "decide"),
@@ -50,15 +54,19 @@ trait Side {
     /// The answer with a plan, or nothing.
     fn seats(&mut self, sheet: &plain::Sheet) -> Option<plain::Answer>;
     fn page(&mut self, text: &[u8]) -> Vec<u8>;
+    /// A partner's text, read and written again.
+    fn written_again(&mut self, text: &[u8]) -> Vec<u8>;
 }
 
 struct Plain;
 
 impl Side for Plain {
     fn run(&mut self, case: &Case, job: Job) {
-        for ((text, sheet), limits) in case.texts.iter().zip(&case.sheets).zip(&case.limits) {
+        for (i, ((text, sheet), limits)) in case.texts.iter().zip(&case.sheets).zip(&case.limits).enumerate() {
             match job {
                 Job::Read => drop(black_box(plain::read(black_box(text)))),
+                Job::Partner => drop(black_box(plain::read_partner(black_box(&case.partner_texts[i])))),
+                Job::Write => drop(black_box(self.write(black_box(&case.partner_sheets[i])))),
                 Job::Pass => drop(black_box(plain::close(&mut black_box(limits).clone(), plain::boundaries(sheet.span)))),
                 Job::Plan => drop(black_box(self.answer(black_box(sheet)))),
                 Job::Decide => drop(black_box(self.decision(black_box(sheet)))),
@@ -88,6 +96,17 @@ impl Side for Plain {
     fn page(&mut self, text: &[u8]) -> Vec<u8> {
         let sheet = plain::read(text).expect("the cases are sheets");
         plain::print(&sheet, &plain::plan(&sheet))
+    }
+
+    fn written_again(&mut self, text: &[u8]) -> Vec<u8> {
+        self.write(&plain::read_partner(text).expect("the cases are sheets"))
+    }
+}
+
+impl Plain {
+    fn write(&self, sheet: &plain::Sheet) -> Vec<u8> {
+        assert_eq!((plain::refusal(sheet), plain::partner_refusal(sheet)), (0, (0, 0)), "the partner can have the sheets");
+        plain::write_partner(sheet)
     }
 }
 
@@ -123,11 +142,21 @@ mod planner {
             }
         }
 
-        fn read(&mut self, text: &[u8]) -> Reading {
+        fn read_by(&mut self, read: fn(&[u8], ListRooms) -> Reading, text: &[u8]) -> Reading {
             let [loader, first, last, from, to, low, high] = &mut self.lists;
-            let reply = entry::read(text, ListRooms { loader, first, last, from, to, low, high });
+            let reply = read(text, ListRooms { loader, first, last, from, to, low, high });
             assert_eq!(reply.number, 0, "the cases are sheets");
             reply
+        }
+
+        fn read(&mut self, text: &[u8]) -> Reading {
+            self.read_by(entry::read, text)
+        }
+
+        fn write(&mut self, lists: Lists) -> usize {
+            let reply = entry::write_partner(lists, &mut self.page, 0);
+            assert_eq!(reply.number, 0, "the partner can have the sheets");
+            reply.place
         }
 
         fn pass(&mut self, limits: &[i16], w: usize) -> Outcome {
@@ -191,9 +220,11 @@ mod planner {
 
     impl Side for Planner {
         fn run(&mut self, case: &Case, job: Job) {
-            for ((text, sheet), limits) in case.texts.iter().zip(&case.sheets).zip(&case.limits) {
+            for (i, ((text, sheet), limits)) in case.texts.iter().zip(&case.sheets).zip(&case.limits).enumerate() {
                 match job {
                     Job::Read => drop(black_box(self.read(black_box(text)))),
+                    Job::Partner => drop(black_box(self.read_by(entry::read_partner, black_box(&case.partner_texts[i])))),
+                    Job::Write => drop(black_box(self.write(lists(black_box(&case.partner_sheets[i]))))),
                     Job::Pass => drop(black_box(self.pass(black_box(limits), plain::boundaries(sheet.span)))),
                     Job::Plan => drop(black_box(self.plan(black_box(sheet)))),
                     Job::Decide => drop(black_box(self.decide(black_box(sheet)))),
@@ -226,6 +257,16 @@ mod planner {
 
         fn page(&mut self, text: &[u8]) -> Vec<u8> {
             let place = self.whole(text);
+            self.page[..place].to_vec()
+        }
+
+        fn written_again(&mut self, text: &[u8]) -> Vec<u8> {
+            let Reading { span, units, rules, .. } = self.read_by(entry::read_partner, text);
+            let [loader, first, last, from, to, low, high] = self.lists.clone();
+            let (n, k) = (units, rules);
+            let [loader, first, last] = [&loader[..n], &first[..n], &last[..n]];
+            let [from, to, low, high] = [&from[..k], &to[..k], &low[..k], &high[..k]];
+            let place = self.write(Lists { span, loader, first, last, from, to, low, high });
             self.page[..place].to_vec()
         }
     }
@@ -270,6 +311,10 @@ fn compare(case: &Case, sides: &mut [(&'static str, Box<dyn Side>)]) {
         assert!(same || both_none, "{}: the two sides' answers to sheet {i} differ", case.name);
         let pages: Vec<Vec<u8>> = sides.iter_mut().map(|side| side.1.page(&case.texts[i])).collect();
         assert!(!same || pages[0] == pages[1], "{}: the two sides' pages of sheet {i} differ", case.name);
+        for (name, side) in sides.iter_mut() {
+            let text = &case.partner_texts[i];
+            assert!(side.written_again(text) == *text, "{}: the {name} writes another text of a partner's sheet {i}", case.name);
+        }
         for (answer, (name, side)) in answers.into_iter().zip(sides.iter_mut()) {
             let decision = match &answer {
                 plain::Answer::Plan { table, .. } => plain::Decision::Fits { table: table.clone() },
@@ -299,7 +344,7 @@ fn main() {
             }
         }
         _ => {
-            println!("{:14} {:6} {:>12} {:>12} {:>7} {:>7}", "nanoseconds", "job", sides[0].0, "plain", "ratio", "of plan");
+            println!("{:14} {:7} {:>12} {:>12} {:>7} {:>7}", "nanoseconds", "job", sides[0].0, "plain", "ratio", "of plan");
             let chosen = |name: &&&str| words.is_empty() || words.iter().any(|w| name.starts_with(w.as_str()));
             for name in cases::NAMES.iter().filter(chosen) {
                 let case = cases::make(name);
@@ -308,7 +353,7 @@ fn main() {
                 let plan = JOBS.iter().position(|(job, _)| *job == Job::Plan).expect("planning is a job");
                 for ((_, job_name), job) in JOBS.iter().zip(&least) {
                     let (ours, theirs, of_plan) = (job[0], job[job.len() - 1], job[0] / least[plan][0]);
-                    println!("{name:14} {job_name:6} {ours:12.0} {theirs:12.0} {:7.2} {of_plan:7.2}", ours / theirs);
+                    println!("{name:14} {job_name:7} {ours:12.0} {theirs:12.0} {:7.2} {of_plan:7.2}", ours / theirs);
                 }
             }
         }

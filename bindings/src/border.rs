@@ -55,8 +55,41 @@ pub struct Printing {
     pub place: usize,
 }
 
+/// What writing replies.
+#[repr(C)]
+#[derive(Clone, Copy, Debug, PartialEq, Eq)]
+pub struct Writing {
+    /// The number of the question that refused the call, and 0 for a text.
+    pub number: usize,
+    /// What a refusal names: for 17 the place in the lists of units, for 18 that in the lists of rules, from 1.
+    pub line: usize,
+    /// The place just past the text, and for a refusal the place that was given.
+    pub place: usize,
+}
+
 extern "C" {
     pub fn tugrokt_read(
+        text: *const u8,
+        text_length: usize,
+        loader: *mut u16,
+        loader_length: usize,
+        first: *mut u16,
+        first_length: usize,
+        last: *mut u16,
+        last_length: usize,
+        from: *mut u16,
+        from_length: usize,
+        to: *mut u16,
+        to_length: usize,
+        low: *mut u16,
+        low_length: usize,
+        high: *mut u16,
+        high_length: usize,
+    ) -> Reading;
+}
+
+extern "C" {
+    pub fn tugrokt_read_partner(
         text: *const u8,
         text_length: usize,
         loader: *mut u16,
@@ -189,4 +222,50 @@ extern "C" {
         page_length: usize,
         place: usize,
     ) -> Printing;
+}
+
+extern "C" {
+    pub fn tugrokt_write_sheet(
+        span: usize,
+        loader: *const u16,
+        loader_length: usize,
+        first: *const u16,
+        first_length: usize,
+        last: *const u16,
+        last_length: usize,
+        from: *const u16,
+        from_length: usize,
+        to: *const u16,
+        to_length: usize,
+        low: *const u16,
+        low_length: usize,
+        high: *const u16,
+        high_length: usize,
+        page: *mut u8,
+        page_length: usize,
+        place: usize,
+    ) -> Writing;
+}
+
+extern "C" {
+    pub fn tugrokt_write_partner(
+        span: usize,
+        loader: *const u16,
+        loader_length: usize,
+        first: *const u16,
+        first_length: usize,
+        last: *const u16,
+        last_length: usize,
+        from: *const u16,
+        from_length: usize,
+        to: *const u16,
+        to_length: usize,
+        low: *const u16,
+        low_length: usize,
+        high: *const u16,
+        high_length: usize,
+        page: *mut u8,
+        page_length: usize,
+        place: usize,
+    ) -> Writing;
 }

@@ -6,9 +6,9 @@
 //! A refused call changes nothing that it was lent.
 
 use crate::border;
-pub use crate::border::{Planning, Printing, Reading, Seating};
+pub use crate::border::{Planning, Printing, Reading, Seating, Writing};
 
-/// The lists that planning, deciding and seating take. Lists that belong together have equal length, or the call is refused (13).
+/// The lists that planning, deciding, seating and writing take. Lists that belong together have equal length, or the call is refused (13).
 #[derive(Clone, Copy, Debug)]
 pub struct Lists<'a> {
     /// The number of slots, 1 to 48.
@@ -68,12 +68,18 @@ pub struct ListRooms<'a> {
     pub high: &'a mut [u16],
 }
 
-/// Reads a sheet into the front of the lists.
-pub fn read(text: &[u8], lists: ListRooms) -> Reading {
+/// An entry that reads.
+type Reads = unsafe extern "C" fn(
+    *const u8, usize,
+    *mut u16, usize, *mut u16, usize, *mut u16, usize,
+    *mut u16, usize, *mut u16, usize, *mut u16, usize, *mut u16, usize,
+) -> Reading;
+
+fn read_by(reads: Reads, text: &[u8], lists: ListRooms) -> Reading {
     let ListRooms { loader, first, last, from, to, low, high } = lists;
     // SAFETY: each pointer comes from a reference with the length beside it, and the entry has no further demand.
     unsafe {
-        border::tugrokt_read(
+        reads(
             text.as_ptr(),
             text.len(),
             loader.as_mut_ptr(),
@@ -92,6 +98,16 @@ pub fn read(text: &[u8], lists: ListRooms) -> Reading {
             high.len(),
         )
     }
+}
+
+/// Reads a sheet into the front of the lists.
+pub fn read(text: &[u8], lists: ListRooms) -> Reading {
+    read_by(border::tugrokt_read, text, lists)
+}
+
+/// Reads a partner's sheet into the front of the same lists.
+pub fn read_partner(text: &[u8], lists: ListRooms) -> Reading {
+    read_by(border::tugrokt_read_partner, text, lists)
 }
 
 /// Plans from lists.
@@ -231,4 +247,49 @@ pub fn print(lists: Lists, rooms: Rooms, page: &mut [u8], place: usize) -> Print
             place,
         )
     }
+}
+
+/// An entry that writes.
+type Writes = unsafe extern "C" fn(
+    usize,
+    *const u16, usize, *const u16, usize, *const u16, usize,
+    *const u16, usize, *const u16, usize, *const u16, usize, *const u16, usize,
+    *mut u8, usize, usize,
+) -> Writing;
+
+fn write_by(writes: Writes, lists: Lists, page: &mut [u8], place: usize) -> Writing {
+    let Lists { span, loader, first, last, from, to, low, high } = lists;
+    // SAFETY: each pointer comes from a reference with the length beside it, and the entry has no further demand.
+    unsafe {
+        writes(
+            span,
+            loader.as_ptr(),
+            loader.len(),
+            first.as_ptr(),
+            first.len(),
+            last.as_ptr(),
+            last.len(),
+            from.as_ptr(),
+            from.len(),
+            to.as_ptr(),
+            to.len(),
+            low.as_ptr(),
+            low.len(),
+            high.as_ptr(),
+            high.len(),
+            page.as_mut_ptr(),
+            page.len(),
+            place,
+        )
+    }
+}
+
+/// Writes the lists as a sheet's text on the page from `place` on.
+pub fn write_sheet(lists: Lists, page: &mut [u8], place: usize) -> Writing {
+    write_by(border::tugrokt_write_sheet, lists, page, place)
+}
+
+/// The same in the partner's form: no unit may be carried (17), and every low is 0 (18).
+pub fn write_partner(lists: Lists, page: &mut [u8], place: usize) -> Writing {
+    write_by(border::tugrokt_write_partner, lists, page, place)
 }

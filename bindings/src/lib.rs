@@ -1,7 +1,7 @@
 //! The wave planner, called from Rust.
 //!
-//! [`Sheet`] reads, plans, decides, seats and prints with rooms of its own; [`entry`] has the planner's open entries as they are, with every
-//! room lent by the caller. Only numbers, slices and structs of numbers cross the border.
+//! [`Sheet`] reads, plans, decides, seats, prints and writes with rooms of its own; [`entry`] has the planner's open entries as they are, with
+//! every room lent by the caller. Only numbers, slices and structs of numbers cross the border.
 //!
 //! ```
 //! # fn main() -> Result<(), tugrokt::Refusal> {
@@ -26,6 +26,16 @@
 //! # Ok(())
 //! # }
 //! ```
+//! Sheets of the partner house are read into the same lists, and written from them:
+//!
+//! ```
+//! # fn main() -> Result<(), tugrokt::Refusal> {
+//! let sheet = tugrokt::Sheet::read_partner(b"(day 7)\n(job 4017 (start 3) (hours 2))\n(limit (from 1) (hours 3) (most 2))\n")?;
+//! assert_eq!(sheet.write()?, b"(sheet 7)\n(unit 4017 (window 3 4))\n(rule (slots 1 3) (count 0 2))\n");
+//! assert_eq!(tugrokt::Sheet::read_partner(&sheet.write_partner()?)?, sheet);
+//! # Ok(())
+//! # }
+//! ```
 //! `examples/` has whole programs, and the same in C.
 
 mod border;
@@ -40,7 +50,7 @@ pub const MAX_RULES: usize = 60;
 pub const MAX_COUNT: usize = 300;
 /// The largest loader number.
 pub const MAX_LOADER: u16 = 9_999;
-/// The longest text of a sheet.
+/// The longest text that is read.
 pub const MAX_BYTES: usize = 16_000;
 /// The boundaries of the longest span (see [`boundaries`]).
 pub const MAX_BOUNDARIES: usize = MAX_SLOTS + 2;
@@ -48,6 +58,8 @@ pub const MAX_BOUNDARIES: usize = MAX_SLOTS + 2;
 pub const MAX_CELLS: usize = MAX_BOUNDARIES * MAX_BOUNDARIES;
 /// The longest answer page, as is proved.
 pub const MAX_PAGE: usize = 13_242;
+/// The longest text that writing makes, as is proved.
+pub const MAX_TEXT: usize = 12_309;
 
 /// The place behind the last slot of a span: a unit with this slot is carried over into the next wave.
 pub fn carried_place(span: usize) -> usize {
@@ -59,10 +71,11 @@ pub fn boundaries(span: usize) -> usize {
     carried_place(span) + 1
 }
 
-/// A call that was refused: the number of the question that was answered no, and the line that it names.
+/// A call that was refused: the number of the question that was answered no, and the line that it names, or 0.
 #[derive(Clone, Copy, Debug, PartialEq, Eq)]
 pub struct Refusal {
     pub question: usize,
+    /// For 17 the place of the unit, for 18 that of the rule in its lists, counted from 1.
     pub line: usize,
 }
 
@@ -200,6 +213,15 @@ impl Sheet {
 
     /// Reads a sheet from its text.
     pub fn read(text: &[u8]) -> Result<Sheet, Refusal> {
+        Sheet::read_by(entry::read, text)
+    }
+
+    /// Reads a partner's sheet from its text: a job is a unit whose window is its hours, and a limit a rule with the low 0.
+    pub fn read_partner(text: &[u8]) -> Result<Sheet, Refusal> {
+        Sheet::read_by(entry::read_partner, text)
+    }
+
+    fn read_by(reads: fn(&[u8], entry::ListRooms) -> entry::Reading, text: &[u8]) -> Result<Sheet, Refusal> {
         let units = || vec![0; MAX_UNITS];
         let rules = || vec![0; MAX_RULES];
         let (mut loader, mut first, mut last) = (units(), units(), units());
@@ -213,7 +235,7 @@ impl Sheet {
             low: &mut low,
             high: &mut high,
         };
-        let reply = entry::read(text, lists);
+        let reply = reads(text, lists);
         unless_refused(reply.number, reply.line)?;
         for list in [&mut loader, &mut first, &mut last] {
             list.truncate(reply.units);
@@ -268,6 +290,36 @@ impl Sheet {
         let mut own = OwnRooms::new(self);
         let mut page = vec![0; MAX_PAGE];
         let reply = entry::print(self.lists(), own.lend(), &mut page, 0);
+        unless_refused(reply.number, reply.line)?;
+        page.truncate(reply.place);
+        Ok(page)
+    }
+
+    /// The sheet's text: the span, the units and the rules, and no notes. [`Sheet::read`] gives the sheet back.
+    pub fn write(&self) -> Result<Vec<u8>, Refusal> {
+        self.write_by(entry::write_sheet)
+    }
+
+    /// The sheet's text in the partner's form. [`Sheet::read_partner`] gives the sheet back.
+    ///
+    /// The partner has no carried place, and limits have no least count: a sheet with a unit that may be carried is refused by 17, and one
+    /// with a low above 0 by 18.
+    ///
+    /// ```
+    /// let mut sheet = tugrokt::Sheet::new(7);
+    /// sheet.add_unit(4017, 3, 4);
+    /// assert_eq!(sheet.write_partner(), Ok(b"(day 7)\n(job 4017 (start 3) (hours 2))\n".to_vec()));
+    /// sheet.add_unit(212, 6, 8);
+    /// // The second unit may be carried.
+    /// assert_eq!(sheet.write_partner(), Err(tugrokt::Refusal { question: 17, line: 2 }));
+    /// ```
+    pub fn write_partner(&self) -> Result<Vec<u8>, Refusal> {
+        self.write_by(entry::write_partner)
+    }
+
+    fn write_by(&self, writes: fn(entry::Lists, &mut [u8], usize) -> entry::Writing) -> Result<Vec<u8>, Refusal> {
+        let mut page = vec![0; MAX_TEXT];
+        let reply = writes(self.lists(), &mut page, 0);
         unless_refused(reply.number, reply.line)?;
         page.truncate(reply.place);
         Ok(page)

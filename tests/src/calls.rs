@@ -1,9 +1,10 @@
 //! Calls of the planner's open entries with marked rooms, and what must stand in every place afterwards.
 
-use crate::questions::{planning_refusal, refusal, Call, Lengths, Lists};
+use crate::house::House;
+use crate::questions::{planning_refusal, refusal, written, Call, Lengths, Lists};
 use crate::reading::{read_into, Refusal};
 use crate::sheet::{Sheet, Solved};
-use tugrokt::entry::{self, DecideRooms, Planning, Printing, Reading, SeatRooms, Seating};
+use tugrokt::entry::{self, DecideRooms, Planning, Printing, Reading, SeatRooms, Seating, Writing};
 
 /// Marks that no answer has, other ones in neighbouring places.
 pub fn marked_u16(length: usize) -> Vec<u16> {
@@ -266,14 +267,18 @@ pub fn printing_fault(
         .or_else(|| refused_print_fault(&print(lists, lengths, end - 1, before), 15, lengths, before))
 }
 
-/// Reads into marked lists of these lengths, and says what is wrong.
-pub fn reading_fault(text: &[u8], units: [usize; 3], rules: [usize; 4]) -> Option<String> {
+/// Reads a house's text into marked lists of these lengths, and says what is wrong.
+pub fn reading_fault(house: House, text: &[u8], units: [usize; 3], rules: [usize; 4]) -> Option<String> {
     let marked = || [units[0], units[1], units[2], rules[0], rules[1], rules[2], rules[3]].map(marked_u16);
     let mut rooms = marked();
     let mut expected_rooms = marked();
     let [loader, first, last, from, to, low, high] = &mut rooms;
-    let reply = entry::read(text, entry::ListRooms { loader, first, last, from, to, low, high });
-    let expected = match read_into(text, units, rules) {
+    let lists = entry::ListRooms { loader, first, last, from, to, low, high };
+    let reply = match house {
+        House::Ours => entry::read(text, lists),
+        House::Partner => entry::read_partner(text, lists),
+    };
+    let expected = match read_into(house, text, units, rules) {
         Err(Refusal { number, line }) => Reading { number, line, span: 0, units: 0, rules: 0 },
         Ok(sheet) => {
             let lists = Lists::from(&sheet);
@@ -285,4 +290,38 @@ pub fn reading_fault(text: &[u8], units: [usize; 3], rules: [usize; 4]) -> Optio
         }
     };
     differ("reply", &reply, &expected).or_else(|| differ("lists", &rooms, &expected_rooms))
+}
+
+/// What one call of writing left.
+#[derive(Clone, Debug, PartialEq, Eq)]
+pub struct Written {
+    pub reply: Writing,
+    pub page: Vec<u8>,
+}
+
+/// Writes in a house's form onto a page that holds this before, from this place on.
+pub fn write_onto(house: House, lists: &Lists, mut page: Vec<u8>, place: usize) -> Written {
+    let reply = match house {
+        House::Ours => entry::write_sheet(lent(lists), &mut page, place),
+        House::Partner => entry::write_partner(lent(lists), &mut page, place),
+    };
+    Written { reply, page }
+}
+
+/// The same onto a marked page of this length, and says what is wrong: refused, page and place are as they were; else the text stands from
+/// the place on, and nothing else has changed.
+pub fn writing_fault(house: House, lists: &Lists, page_length: usize, place: usize) -> Option<String> {
+    let mut page = marked_u8(page_length);
+    let got = write_onto(house, lists, page.clone(), place);
+    let reply = match written(house, lists, page_length, place) {
+        Err(Refusal { number, line }) => Writing { number, line, place },
+        Ok(text) => {
+            let end = place + text.len();
+            page[place..end].copy_from_slice(&text);
+            Writing { number: 0, line: 0, place: end }
+        }
+    };
+    differ("reply", &got.reply, &reply)
+        .or_else(|| differ("page", &String::from_utf8_lossy(&got.page), &String::from_utf8_lossy(&page)))
+        .or_else(|| differ("page's bytes", &got.page, &page))
 }

@@ -1,5 +1,6 @@
-//! Random texts: sheets with notes, and texts with faults of every kind, also several at once.
+//! Random texts of either house: sheets with notes, and texts with faults of every kind, also several at once.
 
+use crate::house::House;
 use crate::random::{any_sheet, small_sheet, Random};
 use crate::sheet::{carried_place, Sheet, MAX_SLOTS};
 
@@ -48,11 +49,27 @@ fn lines(text: &[u8]) -> Vec<Vec<u8>> {
     text.split_inclusive(|&b| b == b'\n').map(<[u8]>::to_vec).collect()
 }
 
+/// How a unit's line begins.
+fn unit_head(house: House) -> &'static [u8] {
+    match house {
+        House::Ours => b"(unit ",
+        House::Partner => b"(job ",
+    }
+}
+
+/// How a rule's line begins.
+fn rule_head(house: House) -> &'static [u8] {
+    match house {
+        House::Ours => b"(rule ",
+        House::Partner => b"(limit ",
+    }
+}
+
 /// The sheet's text with notes strewn in, and the order of units and rules mixed.
-pub fn with_notes(r: &mut Random, sheet: &Sheet) -> Vec<u8> {
-    let mut all = lines(&sheet.text());
+pub fn with_notes(r: &mut Random, house: House, sheet: &Sheet) -> Vec<u8> {
+    let mut all = lines(&sheet.text_for(house));
     // Units and rules keep their own order but may alternate.
-    let (mut units, mut rules): (Vec<_>, Vec<_>) = all.drain(1..).partition(|l| l.starts_with(b"(unit"));
+    let (mut units, mut rules): (Vec<_>, Vec<_>) = all.drain(1..).partition(|l| l.starts_with(unit_head(house)));
     units.reverse();
     rules.reverse();
     let mixed = r.chance(40);
@@ -69,13 +86,13 @@ pub fn with_notes(r: &mut Random, sheet: &Sheet) -> Vec<u8> {
         }
     }
     let text = all.concat();
-    if text.len() > crate::reading::MAX_BYTES { sheet.text() } else { text }
+    if text.len() > crate::reading::MAX_BYTES { sheet.text_for(house) } else { text }
 }
 
 /// A text that reads.
-pub fn valid(r: &mut Random) -> Vec<u8> {
+pub fn valid(r: &mut Random, house: House) -> Vec<u8> {
     let sheet = if r.chance(80) { small_sheet(r) } else { any_sheet(r) };
-    with_notes(r, &sheet)
+    with_notes(r, house, &sheet.kept_by(house))
 }
 
 /// A number that is often at a limit or past it, sometimes no number at all.
@@ -87,15 +104,24 @@ fn odd_number(r: &mut Random) -> String {
     if r.chance(50) { r.between(0, 6).to_string() } else { r.pick(&ODD).to_string() }
 }
 
-/// A line of some form whose numbers may be anything; a unit may have no loader number.
-pub fn odd_line(r: &mut Random) -> Vec<u8> {
+/// A line of some form whose numbers may be anything; a unit may have no loader number, and a few lines are the other house's.
+pub fn odd_line(r: &mut Random, house: House) -> Vec<u8> {
+    let house = if r.chance(4) { house.other() } else { house };
     let mut n = || odd_number(r);
-    let forms = [
-        format!("(sheet {})", n()),
-        format!("(unit {} (window {} {}))", n(), n(), n()),
-        format!("(rule (slots {} {}) (count {} {}))", n(), n(), n(), n()),
-        format!("(unit (window {} {}))", n(), n()),
-    ];
+    let forms = match house {
+        House::Ours => [
+            format!("(sheet {})", n()),
+            format!("(unit {} (window {} {}))", n(), n(), n()),
+            format!("(rule (slots {} {}) (count {} {}))", n(), n(), n(), n()),
+            format!("(unit (window {} {}))", n(), n()),
+        ],
+        House::Partner => [
+            format!("(day {})", n()),
+            format!("(job {} (start {}) (hours {}))", n(), n(), n()),
+            format!("(limit (from {}) (hours {}) (most {}))", n(), n(), n()),
+            format!("(job (start {}) (hours {}))", n(), n()),
+        ],
+    };
     let mut line = forms[*r.pick(&[0, 1, 1, 1, 2, 2, 3])].clone().into_bytes();
     match r.below(12) {
         0 => line = note(r),
@@ -110,13 +136,13 @@ pub fn odd_line(r: &mut Random) -> Vec<u8> {
 }
 
 /// A text of lines of all forms in any order.
-pub fn soup(r: &mut Random) -> Vec<u8> {
+pub fn soup(r: &mut Random, house: House) -> Vec<u8> {
     let mut text = Vec::new();
     if r.chance(70) {
-        text.extend(format!("(sheet {})\n", r.between(1, 8)).bytes());
+        text.extend(Sheet::new(r.between(1, 8), &[], &[]).text_for(house));
     }
     for _ in 0..r.below(8) {
-        text.extend(odd_line(r));
+        text.extend(odd_line(r, house));
         if !r.chance(3) {
             text.push(b'\n');
         }
@@ -125,11 +151,11 @@ pub fn soup(r: &mut Random) -> Vec<u8> {
 }
 
 /// A unit's loader number becomes another unit's, or one at a limit, or goes.
-fn renumber(r: &mut Random, lines: &mut [Vec<u8>]) {
-    const HEAD: &[u8] = b"(unit ";
-    let units: Vec<usize> = (0..lines.len()).filter(|&i| lines[i].starts_with(HEAD)).collect();
+fn renumber(r: &mut Random, house: House, lines: &mut [Vec<u8>]) {
+    let head = unit_head(house);
+    let units: Vec<usize> = (0..lines.len()).filter(|&i| lines[i].starts_with(head)).collect();
     // The number with the space behind it.
-    let end = |line: &[u8]| line[HEAD.len()..].iter().position(|&b| b == b' ').map_or(line.len(), |i| HEAD.len() + i + 1);
+    let end = |line: &[u8]| line[head.len()..].iter().position(|&b| b == b' ').map_or(line.len(), |i| head.len() + i + 1);
     let Some(&last) = units.last() else { return };
     let at = if r.chance(50) { last } else { *r.pick(&units) };
     let other = &lines[*r.pick(&units)];
@@ -139,39 +165,63 @@ fn renumber(r: &mut Random, lines: &mut [Vec<u8>]) {
         2 => b"10000 ".to_vec(),
         3 => b"0017 ".to_vec(),
         4 => vec![],
-        _ => other[HEAD.len()..end(other)].to_vec(),
+        _ => other[head.len()..end(other)].to_vec(),
     };
-    let old = HEAD.len()..end(&lines[at]);
+    let old = head.len()..end(&lines[at]);
     lines[at].splice(old, number);
 }
 
 /// The span that a sheet line gives.
-fn span_of(line: &[u8]) -> Option<usize> {
-    std::str::from_utf8(line).ok()?.strip_prefix("(sheet ")?.strip_suffix(")\n")?.parse().ok()
+fn span_of(house: House, line: &[u8]) -> Option<usize> {
+    let head = match house {
+        House::Ours => "(sheet ",
+        House::Partner => "(day ",
+    };
+    std::str::from_utf8(line).ok()?.strip_prefix(head)?.strip_suffix(")\n")?.parse().ok()
 }
 
 /// A window or a stretch of the text ends with the last slot, the carried place, or one place too far, and may begin there.
-pub fn reach_the_end(r: &mut Random, text: &mut Vec<u8>) {
-    const HEADS: [&[u8]; 2] = [b" (window ", b" (slots "];
-    let Some(span) = lines(text).iter().find_map(|line| span_of(line)).filter(|&span| span <= MAX_SLOTS) else { return };
+pub fn reach_the_end(r: &mut Random, house: House, text: &mut Vec<u8>) {
+    // What stands before the two numbers, how many brackets close up to their end, and what stands between them.
+    let (heads, closing, between): ([&[u8]; 2], usize, &str) = match house {
+        House::Ours => ([b" (window ", b" (slots "], 1, " "),
+        House::Partner => ([b" (start ", b" (from "], 2, ") (hours "),
+    };
+    let Some(span) = lines(text).iter().find_map(|line| span_of(house, line)).filter(|&span| span <= MAX_SLOTS) else { return };
     let starts: Vec<usize> = (0..text.len())
-        .filter_map(|at| HEADS.iter().find(|head| text[at..].starts_with(head)).map(|head| at + head.len()))
+        .filter_map(|at| heads.iter().find(|head| text[at..].starts_with(head)).map(|head| at + head.len()))
         .collect();
     if starts.is_empty() {
         return;
     }
     let start = *r.pick(&starts);
-    let end = (start..text.len()).find(|&at| text[at] == b')').unwrap_or(text.len());
+    let end = (start..text.len()).filter(|&at| text[at] == b')').nth(closing - 1).unwrap_or(text.len());
     let last = r.between(span, carried_place(span) + 1);
     let first = if r.chance(50) { 1 } else { r.between(span, last) };
-    text.splice(start..end, format!("{first} {last}").into_bytes());
+    let second = match house {
+        House::Ours => last,
+        House::Partner => last + 1 - first,
+    };
+    text.splice(start..end, format!("{first}{between}{second}").into_bytes());
+}
+
+/// The greatest count of a rule becomes one at its limit, or past it.
+fn raise_high(r: &mut Random, house: House, lines: &mut [Vec<u8>]) {
+    let rules: Vec<usize> = (0..lines.len()).filter(|&i| lines[i].starts_with(rule_head(house))).collect();
+    if rules.is_empty() {
+        return;
+    }
+    let line = &mut lines[*r.pick(&rules)];
+    let Some(last) = line.iter().rposition(u8::is_ascii_digit) else { return };
+    let start = line[..last].iter().rposition(|b| !b.is_ascii_digit()).map_or(0, |i| i + 1);
+    line.splice(start..=last, r.pick(&["0", "299", "300", "301", "302", "9999"]).bytes());
 }
 
 /// One fault in one place.
-pub fn damage(r: &mut Random, text: &mut Vec<u8>) {
-    const ODD: &[u8] = b"\r\t\x7f\x00\x1f\x80\xff\n  ()00123459noteshuirw-/:@";
+pub fn damage(r: &mut Random, house: House, text: &mut Vec<u8>) {
+    const ODD: &[u8] = b"\r\t\x7f\x00\x1f\x80\xff\n  ()00123459noteshuirwdjm-/:@";
     let at = r.below(text.len().max(1)).min(text.len());
-    match r.below(20) {
+    match r.below(21) {
         0..=2 if at < text.len() => text[at] = *r.pick(ODD),
         3 if at < text.len() => text[at] = r.below(256) as u8,
         4 if at < text.len() => text[at] = text[at].wrapping_add(1),
@@ -211,17 +261,22 @@ pub fn damage(r: &mut Random, text: &mut Vec<u8>) {
         14 => {
             // A line of another kind.
             let mut all = lines(text);
-            let mut line = odd_line(r);
+            let mut line = odd_line(r, house);
             line.push(b'\n');
             all.insert(r.between(0, all.len()), line);
             *text = all.concat();
         }
         15 | 16 => {
             let mut all = lines(text);
-            renumber(r, &mut all);
+            renumber(r, house, &mut all);
             *text = all.concat();
         }
-        17 | 18 => reach_the_end(r, text),
+        17 | 18 => reach_the_end(r, house, text),
+        19 => {
+            let mut all = lines(text);
+            raise_high(r, house, &mut all);
+            *text = all.concat();
+        }
         _ => {
             // A number becomes another.
             let digits: Vec<usize> = (0..text.len()).filter(|&i| text[i].is_ascii_digit()).collect();
@@ -234,17 +289,19 @@ pub fn damage(r: &mut Random, text: &mut Vec<u8>) {
     }
 }
 
-/// A text that reads or does not: valid, damaged once or several times, a soup of forms, or bytes at random.
-pub fn any_text(r: &mut Random) -> Vec<u8> {
+/// A text that reads or does not: valid, damaged once or several times, a soup of forms, or bytes at random; now and then one of the other
+/// house.
+pub fn any_text(r: &mut Random, house: House) -> Vec<u8> {
+    let of = if r.chance(2) { house.other() } else { house };
     let mut text = match r.below(20) {
         0 => (0..r.below(40)).map(|_| r.below(256) as u8).collect(),
-        1..=6 => soup(r),
-        _ => valid(r),
+        1..=6 => soup(r, of),
+        _ => valid(r, of),
     };
     if !r.chance(10) {
         let times = if r.chance(60) { 1 } else { r.between(2, 5) };
         for _ in 0..times {
-            damage(r, &mut text);
+            damage(r, of, &mut text);
         }
     }
     text

@@ -10,6 +10,8 @@ pub mod cases;
 pub mod computed;
 pub mod damage;
 pub mod enumerated;
+pub mod faults;
+pub mod house;
 pub mod network;
 pub mod page;
 pub mod program;

@@ -6,6 +6,8 @@ use std::path::PathBuf;
 use std::process::{Command, Stdio};
 use std::time::Duration;
 
+use crate::house::House;
+use crate::questions::partner_refusal;
 use crate::reading::{read, refusal_page, Refusal};
 use crate::sheet::{Sheet, Solved};
 use crate::{computed, enumerated, page};
@@ -15,18 +17,35 @@ pub fn path() -> PathBuf {
     PathBuf::from(env!("WAVE"))
 }
 
-/// What the program is asked for, by its word: with none and with `plan` a plan, with `fits` whether there is one.
+/// What the program is asked for, by its word: with none and with `plan` a plan, with `fits` whether there is one, with `partner` the plan
+/// of a partner's sheet, and with the last two a sheet in the other house's form.
 #[derive(Clone, Copy, Debug, PartialEq, Eq)]
 pub enum Asked {
     Plan,
     Fits,
+    Partner,
+    FromPartner,
+    ToPartner,
 }
 
 impl Asked {
+    pub const ALL: [Asked; 5] = [Asked::Plan, Asked::Fits, Asked::Partner, Asked::FromPartner, Asked::ToPartner];
+
     pub fn words(self) -> &'static [&'static str] {
         match self {
             Asked::Plan => &[],
             Asked::Fits => &["fits"],
+            Asked::Partner => &["partner"],
+            Asked::FromPartner => &["from-partner"],
+            Asked::ToPartner => &["to-partner"],
+        }
+    }
+
+    /// The house whose text the program reads.
+    pub fn house(self) -> House {
+        match self {
+            Asked::Plan | Asked::Fits | Asked::ToPartner => House::Ours,
+            Asked::Partner | Asked::FromPartner => House::Partner,
         }
     }
 }
@@ -73,37 +92,67 @@ pub fn run_with(words: &[impl AsRef<OsStr>], text: &[u8], parts: &[usize], pause
 /// The model's answer to a text: its refusal, or its sheet and what a plan leaves, if there is one.
 pub type Answer = Result<(Sheet, Option<Solved>), Refusal>;
 
-pub fn answer(text: &[u8]) -> Answer {
-    let sheet = read(text)?;
+pub fn answer(house: House, text: &[u8]) -> Answer {
+    let sheet = read(house, text)?;
     let small = sheet.units.len() <= 5 && sheet.span <= 5;
     let solved = if small { enumerated::solve(&sheet) } else { computed::solve(&sheet) };
     Ok((sheet, solved))
 }
 
-fn page_fault(asked: Asked, answer: &Answer, written: &[u8]) -> Option<String> {
-    match answer {
-        Ok((sheet, solved)) => match asked {
-            Asked::Plan => page::fault(sheet, solved.as_ref(), written),
-            Asked::Fits => page::fits_fault(sheet, solved.as_ref(), written),
-        },
-        Err(refusal) => {
-            let expected = refusal_page(*refusal);
-            (written != expected).then(|| {
-                format!("got {:?}, expected {:?}", String::from_utf8_lossy(written), String::from_utf8_lossy(&expected))
-            })
+/// The other house's text of the sheet in this house's text, or the refusal, and what is said on standard error: where 17 or 18 refuses,
+/// which unit or rule is at fault.
+pub fn converted(from: House, text: &[u8]) -> (Vec<u8>, String) {
+    let sheet = match read(from, text) {
+        Err(refusal) => return (refusal_page(refusal), String::new()),
+        Ok(sheet) => sheet,
+    };
+    let refused = if from.other() == House::Partner { partner_refusal(&sheet) } else { None };
+    match refused {
+        None => (sheet.text_for(from.other()), String::new()),
+        Some(refusal) => {
+            let kind = if refusal.number == 17 { "unit" } else { "rule" };
+            (refusal_page(refusal), format!("{kind} {}\n", refusal.line))
         }
     }
 }
 
-/// Is this what the program is to write for the text? Says what is wrong.
-pub fn output_fault(asked: Asked, text: &[u8], written: &[u8]) -> Option<String> {
-    page_fault(asked, &answer(text), written)
+fn differ(written: &[u8], expected: &[u8]) -> Option<String> {
+    let shown = |bytes| String::from_utf8_lossy(bytes).into_owned();
+    (written != expected).then(|| format!("got {:?}, expected {:?}", shown(written), shown(expected)))
+}
+
+fn page_fault(asked: Asked, answer: &Answer, written: &[u8]) -> Option<String> {
+    match answer {
+        Ok((sheet, solved)) => match asked {
+            Asked::Fits => page::fits_fault(sheet, solved.as_ref(), written),
+            _ => page::fault(sheet, solved.as_ref(), written),
+        },
+        Err(refusal) => differ(written, &refusal_page(*refusal)),
+    }
+}
+
+/// Is this what the program is to write for the text, and to say on standard error? Says what is wrong.
+pub fn output_fault(asked: Asked, text: &[u8], (written, said): (&[u8], &str)) -> Option<String> {
+    let (fault, expected_said) = match asked {
+        Asked::Plan | Asked::Fits | Asked::Partner => (page_fault(asked, &answer(asked.house(), text), written), String::new()),
+        Asked::FromPartner | Asked::ToPartner => {
+            let (page, said) = converted(asked.house(), text);
+            (differ(written, &page), said)
+        }
+    };
+    fault.or_else(|| (said != expected_said).then(|| format!("it said {said:?}, and not {expected_said:?}")))
+}
+
+/// Runs the program on a text sent in parts, and says what is wrong.
+pub fn asked_fault(asked: Asked, text: &[u8], parts: &[usize], pause: Option<Duration>) -> Option<String> {
+    let (written, said) = run_with(asked.words(), text, parts, pause);
+    output_fault(asked, text, (&written, &said)).map(|fault| format!("{asked:?}: {fault}"))
 }
 
 /// Runs the program on a text sent whole, for its plan and for whether it fits, and says what is wrong. Where there is no plan, the two
 /// pages are the same.
 pub fn fault(text: &[u8]) -> Option<String> {
-    answered_fault(text, &answer(text))
+    answered_fault(text, &answer(House::Ours, text))
 }
 
 /// The same, with the model's answer at hand.

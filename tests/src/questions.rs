@@ -1,6 +1,8 @@
-//! The questions that planning, deciding, seating and printing ask of lists and rooms, in their order (docs/RULES.md, "The order of the
-//! questions").
+//! The questions that planning, deciding, seating, printing and writing ask of lists, rooms and pages, in their order (docs/RULES.md, "The
+//! order of the questions").
 
+use crate::house::House;
+use crate::reading::Refusal;
 use crate::sheet::{carried_place, Rule, Sheet, Unit, MAX_COUNT, MAX_LOADER, MAX_RULES, MAX_SLOTS, MAX_UNITS};
 
 /// The lists as they are handed over: any span, any lengths.
@@ -166,4 +168,31 @@ pub fn refusal(call: Call, lists: &Lists, rooms: &Lengths) -> usize {
 /// The same of planning, and of printing before its 15.
 pub fn planning_refusal(lists: &Lists, rooms: &Lengths) -> usize {
     refusal(Call::Plan, lists, rooms)
+}
+
+/// Questions 17 and 18, with the first place at fault in its list, from 1.
+pub fn partner_refusal(sheet: &Sheet) -> Option<Refusal> {
+    if let Some(i) = sheet.units.iter().position(|u| u.last as usize > sheet.span) {
+        return Some(Refusal { number: 17, line: i + 1 });
+    }
+    sheet.rules.iter().position(|r| r.low > 0).map(|i| Refusal { number: 18, line: i + 1 })
+}
+
+/// What writing asks of lists before 15.
+pub fn outgoing_refusal(house: House, lists: &Lists) -> Option<Refusal> {
+    match (lists_refusal(lists), house) {
+        (0, House::Ours) => None,
+        (0, House::Partner) => partner_refusal(&lists.sheet()),
+        (number, _) => Some(Refusal { number, line: 0 }),
+    }
+}
+
+/// The text that writing puts on a page of this length from this place on, or the refusal.
+pub fn written(house: House, lists: &Lists, page_length: usize, place: usize) -> Result<Vec<u8>, Refusal> {
+    if let Some(refusal) = outgoing_refusal(house, lists) {
+        return Err(refusal);
+    }
+    let text = lists.sheet().text_for(house);
+    let holds = place.checked_add(text.len()).is_some_and(|end| end <= page_length);
+    if holds { Ok(text) } else { Err(Refusal { number: 15, line: 0 }) }
 }

@@ -1,6 +1,8 @@
-//! A reader of sheets, straight from docs/RULES.md: a line is split by hand, and each question is asked of it in turn.
+//! A reader of sheets, ours and the partner's, straight from docs/RULES.md: a line is split by hand, and each question is asked of it in
+//! turn.
 
-use crate::questions::{is_count, is_new, is_stretch, is_window};
+use crate::house::House;
+use crate::questions::{is_count, is_new};
 use crate::sheet::{Rule, Sheet, Unit, MAX_RULES, MAX_SLOTS, MAX_UNITS};
 
 /// The greatest length of a text (question 1), and the greatest depth of a note (question 11).
@@ -22,7 +24,8 @@ pub fn refusal_page(r: Refusal) -> Vec<u8> {
 enum Form<'a> {
     Sheet(&'a [u8]),
     Unit([&'a [u8]; 3]),
-    Rule([&'a [u8]; 4]),
+    /// A partner's limit has one number less.
+    Rule(Vec<&'a [u8]>),
 }
 
 /// The numbers of a line that is `words[0] number words[1] number .. words[last]`.
@@ -42,15 +45,18 @@ fn numbers<'a>(mut line: &'a [u8], words: &[&str]) -> Option<Vec<&'a [u8]>> {
     line.is_empty().then_some(found)
 }
 
-fn form(line: &[u8]) -> Option<Form<'_>> {
-    if let Some(n) = numbers(line, &["(sheet ", ")"]) {
+fn form(house: House, line: &[u8]) -> Option<Form<'_>> {
+    let (sheet, unit, rule): (&[&str], &[&str], &[&str]) = match house {
+        House::Ours => (&["(sheet ", ")"], &["(unit ", " (window ", " ", "))"], &["(rule (slots ", " ", ") (count ", " ", "))"]),
+        House::Partner => (&["(day ", ")"], &["(job ", " (start ", ") (hours ", "))"], &["(limit (from ", ") (hours ", ") (most ", "))"]),
+    };
+    if let Some(n) = numbers(line, sheet) {
         return Some(Form::Sheet(n[0]));
     }
-    if let Some(n) = numbers(line, &["(unit ", " (window ", " ", "))"]) {
+    if let Some(n) = numbers(line, unit) {
         return Some(Form::Unit([n[0], n[1], n[2]]));
     }
-    let n = numbers(line, &["(rule (slots ", " ", ") (count ", " ", "))"])?;
-    Some(Form::Rule([n[0], n[1], n[2], n[3]]))
+    numbers(line, rule).map(Form::Rule)
 }
 
 /// Is the line taken for a note?
@@ -85,17 +91,13 @@ fn number(digits: &[u8]) -> Option<u16> {
     std::str::from_utf8(digits).ok()?.parse().ok()
 }
 
-fn all_numbers<const N: usize>(digits: [&[u8]; N]) -> Option<[u16; N]> {
-    let mut found = [0; N];
-    for (place, d) in found.iter_mut().zip(digits) {
-        *place = number(d)?;
-    }
-    Some(found)
+fn all_numbers(digits: &[&[u8]]) -> Option<Vec<u16>> {
+    digits.iter().map(|d| number(d)).collect()
 }
 
 /// What the lines so far have given.
-#[derive(Default)]
 struct Reader {
+    house: House,
     span: Option<usize>,
     units: Vec<Unit>,
     rules: Vec<Rule>,
@@ -111,7 +113,7 @@ impl Reader {
             return ask(fed, 3);
         }
         ask(fed, 3)?;
-        match form(line).ok_or(3usize)? {
+        match form(self.house, line).ok_or(3usize)? {
             Form::Sheet(digits) => {
                 let span = number(digits).ok_or(4usize)?;
                 ask(self.span.is_none(), 5)?;
@@ -119,18 +121,19 @@ impl Reader {
                 self.span = Some(span as usize);
             }
             Form::Unit(digits) => {
-                let [loader, first, last] = all_numbers(digits).ok_or(4usize)?;
+                let n = all_numbers(&digits).ok_or(4usize)?;
                 let span = self.span.ok_or(5usize)?;
-                ask(is_window(first, last, span), 7)?;
-                let earlier: Vec<u16> = self.units.iter().map(|u| u.loader).collect();
+                let (first, last) = self.house.window(n[1], n[2], span).ok_or(7usize)?;
+                let (loader, earlier) = (n[0], self.units.iter().map(|u| u.loader).collect::<Vec<_>>());
                 ask(is_new(loader, &earlier), 16)?;
                 ask(self.units.len() < MAX_UNITS, 9)?;
                 self.units.push(Unit { loader, first, last });
             }
             Form::Rule(digits) => {
-                let [from, to, low, high] = all_numbers(digits).ok_or(4usize)?;
+                let n = all_numbers(&digits).ok_or(4usize)?;
                 let span = self.span.ok_or(5usize)?;
-                ask(is_stretch(from, to, span), 7)?;
+                let (from, to) = self.house.stretch(n[0], n[1], span).ok_or(7usize)?;
+                let (low, high) = self.house.count(&n[2..]);
                 ask(is_count(low, high), 8)?;
                 ask(self.rules.len() < MAX_RULES, 10)?;
                 self.rules.push(Rule { from, to, low, high });
@@ -140,12 +143,12 @@ impl Reader {
     }
 }
 
-/// The sheet, or the refusal, up to question 12.
-pub fn read(text: &[u8]) -> Result<Sheet, Refusal> {
+/// The sheet of a house's text, or the refusal, up to question 12.
+pub fn read(house: House, text: &[u8]) -> Result<Sheet, Refusal> {
     if text.len() > MAX_BYTES {
         return Err(Refusal { number: 1, line: 0 });
     }
-    let mut reader = Reader::default();
+    let mut reader = Reader { house, span: None, units: vec![], rules: vec![] };
     let mut rest = text;
     let mut at = 0;
     while !rest.is_empty() {
@@ -164,8 +167,8 @@ pub fn read(text: &[u8]) -> Result<Sheet, Refusal> {
 }
 
 /// Reading into lists of these lengths: three for units, four for rules.
-pub fn read_into(text: &[u8], units: [usize; 3], rules: [usize; 4]) -> Result<Sheet, Refusal> {
-    let sheet = read(text)?;
+pub fn read_into(house: House, text: &[u8], units: [usize; 3], rules: [usize; 4]) -> Result<Sheet, Refusal> {
+    let sheet = read(house, text)?;
     let enough = units.iter().all(|&l| l >= sheet.units.len()) && rules.iter().all(|&l| l >= sheet.rules.len());
     if enough { Ok(sheet) } else { Err(Refusal { number: 12, line: 0 }) }
 }

@@ -1,5 +1,7 @@
 //! Sheets, the limits of steps between boundaries, and rings, as docs/RULES.md defines them.
 
+use crate::house::House;
+
 /// The sheet's sizes (docs/RULES.md, "Units, windows, rules").
 pub const MAX_SLOTS: usize = 48;
 pub const MAX_UNITS: usize = 300;
@@ -90,6 +92,17 @@ impl Sheet {
         Sheet { units: self.units.iter().map(cut).collect(), ..self.clone() }
     }
 
+    /// The same sheet, as this house can have it: the partner's windows end inside the wave, and its lows are 0.
+    pub fn kept_by(&self, house: House) -> Sheet {
+        match house {
+            House::Ours => self.clone(),
+            House::Partner => {
+                let sheet = self.cut_to_span();
+                Sheet { rules: sheet.rules.iter().map(|r| Rule { low: 0, ..*r }).collect(), ..sheet }
+            }
+        }
+    }
+
     /// The number of windows inside the stretch a+1 to b.
     pub fn windows_inside(&self, a: usize, b: usize) -> usize {
         self.units.iter().filter(|u| a < u.first as usize && u.last as usize <= b).count()
@@ -146,12 +159,26 @@ impl Sheet {
 
     /// The sheet in its text form, no notes.
     pub fn text(&self) -> Vec<u8> {
-        let mut text = format!("(sheet {})\n", self.span);
-        for u in &self.units {
-            text += &format!("(unit {} (window {} {}))\n", u.loader, u.first, u.last);
+        self.text_for(House::Ours)
+    }
+
+    /// The sheet in a house's form, no notes. The partner's says nothing of lows, and its hours may go past the day.
+    pub fn text_for(&self, house: House) -> Vec<u8> {
+        let mut text = match house {
+            House::Ours => format!("(sheet {})\n", self.span),
+            House::Partner => format!("(day {})\n", self.span),
+        };
+        for Unit { loader, first, last } in &self.units {
+            text += &match house {
+                House::Ours => format!("(unit {loader} (window {first} {last}))\n"),
+                House::Partner => format!("(job {loader} (start {first}) (hours {}))\n", last - first + 1),
+            };
         }
-        for r in &self.rules {
-            text += &format!("(rule (slots {} {}) (count {} {}))\n", r.from, r.to, r.low, r.high);
+        for Rule { from, to, low, high } in &self.rules {
+            text += &match house {
+                House::Ours => format!("(rule (slots {from} {to}) (count {low} {high}))\n"),
+                House::Partner => format!("(limit (from {from}) (hours {}) (most {high}))\n", to - from + 1),
+            };
         }
         text.into_bytes()
     }

@@ -22,13 +22,13 @@ pub struct Tally {
     name: &'static str,
     seed: u64,
     answers: Vec<(&'static str, usize)>,
-    refused: [usize; 17],
+    refused: [usize; 19],
 }
 
 impl Tally {
     /// A test that has no random cases has seed 0.
     pub fn new(name: &'static str, seed: u64) -> Tally {
-        Tally { name, seed, answers: vec![], refused: [0; 17] }
+        Tally { name, seed, answers: vec![], refused: [0; 19] }
     }
 
     pub fn seed(&self) -> u64 {

@@ -5,7 +5,9 @@ use std::path::{Path, PathBuf};
 use std::process::{Command, Stdio};
 
 use model::cases::{self, Says};
-use model::{enumerated, page};
+use model::house::House;
+use model::questions::partner_refusal;
+use model::{enumerated, page, sheet};
 use tugrokt::{Answer, Decision, Refusal, Sheet};
 
 #[test]
@@ -53,6 +55,29 @@ fn pages() {
         assert_eq!(page::fault(&case.sheet, enumerated::solve(&case.sheet).as_ref(), &page), None, "{}", case.name);
     }
     assert_eq!(Sheet::new(usize::MAX).page(), Err(Refusal { question: 6, line: 0 }));
+}
+
+/// Sheets are written and read back, in our form and in the partner's.
+#[test]
+fn texts() {
+    for case in cases::all() {
+        let text = case.sheet.text();
+        let sheet = Sheet::read(&text).unwrap();
+        assert_eq!(sheet.write(), Ok(text), "{}", case.name);
+        let theirs = match partner_refusal(&case.sheet) {
+            None => Ok(case.sheet.text_for(House::Partner)),
+            Some(refusal) => Err(Refusal { question: refusal.number, line: refusal.line }),
+        };
+        assert_eq!(sheet.write_partner(), theirs, "{}", case.name);
+        let kept = case.sheet.kept_by(House::Partner);
+        let sheet = Sheet::read_partner(&kept.text_for(House::Partner)).unwrap();
+        assert_eq!(sheet, Sheet::read(&kept.text()).unwrap(), "{}", case.name);
+        assert_eq!(Sheet::read_partner(&sheet.write_partner().unwrap()), Ok(sheet), "{}", case.name);
+    }
+    // The longest text there is.
+    let longest = sheet::Sheet::new(48, &[(10, 48); 300], &[(10, 48, 0, 300); 60]).numbered(&(9_700..=9_999).collect::<Vec<_>>());
+    let text = Sheet::read(&longest.text()).unwrap().write_partner().unwrap();
+    assert_eq!((text.len(), text), (tugrokt::MAX_TEXT, longest.text_for(House::Partner)));
 }
 
 #[test]
@@ -148,7 +173,30 @@ fn refusals() {
     assert_eq!(lopsided.page(), Err(Refusal { question: 16, line: 0 }));
     assert_eq!(lopsided.decide(), Err(Refusal { question: 16, line: 0 }));
     assert_eq!(lopsided.seat(), Err(Refusal { question: 16, line: 0 }));
+    assert_eq!(lopsided.write(), Err(Refusal { question: 16, line: 0 }));
+    assert_eq!(lopsided.write_partner(), Err(Refusal { question: 16, line: 0 }));
     assert_eq!(Refusal { question: 7, line: 3 }.to_string(), "(refused 7 (line 3))");
+}
+
+#[test]
+fn refusals_of_the_partner() {
+    assert_eq!(Sheet::read_partner(b""), Err(Refusal { question: 5, line: 0 }));
+    assert_eq!(Sheet::read_partner(b"(sheet 4)\n"), Err(Refusal { question: 3, line: 1 }));
+    assert_eq!(Sheet::read(b"(day 4)\n"), Err(Refusal { question: 3, line: 1 }));
+    assert_eq!(Sheet::read_partner(b"(day 4)\n(job 1 (start 4) (hours 2))\n"), Err(Refusal { question: 7, line: 2 }));
+    for span in [0, 49, usize::MAX] {
+        assert_eq!(Sheet::new(span).write(), Err(Refusal { question: 6, line: 0 }));
+        assert_eq!(Sheet::new(span).write_partner(), Err(Refusal { question: 6, line: 0 }));
+    }
+    let mut sheet = Sheet::new(4);
+    sheet.add_unit(4_017, 1, 4);
+    sheet.add_unit(12, 1, 5);
+    sheet.add_rule(1, 4, 1, 1);
+    assert_eq!(sheet.write_partner(), Err(Refusal { question: 17, line: 2 }));
+    sheet.last[1] = 4;
+    assert_eq!(sheet.write_partner(), Err(Refusal { question: 18, line: 1 }));
+    sheet.low[0] = 0;
+    assert!(sheet.write_partner().is_ok());
 }
 
 /// What a command writes when it is given this text, and whether it ends well.
@@ -200,7 +248,8 @@ fn replies_from_c() {
         let text = case.sheet.text();
         let sheet = Sheet::read(&text).unwrap();
         let (span, units, rules) = (sheet.span, sheet.first.len(), sheet.from.len());
-        let read = format!("reading 0 0 {span} {units} {rules}");
+        let numbers = format!("0 0 {span} {units} {rules}");
+        let read = format!("reading {numbers}");
         let ring = match sheet.plan().unwrap() {
             Answer::Plan(_) => 0,
             Answer::None { ring } => ring.len(),
@@ -209,24 +258,56 @@ fn replies_from_c() {
         let planned = format!("planning 0 0 {ring}");
         let decided = format!("deciding 0 0 {ring}");
         let seated = format!("seating 0 0 {}", (ring == 0) as usize);
+        // Writing onto a page of this length, and what is read then.
+        let wrote = |page: usize| {
+            let again = format!("the same lists {numbers}");
+            let not_theirs = "reading for the partner 3 1 0 0 0 unchanged".to_string();
+            let mut lines = Vec::new();
+            for (house, name) in [(House::Ours, "writing"), (House::Partner, "writing for the partner")] {
+                let text_end = 7 + case.sheet.text_for(house).len();
+                let refused = if house == House::Partner { partner_refusal(&case.sheet) } else { None };
+                let refused = refused.map(|r| (r.number, r.line)).or((text_end > page).then_some((15, 0)));
+                lines.extend(match refused {
+                    None => [format!("{name} 0 0 {text_end}"), again.clone()],
+                    Some((number, line)) => [format!("{name} {number} {line} 7 unchanged"), not_theirs.clone()],
+                });
+            }
+            lines
+        };
+        let all = |lines: [String; 5], page: usize| lines.into_iter().chain(wrote(page)).collect::<Vec<_>>();
         let full = [read.clone(), planned.clone(), decided.clone(), seated.clone(), format!("printing 0 0 {ring} {end}")];
-        assert_eq!(replies(&text, [units, 7, end]), full, "{}", case.name);
+        assert_eq!(replies(&text, [units, 7, end]), all(full, end), "{}", case.name);
         let short = [read.clone(), planned, decided.clone(), seated, "printing 15 0 0 7 unchanged".to_string()];
-        assert_eq!(replies(&text, [units, 7, end - 1]), short, "{}", case.name);
+        assert_eq!(replies(&text, [units, 7, end - 1]), all(short.clone(), end - 1), "{}", case.name);
+        for house in House::BOTH {
+            // The page just holds the text, or not.
+            for page in [7 + case.sheet.text_for(house).len(), 6 + case.sheet.text_for(house).len()] {
+                assert_eq!(replies(&text, [units, 7, page])[5..], wrote(page), "{}", case.name);
+            }
+        }
         if units > 0 {
             // Deciding takes no room for units.
             let [planned, seated, printed] = ["planning 12 0 0 unchanged", "seating 12 0 0 unchanged", "printing 12 0 0 7 unchanged"].map(str::to_string);
-            assert_eq!(replies(&text, [units - 1, 7, end]), [read, planned, decided, seated, printed], "{}", case.name);
+            assert_eq!(replies(&text, [units - 1, 7, end]), all([read, planned, decided, seated, printed], end), "{}", case.name);
         }
     }
-    let refused = |number: usize, line: usize| {
+    // A partner's text, which is no sheet of ours, is read last.
+    let refused = |(number, line): (usize, usize), partner: &str| {
         let read = format!("reading {number} {line} 0 0 0 unchanged");
-        let others = ["planning 6 0 0 unchanged", "deciding 6 0 0 unchanged", "seating 6 0 0 unchanged", "printing 6 0 0 3 unchanged"];
-        std::iter::once(read).chain(others.map(str::to_string)).collect::<Vec<_>>()
+        let [planned, decided, seated] = ["planning", "deciding", "seating"].map(|name| format!("{name} 6 0 0 unchanged"));
+        let theirs = format!("reading for the partner {partner}");
+        let wrote = ["writing 6 0 3 unchanged".into(), theirs.clone(), "writing for the partner 6 0 3 unchanged".into(), theirs];
+        [read, planned, decided, seated, "printing 6 0 0 3 unchanged".into()].into_iter().chain(wrote).collect::<Vec<String>>()
     };
-    assert_eq!(replies(b"(sheet 4)\n(note)\n(unit 1 (window 4 3))\n", [300, 3, 100]), refused(7, 3));
-    assert_eq!(replies(b"(sheet 4)\n(unit 5 (window 1 3))\n(unit 5 (window 1 3))\n", [300, 3, 100]), refused(16, 3));
-    assert_eq!(replies(&[b'x'; 16_001], [300, 3, 100]), refused(1, 0));
+    for (text, ours, theirs) in [
+        (&b"(sheet 4)\n(note)\n(unit 1 (window 4 3))\n"[..], (7, 3), "3 1 0 0 0 unchanged"),
+        (b"(sheet 4)\n(unit 5 (window 1 3))\n(unit 5 (window 1 3))\n", (16, 3), "3 1 0 0 0 unchanged"),
+        (&[b'x'; 16_001], (1, 0), "1 0 0 0 0 unchanged"),
+        (b"(note)\n(day 7)\n(job 1 (start 7) (hours 2))\n", (3, 2), "7 3 0 0 0 unchanged"),
+        (b"(day 7)\n(job 1 (start 7) (hours 1))\n(job 2 (start 1) (hours 7))\n(limit (from 1) (hours 3) (most 2))\n", (3, 1), "0 0 7 2 1"),
+    ] {
+        assert_eq!(replies(text, [300, 3, 100]), refused(ours, theirs));
+    }
 }
 
 #[test]
@@ -251,6 +332,40 @@ fn decides(run: impl Fn(&[u8]) -> String) {
     assert_eq!(case("P11"), "slot 1: 0 to 1\nslot 2: 0 to 1\n");
     assert_eq!(run(b"(sheet 49)\n"), "(refused 6 (line 1))\n");
     assert_eq!(run(&[b'x'; 16_001]), "(refused 1 (line 0))\n");
+}
+
+/// The examples that turn a sheet into the other house's form, run with this word on this text.
+fn converts(run: impl Fn(&str, &[u8]) -> String) {
+    for case in cases::all() {
+        let kept = case.sheet.kept_by(House::Partner);
+        assert_eq!(run("to-partner", &kept.text()).as_bytes(), kept.text_for(House::Partner), "{}", case.name);
+        assert_eq!(run("from-partner", &kept.text_for(House::Partner)).as_bytes(), kept.text(), "{}", case.name);
+    }
+    let case = |name: &str| cases::named(name).sheet.text();
+    assert_eq!(run("to-partner", &case("P11")), "(refused 17 (line 2))\n");
+    assert_eq!(run("to-partner", &case("P6")), "(refused 18 (line 1))\n");
+    assert_eq!(run("from-partner", &case("P7")), "(refused 3 (line 1))\n");
+    for word in ["to-partner", "from-partner"] {
+        assert_eq!(run(word, &[b'x'; 16_001]), "(refused 1 (line 0))\n");
+    }
+    for word in ["", "partner"] {
+        assert_eq!(run(word, &case("P7")), "");
+    }
+}
+
+#[test]
+fn converting_from_c() {
+    let program = c_example("convert");
+    converts(|word, text| written(Command::new(&program).arg(word).stderr(Stdio::null()), text));
+}
+
+#[test]
+fn converting_from_rust() {
+    let mut examples = rust_examples();
+    examples.args(["build", "--offline", "--release", "--quiet", "--example", "convert"]);
+    assert!(run(&mut examples, b"").1);
+    let program = rust_folder().join("release/examples/convert");
+    converts(|word, text| written(Command::new(&program).arg(word).stderr(Stdio::null()), text));
 }
 
 #[test]
@@ -282,11 +397,22 @@ fn printing_from_c() {
     prints_pages(|text| written(&mut Command::new(&program), text));
 }
 
+/// Where the Rust examples are built.
+fn rust_folder() -> PathBuf {
+    Path::new(env!("CARGO_TARGET_TMPDIR")).join("examples")
+}
+
+/// Cargo, for the Rust examples.
+fn rust_examples() -> Command {
+    let mut cargo = Command::new(env!("CARGO"));
+    cargo.current_dir(bindings()).env("CARGO_TARGET_DIR", rust_folder());
+    cargo
+}
+
 /// A Rust example, built as its own header says.
 fn rust_example(name: &str, text: &[u8]) -> String {
-    let mut cargo = Command::new(env!("CARGO"));
-    cargo.args(["run", "--offline", "--release", "--quiet", "--example", name]).current_dir(bindings());
-    cargo.env("CARGO_TARGET_DIR", Path::new(env!("CARGO_TARGET_TMPDIR")).join("examples"));
+    let mut cargo = rust_examples();
+    cargo.args(["run", "--offline", "--release", "--quiet", "--example", name]);
     written(&mut cargo, text)
 }
 

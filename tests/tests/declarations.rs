@@ -202,8 +202,7 @@ fn of_the_network() {
 /// No other crate exports an entry.
 #[test]
 fn two_crates_export() {
-    for folder in fs::read_dir(root().join("crates")).unwrap().map(|e| e.unwrap()) {
-        let name = folder.file_name().into_string().unwrap();
+    for name in crates() {
         let expected = name == "tugrokt" || name == "network_border";
         assert_eq!(!exported(&name).entries.is_empty(), expected, "{name}");
     }
@@ -236,7 +235,12 @@ fn constants(text: &str, head: &str, between: &[&str], tail: &str, known: &BTree
     all
 }
 
-/// The sizes of a sheet and of a page, in Rattle, in Rust and in C.
+/// The names of the Rattle crates.
+fn crates() -> Vec<String> {
+    fs::read_dir(root().join("crates")).unwrap().map(|e| e.unwrap().file_name().into_string().unwrap()).collect()
+}
+
+/// The sizes of a sheet, of a page and of a text that is written, in Rattle, in Rust and in C.
 #[test]
 fn numbers() {
     // Sizes are `usize`; the largest loader number is of the type of the lists.
@@ -244,10 +248,14 @@ fn numbers() {
     let of_rattle = |name: &str, known: &BTreeMap<String, usize>| constants(&rattle(name), "pub const ", &types, ";", known);
     let of_sheet = of_rattle("sheet", &BTreeMap::new());
     let mut sizes: BTreeMap<String, usize> = of_sheet.iter().filter(|(name, _)| name.starts_with("MAX_")).map(|(n, v)| (n.clone(), *v)).collect();
-    let page = ["answer", "print", "print_page"].iter().find_map(|name| of_rattle(name, &of_sheet).get("MAX_PAGE").copied());
-    sizes.insert("MAX_PAGE".into(), page.expect("a crate says how long a page can be"));
+    for name in ["MAX_PAGE", "MAX_TEXT"] {
+        // One crate says how long it can be.
+        let said: Vec<String> = crates().into_iter().filter(|c| rattle(c).contains(&format!("pub const {name}: "))).collect();
+        assert_eq!(said.len(), 1, "{name}: {said:?}");
+        sizes.insert(name.into(), of_rattle(&said[0], &of_sheet)[name]);
+    }
     let names: Vec<&str> = sizes.keys().map(String::as_str).collect();
-    let expected = ["BOUNDARIES", "BYTES", "CELLS", "COUNT", "LOADER", "PAGE", "RULES", "SLOTS", "UNITS"].map(|n| format!("MAX_{n}"));
+    let expected = ["BOUNDARIES", "BYTES", "CELLS", "COUNT", "LOADER", "PAGE", "RULES", "SLOTS", "TEXT", "UNITS"].map(|n| format!("MAX_{n}"));
     assert_eq!(names, expected);
 
     let package = fs::read_to_string(root().join("bindings/src/lib.rs")).unwrap();

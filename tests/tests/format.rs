@@ -1,10 +1,11 @@
-//! Every example of docs/FORMAT.md: the sheet goes in, exactly the answer comes out.
+//! Every example of docs/FORMAT.md: the sheet goes in, exactly the answer comes out, or the sheet in the other house's form.
 
 use std::fs;
 use std::path::Path;
 
+use model::house::House;
 use model::page;
-use model::program::Asked;
+use model::program::{run, run_with, Asked};
 use model::reading::{refusal_page, Refusal};
 use model::sheet::{Sheet, Solved};
 use tugrokt::{Answer, Decision};
@@ -12,10 +13,29 @@ use tugrokt::{Answer, Decision};
 struct Example {
     /// The line of the document that opens it.
     line: usize,
-    sheet: Vec<u8>,
-    answer: Vec<u8>,
-    /// The answer to the question whether it fits, where the document shows it.
-    fits: Vec<u8>,
+    /// A sheet of ours, or a partner's.
+    house: House,
+    text: Vec<u8>,
+    /// What follows it: the name of each block, and its text.
+    results: Vec<(String, String)>,
+}
+
+/// The blocks that may follow a sheet: the answer to it, and what the program writes with its other words, each under the word.
+const OF_OURS: [&str; 4] = ["answer", "fits", "to-partner", "standard-error"];
+/// The same of a partner's.
+const OF_PARTNER: [&str; 2] = ["answer", "from-partner"];
+
+impl Example {
+    fn result(&self, name: &str) -> Option<&str> {
+        self.results.iter().find(|(kind, _)| kind == name).map(|(_, block)| block.as_str())
+    }
+
+    /// Is this result the one that the document shows, if it shows one?
+    fn check(&self, name: &str, got: &[u8]) {
+        if let Some(expected) = self.result(name) {
+            assert_eq!(String::from_utf8_lossy(got), expected, "docs/FORMAT.md, line {}: {name}", self.line);
+        }
+    }
 }
 
 /// A line `301 × (..)` stands for that line 301 times, with 1, 2, .. in turn for `#`.
@@ -36,37 +56,53 @@ fn examples() -> Vec<Example> {
     let mut open: Option<(&str, String)> = None;
     for (i, line) in text.lines().enumerate() {
         match (&mut open, line.strip_prefix("```")) {
-            (None, Some("sheet")) => {
-                assert!(all.iter().all(|e| !e.answer.is_empty()), "line {i}: the sheet before has no answer");
-                all.push(Example { line: i + 1, sheet: vec![], answer: vec![], fits: vec![] });
-                open = Some(("sheet", String::new()));
+            (None, Some(kind @ ("sheet" | "partner"))) => {
+                assert!(all.iter().all(|e| !e.results.is_empty()), "line {i}: nothing follows the sheet before");
+                let house = if kind == "sheet" { House::Ours } else { House::Partner };
+                all.push(Example { line: i + 1, house, text: vec![], results: vec![] });
+                open = Some((kind, String::new()));
             }
-            (None, Some(kind @ ("answer" | "fits"))) => open = Some((kind, String::new())),
-            (None, Some(kind)) => panic!("line {}: a block {kind}", i + 1),
+            (None, Some(kind)) => {
+                let example = all.last().unwrap_or_else(|| panic!("line {}: no sheet before {kind}", i + 1));
+                let known: &[&str] = if example.house == House::Ours { &OF_OURS } else { &OF_PARTNER };
+                assert!(known.contains(&kind) && example.result(kind).is_none(), "line {}: a block {kind}", i + 1);
+                open = Some((kind, String::new()));
+            }
             (Some((kind, block)), Some("")) => {
                 let example = all.last_mut().expect("a sheet before its answer");
-                let place = match *kind {
-                    "sheet" => &mut example.sheet,
-                    "answer" => &mut example.answer,
-                    _ => &mut example.fits,
-                };
-                assert!(place.is_empty() && !block.is_empty(), "line {}: a second block {kind}", i + 1);
-                *place = std::mem::take(block).into_bytes();
+                assert!(!block.is_empty(), "line {}: an empty block", i + 1);
+                match *kind {
+                    "sheet" | "partner" => example.text = std::mem::take(block).into_bytes(),
+                    _ => example.results.push((kind.to_string(), std::mem::take(block))),
+                }
                 open = None;
             }
-            (Some((kind, block)), None) => block.push_str(&if *kind == "sheet" { line_of_sheet(line) } else { format!("{line}\n") }),
+            (Some(("sheet" | "partner", block)), None) => block.push_str(&line_of_sheet(line)),
+            (Some((_, block)), None) => *block += &format!("{line}\n"),
             (Some(_), Some(_)) => panic!("line {}: a block in a block", i + 1),
             (None, None) => (),
         }
     }
-    assert!(open.is_none() && all.iter().all(|e| !e.answer.is_empty()), "a block stays open");
+    assert!(open.is_none() && all.iter().all(|e| !e.results.is_empty()), "a block stays open");
     all
 }
 
+/// Reads a house's text.
+fn read(house: House, text: &[u8]) -> Result<tugrokt::Sheet, tugrokt::Refusal> {
+    match house {
+        House::Ours => tugrokt::Sheet::read(text),
+        House::Partner => tugrokt::Sheet::read_partner(text),
+    }
+}
+
+fn page_of_refusal(refusal: tugrokt::Refusal) -> Vec<u8> {
+    refusal_page(Refusal { number: refusal.question, line: refusal.line })
+}
+
 /// The page that reading and planning lead to, laid out here.
-fn page_by_calls(text: &[u8]) -> Vec<u8> {
-    let lists = match tugrokt::Sheet::read(text) {
-        Err(refusal) => return refusal_page(Refusal { number: refusal.question, line: refusal.line }),
+fn page_by_calls(house: House, text: &[u8]) -> Vec<u8> {
+    let lists = match read(house, text) {
+        Err(refusal) => return page_of_refusal(refusal),
         Ok(lists) => lists,
     };
     let windows: Vec<(u16, u16)> = lists.first.iter().copied().zip(lists.last.iter().copied()).collect();
@@ -89,10 +125,9 @@ fn page_by_calls(text: &[u8]) -> Vec<u8> {
     }
 }
 
-fn check(answer: fn(&[u8]) -> Vec<u8>) {
-    for Example { line, sheet, answer: expected, .. } in examples() {
-        let got = answer(&sheet);
-        assert_eq!(String::from_utf8_lossy(&got), String::from_utf8_lossy(&expected), "docs/FORMAT.md, line {line}");
+fn check(answer: fn(House, &[u8]) -> Vec<u8>) {
+    for example in examples() {
+        example.check("answer", &answer(example.house, &example.text));
     }
 }
 
@@ -111,43 +146,83 @@ fn fits_by_calls(text: &[u8]) -> Option<Vec<u8>> {
 /// A sheet with a plan fits, and where the document shows the page of that, it is this one. To all others the answer is the same as to a
 /// question for a plan.
 fn check_fits(answer: fn(&[u8]) -> Vec<u8>) {
-    for Example { line, sheet, answer: plan, fits } in examples() {
-        let got = String::from_utf8(answer(&sheet)).unwrap();
-        assert_eq!(got.starts_with("(answer fits "), plan.starts_with(b"(answer plan "), "docs/FORMAT.md, line {line}");
-        let expected = if fits.is_empty() && !got.starts_with("(answer fits ") { plan } else { fits };
-        assert!(expected.is_empty() || got.as_bytes() == expected, "docs/FORMAT.md, line {line}: {got}");
+    for example in examples().iter().filter(|e| e.house == House::Ours) {
+        let got = answer(&example.text);
+        example.check("fits", &got);
+        let Some(plan) = example.result("answer") else { continue };
+        assert_eq!(got.starts_with(b"(answer fits "), plan.starts_with("(answer plan "), "docs/FORMAT.md, line {}", example.line);
+        if !got.starts_with(b"(answer fits ") {
+            assert_eq!(String::from_utf8_lossy(&got), plan, "docs/FORMAT.md, line {}", example.line);
+        }
     }
 }
 
-/// There is an example of each kind of answer, and of each question that a sheet can fail.
+/// What each text becomes in the other house's form, with what is said on standard error beside it.
+fn check_conversions(convert: fn(House, &[u8]) -> (Vec<u8>, String)) {
+    for example in examples() {
+        let (page, said) = convert(example.house, &example.text);
+        example.check(if example.house == House::Ours { "to-partner" } else { "from-partner" }, &page);
+        example.check("standard-error", said.as_bytes());
+    }
+}
+
+/// There is an example of each kind of answer, of each question that a sheet of ours can fail, and of what a partner's sheet can be.
 #[test]
 fn the_examples_cover_every_answer() {
-    let pages: Vec<String> = examples().iter().map(|e| String::from_utf8_lossy(&e.answer).into_owned()).collect();
-    let has = |start: &str| pages.iter().any(|page| page.starts_with(start));
-    assert!(has("(answer plan ") && has("(answer none)\n"));
-    assert!(examples().iter().any(|e| e.fits.starts_with(b"(answer fits ")), "no example of a sheet that fits");
+    let all = examples();
+    let shown = |house: House, name: &str| all.iter().filter(|e| e.house == house).filter_map(|e| e.result(name)).map(str::to_string).collect::<Vec<_>>();
+    let has = |pages: &[String], start: &str| pages.iter().any(|page| page.starts_with(start));
+    let pages = shown(House::Ours, "answer");
+    assert!(has(&pages, "(answer plan ") && has(&pages, "(answer none)\n"));
+    assert!(has(&shown(House::Ours, "fits"), "(answer fits "), "no example of a sheet that fits");
     assert!(pages.iter().any(|page| page.contains(" (carried) ")), "no example of a carried unit");
     for number in (1..=11).chain([16]) {
-        assert!(has(&format!("(refused {number} (line ")), "no example of {number}");
+        assert!(has(&pages, &format!("(refused {number} (line ")), "no example of {number}");
     }
+    let pages = shown(House::Partner, "answer");
+    for start in ["(answer plan ", "(answer none)\n", "(refused 3 ", "(refused 7 ", "(refused 8 "] {
+        assert!(has(&pages, start), "no example of a partner's sheet with {start}");
+    }
+    assert!(has(&shown(House::Partner, "from-partner"), "(sheet "));
+    for start in ["(day ", "(refused 17 ", "(refused 18 "] {
+        assert!(has(&shown(House::Ours, "to-partner"), start), "no example of a sheet to the partner with {start}");
+    }
+    assert!(has(&shown(House::Ours, "standard-error"), "unit ") && has(&shown(House::Ours, "standard-error"), "rule "));
 }
 
 #[test]
 fn by_reading_and_planning() {
     check(page_by_calls);
-    check_fits(|text| fits_by_calls(text).unwrap_or_else(|| page_by_calls(text)));
+    check_fits(|text| fits_by_calls(text).unwrap_or_else(|| page_by_calls(House::Ours, text)));
 }
 
 #[test]
 fn by_printing() {
-    check(|text| match tugrokt::Sheet::read(text).and_then(|sheet| sheet.page()) {
-        Ok(page) => page,
-        Err(refusal) => refusal_page(Refusal { number: refusal.question, line: refusal.line }),
+    check(|house, text| read(house, text).and_then(|sheet| sheet.page()).unwrap_or_else(page_of_refusal));
+}
+
+#[test]
+fn by_writing() {
+    check_conversions(|house, text| {
+        let converted = read(house, text).and_then(|sheet| match house {
+            House::Ours => sheet.write_partner(),
+            House::Partner => sheet.write(),
+        });
+        let said = match converted {
+            Err(refusal) if refusal.question == 17 => format!("unit {}\n", refusal.line),
+            Err(refusal) if refusal.question == 18 => format!("rule {}\n", refusal.line),
+            _ => String::new(),
+        };
+        (converted.unwrap_or_else(page_of_refusal), said)
     });
 }
 
 #[test]
 fn by_the_program() {
-    check(|text| model::program::run(Asked::Plan, text, &[], None));
-    check_fits(|text| model::program::run(Asked::Fits, text, &[], None));
+    check(|house, text| run(if house == House::Ours { Asked::Plan } else { Asked::Partner }, text, &[], None));
+    check_fits(|text| run(Asked::Fits, text, &[], None));
+    check_conversions(|house, text| {
+        let asked = if house == House::Ours { Asked::ToPartner } else { Asked::FromPartner };
+        run_with(asked.words(), text, &[], None)
+    });
 }

@@ -1,20 +1,39 @@
-//! The model's reader: the sentences of docs/RULES.md about sheets and questions, one by one.
+//! The model's reader: the sentences of docs/RULES.md about sheets and questions, one by one. What the model writes is read back by it.
 
 use model::damage::{any_text, note_of_depth, reach_the_end, valid};
-use model::random::Random;
+use model::house::House;
+use model::questions::{outgoing_refusal, partner_refusal, written, Lists};
+use model::random::{any_sheet, Random};
 use model::reading::{read, read_into, refusal_page, Refusal};
 use model::sheet::Sheet;
 use model::{cases, effort, seed};
 
 /// The refusal's number and line; 0 and 0 for a sheet.
-fn reply(text: &str) -> (usize, usize) {
-    read(text.as_bytes()).map_or_else(|r| (r.number, r.line), |_| (0, 0))
+fn reply_of(house: House, text: &str) -> (usize, usize) {
+    read(house, text.as_bytes()).map_or_else(|r| (r.number, r.line), |_| (0, 0))
 }
 
+fn reply(text: &str) -> (usize, usize) {
+    reply_of(House::Ours, text)
+}
+
+fn partner_reply(text: &str) -> (usize, usize) {
+    reply_of(House::Partner, text)
+}
+
+/// Every sheet that goes out to a house comes back; one that the partner cannot have is refused by 17 or 18, or by 7 where its hours are
+/// written past the day.
 #[test]
 fn written_sheets_read_back() {
-    for case in cases::all() {
-        assert_eq!(read(&case.sheet.text()), Ok(case.sheet));
+    let random = (0..effort(400)).map(|i| any_sheet(&mut Random::of_case(seed(23), i)));
+    for sheet in cases::all().into_iter().map(|case| case.sheet).chain(random) {
+        assert_eq!(read(House::Ours, &sheet.text()), Ok(sheet.clone()));
+        let kept = sheet.kept_by(House::Partner);
+        assert_eq!(read(House::Partner, &kept.text_for(House::Partner)), Ok(kept.clone()));
+        assert_eq!((partner_refusal(&kept), partner_refusal(&sheet).is_none()), (None, kept == sheet));
+        let past = sheet.units.iter().position(|u| u.last as usize > sheet.span).map(|i| (7, i + 2));
+        let text = String::from_utf8(sheet.text_for(House::Partner)).unwrap();
+        assert_eq!(partner_reply(&text), past.unwrap_or((0, 0)));
     }
 }
 
@@ -152,7 +171,7 @@ fn loader_numbers() {
     assert_eq!(reply("(sheet 4)\n(unit 0 (window 4 3))\n"), (7, 2), "7 before 16");
     assert_eq!(reply("(sheet 4)\n(unit 5 (window 1 1))\n(unit 5 (window 5 5))\n"), (7, 3), "7 before 16");
     assert_eq!(reply("(sheet 4)\n(unit 5 (window 1 1))\n(rule (slots 1 1) (count 0 5))\n(unit 5 (window 1 1))\n"), (16, 4));
-    let sheet = read(b"(sheet 4)\n(unit 4017 (window 1 4))\n(unit 12 (window 2 3))\n").unwrap();
+    let sheet = read(House::Ours, b"(sheet 4)\n(unit 4017 (window 1 4))\n(unit 12 (window 2 3))\n").unwrap();
     assert_eq!(sheet, Sheet::new(4, &[(1, 4), (2, 3)], &[]).numbered(&[4_017, 12]));
 }
 
@@ -166,47 +185,142 @@ fn lines_come_before_questions() {
 #[test]
 fn rooms_are_asked_last() {
     let text = Sheet::new(2, &[(1, 2)], &[(1, 1, 0, 1)]).text();
-    assert!(read_into(&text, [1, 1, 1], [1, 1, 1, 1]).is_ok());
+    assert!(read_into(House::Ours, &text, [1, 1, 1], [1, 1, 1, 1]).is_ok());
     for short in 0..7 {
         let mut l = [1; 7];
         l[short] = 0;
-        let reply = read_into(&text, [l[0], l[1], l[2]], [l[3], l[4], l[5], l[6]]);
+        let reply = read_into(House::Ours, &text, [l[0], l[1], l[2]], [l[3], l[4], l[5], l[6]]);
         assert_eq!(reply, Err(Refusal { number: 12, line: 0 }));
     }
-    assert_eq!(read_into(b"x", [0; 3], [0; 4]), Err(Refusal { number: 3, line: 1 }));
+    assert_eq!(read_into(House::Ours, b"x", [0; 3], [0; 4]), Err(Refusal { number: 3, line: 1 }));
     assert_eq!(refusal_page(Refusal { number: 7, line: 3 }), b"(refused 7 (line 3))\n");
 }
 
-/// A window or a stretch that is moved to the end of the wave is taken, or refused by 7 where it is one place too far.
+#[test]
+fn partner_lines() {
+    let text = b"(note a)\n(day 7)\n(limit (from 1) (hours 3) (most 2))\n(job 4017 (start 3) (hours 2))\n(job 12 (start 7) (hours 1))\n";
+    assert_eq!(read(House::Partner, text), Ok(Sheet::new(7, &[(3, 4), (7, 7)], &[(1, 3, 0, 2)]).numbered(&[4_017, 12])));
+    for line in [
+        "", "(day)", "(day  4)", "(Day 4)", "(day 4) ", "(sheet 4)", "(unit 1 (window 1 2))", "(rule (slots 1 2) (count 0 1))", "(job (start 1) (hours 1))",
+        "(job 1 (hours 1) (start 1))", "(job 1 (start 1)(hours 1))", "(job 1 (start 1 1))", "(job 1 (start 1))", "(job 1 (start 1) (hours 1)",
+        "(job 1 (start 1) (hours ))",
+        "(job 1 (from 1) (hours 1))", "(job 1 (start 1) (hours -1))", "(limit (from 1) (hours 1))", "(limit (start 1) (hours 1) (most 1))",
+        "(limit (from 1) (hours 1) (most 1)) ", "(limit 1 (from 1) (hours 1) (most 1))", "(limit (from 1) (hours 1) (count 0 1))", "(noted)",
+    ] {
+        assert_eq!(partner_reply(&format!("(day 4)\n{line}\n")), (3, 2), "{line:?}");
+    }
+    for line in ["(day 4)", "(job 1 (start 1) (hours 1))", "(limit (from 1) (hours 1) (most 1))"] {
+        assert_eq!(reply(&format!("(sheet 4)\n{line}\n")), (3, 2), "{line:?} is no form of ours");
+        assert_eq!(partner_reply(line), (3, 1), "{line:?} has no line feed");
+    }
+}
+
+#[test]
+fn partner_limits() {
+    for (text, expected) in [
+        ("", (5, 0)),
+        ("(note)\n", (5, 0)),
+        ("(job 1 (start 0) (hours 0))\n(day 4)\n", (5, 1)),
+        ("(day 4)\n(day 49)\n", (5, 2)),
+        ("(day 0)\n", (6, 1)),
+        ("(day 49)\n", (6, 1)),
+        ("(day 48)\n", (0, 0)),
+        ("(day 4)\n(job 1 (start 1) (hours 4))\n", (0, 0)),
+        ("(day 4)\n(job 1 (start 4) (hours 1))\n", (0, 0)),
+        ("(day 4)\n(job 1 (start 1) (hours 5))\n", (7, 2)),
+        ("(day 4)\n(job 1 (start 4) (hours 2))\n", (7, 2)),
+        ("(day 4)\n(job 1 (start 5) (hours 1))\n", (7, 2)),
+        ("(day 4)\n(job 1 (start 5) (hours 0))\n", (7, 2)),
+        ("(day 4)\n(job 1 (start 1) (hours 0))\n", (7, 2)),
+        ("(day 4)\n(job 1 (start 0) (hours 0))\n", (7, 2)),
+        ("(day 4)\n(job 1 (start 0) (hours 1))\n", (7, 2)),
+        ("(day 4)\n(job 1 (start 9999) (hours 9999))\n", (7, 2)),
+        ("(day 4)\n(job 0 (start 1) (hours 0))\n", (7, 2)),
+        ("(day 4)\n(job 0 (start 1) (hours 1))\n", (16, 2)),
+        ("(day 4)\n(job 5 (start 1) (hours 1))\n(job 5 (start 2) (hours 1))\n", (16, 3)),
+        ("(day 4)\n(job 10000 (start 1) (hours 1))\n", (4, 2)),
+        ("(day 4)\n(job 1 (start 1) (hours 01))\n", (4, 2)),
+        ("(day 4)\n(limit (from 1) (hours 4) (most 300))\n", (0, 0)),
+        ("(day 4)\n(limit (from 1) (hours 4) (most 301))\n", (8, 2)),
+        ("(day 4)\n(limit (from 1) (hours 0) (most 301))\n", (7, 2)),
+        ("(day 4)\n(limit (from 4) (hours 2) (most 0))\n", (7, 2)),
+        ("(day 4)\n(limit (from 0) (hours 0) (most 0))\n", (7, 2)),
+    ] {
+        assert_eq!(partner_reply(text), expected, "{text}");
+    }
+    let jobs = |n: usize| format!("(day 4)\n{}", (1..=n).map(|k| format!("(job {k} (start 1) (hours 4))\n")).collect::<String>());
+    let limits = |n: usize| format!("(day 4)\n{}", "(limit (from 1) (hours 4) (most 1))\n".repeat(n));
+    assert_eq!([jobs(300), jobs(301), limits(60), limits(61)].map(|text| partner_reply(&text)), [(0, 0), (9, 302), (0, 0), (10, 62)]);
+    let long = |length: usize| format!("(day 4)\n(note {})\n", "x".repeat(length - 16));
+    assert_eq!([long(16_000), long(16_001)].map(|text| partner_reply(&text)), [(0, 0), (1, 0)]);
+}
+
+/// What writing asks, in its order, and what it names.
+#[test]
+fn outgoing_questions() {
+    let good = Lists::from(&Sheet::new(4, &[(1, 4), (2, 3)], &[(1, 4, 0, 1), (2, 2, 0, 300)]));
+    let asked = |change: fn(&mut Lists), house: House| {
+        let mut lists = good.clone();
+        change(&mut lists);
+        outgoing_refusal(house, &lists).map_or((0, 0), |r| (r.number, r.line))
+    };
+    let changes: [(fn(&mut Lists), (usize, usize), (usize, usize)); 8] = [
+        (|_| (), (0, 0), (0, 0)),
+        (|l| l.last[1] = 5, (0, 0), (17, 2)),
+        (|l| l.last = vec![5, 5], (0, 0), (17, 1)),
+        (|l| l.low[1] = 1, (0, 0), (18, 2)),
+        (|l| l.low = vec![1, 300], (0, 0), (18, 1)),
+        (|l| (l.last[1], l.low[0]) = (5, 1), (0, 0), (17, 2)),
+        (|l| (l.last[1], l.low[0]) = (5, 2), (8, 0), (8, 0)),
+        (|l| (l.last[0], l.last[1]) = (5, 6), (7, 0), (7, 0)),
+    ];
+    for (change, ours, theirs) in changes {
+        assert_eq!((asked(change, House::Ours), asked(change, House::Partner)), (ours, theirs));
+    }
+    let text = good.sheet().text_for(House::Partner);
+    let n = text.len();
+    for (length, place, yes) in [(n, 0, true), (n - 1, 0, false), (n + 3, 3, true), (n + 2, 3, false), (500, 501, false), (500, usize::MAX, false)] {
+        let expected = if yes { Ok(text.clone()) } else { Err(Refusal { number: 15, line: 0 }) };
+        assert_eq!(written(House::Partner, &good, length, place), expected, "{length} from {place} on");
+    }
+}
+
+/// A window or a stretch that is moved to the end of the wave is taken, or refused by 7 where it is one place too far. The partner's are
+/// refused in the carried place too.
 #[test]
 fn windows_and_stretches_at_the_end_of_the_wave() {
-    let (mut carried, mut refused, all) = (0, 0, effort(2_000));
-    for i in 0..all {
-        let mut r = Random::of_case(seed(22), i);
-        let mut text = valid(&mut r);
-        reach_the_end(&mut r, &mut text);
-        match read(&text) {
-            Ok(sheet) => carried += (sheet.cut_to_span() != sheet) as usize,
-            Err(refusal) => {
-                assert_eq!(refusal.number, 7, "seed {} case {i}: {}", seed(22), String::from_utf8_lossy(&text));
-                refused += 1;
+    for house in House::BOTH {
+        let (mut taken, mut refused, all) = (0, 0, effort(2_000));
+        for i in 0..all {
+            let mut r = Random::of_case(seed(22), i);
+            let mut text = valid(&mut r, house);
+            reach_the_end(&mut r, house, &mut text);
+            match read(house, &text) {
+                Ok(sheet) if house == House::Ours => taken += (sheet.cut_to_span() != sheet) as usize,
+                Ok(_) => taken += 1,
+                Err(refusal) => {
+                    assert_eq!(refusal.number, 7, "seed {} case {i}: {}", seed(22), String::from_utf8_lossy(&text));
+                    refused += 1;
+                }
             }
         }
+        assert!(5 * taken > all && 5 * refused > all, "{house:?}: {taken} taken, {refused} refused");
     }
-    assert!(5 * carried > all && 5 * refused > all, "{carried} with windows past the wave, {refused} refused");
 }
 
 /// The generators reach a sheet and every refusal of reading.
 #[test]
 fn generators_reach_every_reply() {
-    let mut seen = [0usize; 17];
-    for i in 0..effort(20_000) {
-        let mut r = Random::of_case(seed(21), i);
-        let text = any_text(&mut r);
-        seen[read(&text).map_or_else(|r| r.number, |_| 0)] += 1;
-        assert!(read(&valid(&mut r)).is_ok(), "seed {} case {i}", seed(21));
-    }
-    for number in [0, 2, 3, 4, 5, 6, 7, 8, 11, 16] {
-        assert!(seen[number] > 20, "{number}: {seen:?}");
+    for house in House::BOTH {
+        let mut seen = [0usize; 17];
+        for i in 0..effort(20_000) {
+            let mut r = Random::of_case(seed(21), i);
+            let text = any_text(&mut r, house);
+            seen[read(house, &text).map_or_else(|r| r.number, |_| 0)] += 1;
+            assert!(read(house, &valid(&mut r, house)).is_ok(), "seed {} case {i}", seed(21));
+        }
+        for number in [0, 2, 3, 4, 5, 6, 7, 8, 11, 16] {
+            assert!(seen[number] > 20, "{house:?} {number}: {seen:?}");
+        }
     }
 }

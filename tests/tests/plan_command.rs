@@ -7,6 +7,8 @@ use std::process::{Child, Command, Output, Stdio};
 use std::sync::{Mutex, Once};
 
 use model::cases;
+use model::house::House;
+use model::sheet::Sheet;
 
 /// Held while commands are written and while one is started: until a child runs its program it has all that its parent had open, and
 /// a file that is open for writing cannot be run.
@@ -64,20 +66,53 @@ fn the_word_is_handed_on() {
     assert_eq!(end(start_with(&["fits"], "fits_refused", b"(sheet 49)\n")), (2, "(refused 6 (line 1))\n".into(), String::new()));
     assert_eq!(end(start_with(&["fits"], "fits_empty", b"")), (2, "(refused 5 (line 0))\n".into(), String::new()));
     assert_eq!(end(start_with(&["plan"], "word_plan", &p2)), (0, cases::P2_PAGE.into(), String::new()));
-    for words in [&["fit"][..], &["--help"], &[""], &["fits", ""], &["fits", "plan"], &["plan", "fits"], &["fits", "fits"]] {
+    let none: [&[&str]; 9] =
+        [&["fit"], &["--help"], &[""], &["fits", ""], &["fits", "plan"], &["plan", "fits"], &["fits", "fits"], &["to", "partner"], &["to-partner", ""]];
+    for words in none {
         let (status, page, said) = end(start_with(words, "no_word", &p2));
         assert_eq!((status, page.as_str()), (3, ""), "{words:?}");
         // The program's own lines with its words, and then the command's.
         let (usage, last) = said.strip_suffix('\n').unwrap().rsplit_once('\n').expect("two lines");
-        assert!(usage.contains("plan") && usage.contains("fits"), "{said}");
+        assert!(["plan", "fits", "partner", "from-partner", "to-partner"].iter().all(|word| usage.contains(word)), "{said}");
         assert_eq!(last, format!("plan: there is no page for: {}", words.join(" ")));
     }
+}
+
+/// A partner's sheet is planned, or turned into ours, and ours into theirs: the status is 0 for a sheet as for a plan. What the program says
+/// of a sheet that the partner cannot have comes through.
+#[test]
+fn sheets_of_the_partner() {
+    let theirs = "(day 7)\n(note)\n(job 4017 (start 3) (hours 2))\n(limit (from 1) (hours 3) (most 2))\n";
+    let (ours, back) = ("(sheet 7)\n(unit 4017 (window 3 4))\n(rule (slots 1 3) (count 0 2))\n", theirs.replace("(note)\n", ""));
+    let (status, page, said) = end(start_with(&["partner"], "partner", theirs.as_bytes()));
+    assert_eq!((status, said.as_str()), (0, ""));
+    assert!(page.starts_with("(answer plan 1)\n(unit 4017 (slot 3) (between 3 4))\n"), "{page}");
+    let none = b"(day 2)\n(job 1 (start 1) (hours 2))\n(limit (from 1) (hours 2) (most 0))\n";
+    let ring = "(answer none)\n(at-most 0 (slots 1 2))\n(at-least 1 (slots 1 2))\n(shortfall 1)\n";
+    assert_eq!(end(start_with(&["partner"], "partner_none", none)), (1, ring.into(), String::new()));
+    assert_eq!(end(start_with(&["from-partner"], "from_partner", theirs.as_bytes())), (0, ours.into(), String::new()));
+    assert_eq!(end(start_with(&["to-partner"], "to_partner", ours.as_bytes())), (0, back, String::new()));
+    for word in ["partner", "from-partner"] {
+        assert_eq!(end(start_with(&[word], &format!("{word}_refused"), b"(day 49)\n")), (2, "(refused 6 (line 1))\n".into(), String::new()));
+        assert_eq!(end(start_with(&[word], &format!("{word}_ours"), ours.as_bytes())), (2, "(refused 3 (line 1))\n".into(), String::new()));
+    }
+    for (text, page, said) in [
+        ("(sheet 49)\n", "(refused 6 (line 1))\n", ""),
+        ("(sheet 4)\n(unit 7 (window 1 4))\n(unit 9 (window 2 5))\n", "(refused 17 (line 2))\n", "unit 2\n"),
+        ("(sheet 4)\n(unit 7 (window 1 4))\n(rule (slots 1 4) (count 1 1))\n", "(refused 18 (line 1))\n", "rule 1\n"),
+    ] {
+        assert_eq!(end(start_with(&["to-partner"], "to_partner_refused", text.as_bytes())), (2, page.into(), said.into()));
+    }
+    // The longest sheet of theirs is a whole page too.
+    let longest = Sheet::new(48, &[(10, 48); 300], &[(10, 48, 0, 300); 60]).numbered(&(9_700..=9_999).collect::<Vec<_>>());
+    let expected = String::from_utf8(longest.text_for(House::Partner)).unwrap();
+    assert_eq!(end(start_with(&["to-partner"], "to_partner_longest", &longest.text())), (0, expected, String::new()));
 }
 
 /// What cannot be read or written is said, and is no answer.
 #[test]
 fn reading_or_writing_fails() {
-    for words in [&[][..], &["plan"], &["fits"]] {
+    for words in [&[][..], &["plan"], &["fits"], &["partner"], &["from-partner"], &["to-partner"]] {
         let folder = spawn(plan().args(words).stdin(File::open("/").unwrap()));
         let (status, page, said) = end(folder);
         assert_eq!((status, page.as_str()), (3, ""));
@@ -90,6 +125,11 @@ fn reading_or_writing_fails() {
         let (status, _, said) = end(spawn(plan().stdin(File::open(path).unwrap()).stdout(full)));
         assert_eq!((status, said.as_str()), (3, "plan: the page could not be written\n"));
     }
+    let path = Path::new(env!("CARGO_TARGET_TMPDIR")).join("full_to_partner.sheet");
+    fs::write(&path, "(sheet 4)\n").unwrap();
+    let full = File::options().write(true).open("/dev/full").unwrap();
+    let (status, _, said) = end(spawn(plan().arg("to-partner").stdin(File::open(path).unwrap()).stdout(full)));
+    assert_eq!((status, said.as_str()), (3, "plan: the page could not be written\n"));
     for closed in ["<&-", ">&-"] {
         let words = ["-c", &format!("exec ./plan {closed}")];
         let mut shell = Command::new("bash");

@@ -6,7 +6,7 @@ use model::questions::{lists_refusal, planning_refusal, Lengths, Lists};
 use model::random::{any_sheet, largest_sheet, loaders, paper_sheet, sheet_up_to, small_sheet, Random, Reach};
 use model::sheet::{carried_place, Sheet, Solved, Unit, MAX_SLOTS};
 use model::tally::{self, Tally, CARRIES, NONE, PLAN};
-use model::{cases, computed, effort, enumerated, seed};
+use model::{cases, computed, effort, enumerated, faults, seed};
 
 /// The lengths that are asked for, with some places more here and there.
 fn roomy(r: &mut Random, sheet: &Sheet) -> Lengths {
@@ -271,52 +271,29 @@ fn narrowing_through_chains() {
     tally.report();
 }
 
+/// A fault of lists or of rooms.
+type Fault = (usize, Box<dyn Fn(&mut Lists, &mut Lengths)>);
+
 /// A fault of each kind, by the question that it fails.
-fn faults() -> Vec<(usize, fn(&mut Lists, &mut Lengths))> {
-    vec![
-        (13, |l, _| l.loader.push(7)),
-        (13, |l, _| l.loader.truncate(1)),
-        (13, |l, _| l.loader.clear()),
-        (13, |l, _| l.last.push(1)),
-        (13, |l, _| l.first.push(1)),
-        (13, |l, _| l.to.push(1)),
-        (13, |l, _| l.low.truncate(1)),
-        (13, |l, _| l.high.push(1)),
-        (13, |l, _| l.from.clear()),
-        (6, |l, _| l.span = 0),
-        (6, |l, _| l.span = 49),
-        (6, |l, _| l.span = usize::MAX),
-        (6, |l, _| l.span = 1 << 32),
-        (9, |l, _| l.add_units(301)),
-        (10, |l, _| l.add_rules(61)),
-        (7, |l, _| l.first[0] = 0),
-        (7, |l, _| l.first[1] = l.last[1] + 1),
-        (7, |l, _| l.last[1] = 49),
-        (7, |l, _| l.last[1] = carried_place(l.span) as u16 + 1),
-        (7, |l, _| (l.first[0], l.last[0]) = (carried_place(l.span) as u16, carried_place(l.span) as u16)),
-        (7, |l, _| l.to[0] = carried_place(l.span) as u16),
-        (7, |l, _| l.last[0] = 65_535),
-        (7, |l, _| l.from[0] = 0),
-        (7, |l, _| l.from[1] = l.to[1] + 1),
-        (7, |l, _| l.to[1] = 50),
-        (16, |l, _| l.loader[0] = 0),
-        (16, |l, _| l.loader[1] = 0),
-        (16, |l, _| l.loader[0] = 10_000),
-        (16, |l, _| l.loader[1] = 65_535),
-        (16, |l, _| l.loader[1] = l.loader[0]),
-        (8, |l, _| l.high[1] = 301),
-        (8, |l, _| l.high[0] = 65_535),
-        (8, |l, _| l.low[0] = l.high[0].saturating_add(1)),
-        (8, |l, _| l.low[1] = 65_535),
-        (12, |_, rooms| rooms.table -= 1),
-        (12, |_, rooms| rooms.plan -= 1),
-        (12, |_, rooms| rooms.earliest -= 1),
-        (12, |_, rooms| rooms.latest -= 1),
-        (12, |_, rooms| rooms.ring -= 1),
-        (12, |_, rooms| {
+fn faults() -> Vec<Fault> {
+    let of_rooms: [(usize, fn(&mut Lengths)); 6] = [
+        (12, |rooms| rooms.table -= 1),
+        (12, |rooms| rooms.plan -= 1),
+        (12, |rooms| rooms.earliest -= 1),
+        (12, |rooms| rooms.latest -= 1),
+        (12, |rooms| rooms.ring -= 1),
+        (12, |rooms| {
             *rooms = Lengths { table: 0, plan: 0, earliest: 0, latest: 0, ring: 0 }
         }),
-    ]
+    ];
+    let mut all: Vec<Fault> = Vec::new();
+    for (number, make) in faults::OF_LISTS {
+        all.push((number, Box::new(move |lists, _| make(lists))));
+    }
+    for (number, make) in of_rooms {
+        all.push((number, Box::new(move |_, rooms| make(rooms))));
+    }
+    all
 }
 
 /// Every refusal alone, and in pairs the one that is asked first.
@@ -493,62 +470,21 @@ fn refusals_at_random() {
         let mut lists = Lists::from(&sheet);
         let mut rooms = roomy(&mut r, &sheet);
         for _ in 0..r.between(1, 2) {
-            let value = *r.pick(&[0, 1, 5, 6, 7, 48, 49, 50, 299, 300, 301, 302, 9_999, 10_000, 32_767, 32_768, 65_535]);
-            // The last slot, the carried place, or one too far.
-            let end = r.between(sheet.span, carried_place(sheet.span) + 1) as u16;
-            let Lists { span, loader, first, last, from, to, low, high } = &mut lists;
-            match r.below(16) {
-                0 => *span = *r.pick(&[0, 1, 2, 47, 48, 49, 255, 256, 65_536, usize::MAX - 1]),
-                1 => rooms.table = r.below(rooms.table + 2),
-                2 => rooms.ring = r.below(rooms.ring + 2),
-                3 => {
+            match r.below(faults::KINDS + 3) {
+                0 => rooms.table = r.below(rooms.table + 2),
+                1 => rooms.ring = r.below(rooms.ring + 2),
+                2 => {
                     let room = r.below(3);
                     *[&mut rooms.plan, &mut rooms.earliest, &mut rooms.latest][room] = r.below(7);
                 }
-                4 => {
-                    let list = r.below(7);
-                    let list: &mut Vec<u16> = [loader, first, last, from, to, low, high].into_iter().nth(list).unwrap();
-                    if r.chance(50) {
-                        list.pop();
-                    } else {
-                        list.push(value);
-                    }
-                }
-                5 => {
-                    let length = *r.pick(&[299, 300, 301, 302, 400]);
-                    lists.add_units(length);
-                    for room in [&mut rooms.plan, &mut rooms.earliest, &mut rooms.latest] {
-                        *room = length.max(*room);
-                    }
-                }
-                6 => {
-                    let length = *r.pick(&[59, 60, 61, 62, 100]);
-                    lists.add_rules(length);
-                }
-                12 if !loader.is_empty() => {
-                    let at = r.below(loader.len());
-                    loader[at] = value;
-                }
-                13 if !loader.is_empty() => {
-                    // A number comes again, often on the last unit.
-                    let at = if r.chance(50) { loader.len() - 1 } else { r.below(loader.len()) };
-                    loader[at] = *r.pick(loader);
-                }
-                14 if !last.is_empty() && first.len() == last.len() => {
-                    let at = r.below(last.len());
-                    first[at] = if r.chance(50) { first[at] } else { end };
-                    last[at] = end;
-                }
-                15 if !to.is_empty() => {
-                    let at = r.below(to.len());
-                    to[at] = end;
-                }
-                k => {
-                    let list = if k == 7 { r.below(2) } else { r.below(4) + 2 };
-                    let list: &mut Vec<u16> = [first, last, from, to, low, high].into_iter().nth(list).unwrap();
-                    if !list.is_empty() {
-                        let at = r.below(list.len());
-                        list[at] = value;
+                kind => {
+                    let before = lists.first.len();
+                    faults::at_random(&mut r, kind - 3, sheet.span, &mut lists);
+                    // Units that were added have room.
+                    if lists.first.len() > before + 1 {
+                        for room in [&mut rooms.plan, &mut rooms.earliest, &mut rooms.latest] {
+                            *room = lists.first.len().max(*room);
+                        }
                     }
                 }
             }

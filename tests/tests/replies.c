@@ -1,10 +1,12 @@
 /*
- * Reads, plans, decides, seats and prints, and shows each reply field by field, as C sees it.
+ * Reads, plans, decides, seats, prints and writes, and shows each reply field by field, as C sees it.
  *
  *     replies UNITS PLACE PAGE <sheet
  *
- * The rooms for units have UNITS places, and the page has PAGE, printed on from PLACE. All that is lent lies in one block with
- * a guard on either side, and a refused call must leave every byte of it.
+ * The rooms for units have UNITS places, and the page has PAGE, printed on from PLACE. Then the lists are written in our form and in the
+ * partner's, onto the page from PLACE on, and each text is read back into the same rooms; where it was refused, the whole input is read as
+ * a partner's sheet. All that is lent lies in one block with a guard on either side, and a refused call must leave every byte of it, and
+ * every call the lists that it only reads.
  */
 #include <stdio.h>
 #include <stdlib.h>
@@ -39,8 +41,48 @@ struct kept_reading { size_t before; struct tugrokt_reading reply; size_t after;
 struct kept_planning { size_t before; struct tugrokt_planning reply; size_t after; };
 struct kept_seating { size_t before; struct tugrokt_seating reply; size_t after; };
 struct kept_printing { size_t before; struct tugrokt_printing reply; size_t after; };
+struct kept_writing { size_t before; struct tugrokt_writing reply; size_t after; };
 
 #define MARK ((size_t)0xdeadbeef)
+
+/* Reads a text into the block's lists. */
+static struct tugrokt_reading read_lists(int partner, const uint8_t *text, size_t text_length)
+{
+    return (partner ? tugrokt_read_partner : tugrokt_read)(
+        text, text_length, lent.loader, TUGROKT_MAX_UNITS, lent.first, TUGROKT_MAX_UNITS, lent.last, TUGROKT_MAX_UNITS, lent.from,
+        TUGROKT_MAX_RULES, lent.to, TUGROKT_MAX_RULES, lent.low, TUGROKT_MAX_RULES, lent.high, TUGROKT_MAX_RULES);
+}
+
+static void show_reading(const char *name, struct tugrokt_reading reply)
+{
+    printf("%s %zu %zu %zu %zu %zu%s\n", name, reply.number, reply.line, reply.span, reply.units, reply.rules, left(reply.number));
+}
+
+/* Writes the lists of a sheet that was read, reads the text back, and tells whether the lists, and all else that was lent, are as they
+ * were. Gives back whether the caller's numbers beside the reply are. */
+static int write_and_read(int partner, struct tugrokt_reading sheet, size_t text_length, size_t page, size_t place)
+{
+    struct kept_writing written = { MARK, { MARK, MARK, MARK }, MARK };
+    struct kept_reading again = { MARK, { MARK, MARK, MARK, MARK, MARK }, MARK };
+    size_t n = sheet.units, r = sheet.rules;
+
+    before = lent;
+    written.reply = (partner ? tugrokt_write_partner : tugrokt_write_sheet)(
+        sheet.span, lent.loader, n, lent.first, n, lent.last, n, lent.from, r, lent.to, r, lent.low, r, lent.high, r, lent.page, page,
+        place);
+    printf("%s %zu %zu %zu%s\n", partner ? "writing for the partner" : "writing", written.reply.number, written.reply.line,
+           written.reply.place, left(written.reply.number));
+    if (written.reply.number == 0) {
+        /* What is written is the text alone, and what is read of it writes the same numbers again. */
+        memcpy(before.page + place, lent.page + place, written.reply.place - place);
+        again.reply = read_lists(partner, lent.page + place, written.reply.place - place);
+        show_reading(memcmp(&lent, &before, sizeof lent) == 0 ? "the same lists" : "OTHER LISTS", again.reply);
+    } else {
+        again.reply = read_lists(1, lent.text, text_length);
+        show_reading("reading for the partner", again.reply);
+    }
+    return written.before == MARK && written.after == MARK && again.before == MARK && again.after == MARK;
+}
 
 int main(int argc, char **argv)
 {
@@ -50,6 +92,7 @@ int main(int argc, char **argv)
     struct kept_seating seated = { MARK, { MARK, MARK, MARK }, MARK };
     struct kept_printing printed = { MARK, { MARK, MARK, MARK, MARK }, MARK };
     size_t text_length, units, place, page, n, r;
+    int kept;
 
     if (argc != 4)
         return 2;
@@ -62,11 +105,8 @@ int main(int argc, char **argv)
     text_length = fread(lent.text, 1, sizeof lent.text, stdin);
 
     before = lent;
-    read.reply = tugrokt_read(lent.text, text_length, lent.loader, TUGROKT_MAX_UNITS, lent.first, TUGROKT_MAX_UNITS, lent.last,
-                              TUGROKT_MAX_UNITS, lent.from, TUGROKT_MAX_RULES, lent.to, TUGROKT_MAX_RULES, lent.low,
-                              TUGROKT_MAX_RULES, lent.high, TUGROKT_MAX_RULES);
-    printf("reading %zu %zu %zu %zu %zu%s\n", read.reply.number, read.reply.line, read.reply.span, read.reply.units,
-           read.reply.rules, left(read.reply.number));
+    read.reply = read_lists(0, lent.text, text_length);
+    show_reading("reading", read.reply);
 
     n = read.reply.units;
     r = read.reply.rules;
@@ -96,7 +136,10 @@ int main(int argc, char **argv)
     printf("printing %zu %zu %zu %zu%s\n", printed.reply.number, printed.reply.line, printed.reply.length, printed.reply.place,
            left(printed.reply.number));
 
-    return read.before == MARK && read.after == MARK && planned.before == MARK && planned.after == MARK &&
+    kept = write_and_read(0, read.reply, text_length, page, place);
+    kept = write_and_read(1, read.reply, text_length, page, place) && kept;
+
+    return kept && read.before == MARK && read.after == MARK && planned.before == MARK && planned.after == MARK &&
                    decided.before == MARK && decided.after == MARK && seated.before == MARK && seated.after == MARK &&
                    printed.before == MARK && printed.after == MARK
                ? 0
