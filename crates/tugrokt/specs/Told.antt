@@ -2,6 +2,7 @@
 use mathlib.Core.Path.{_≡_}
 use mathlib.Core.List.{List}
 use Prim.Native.Nat.{ℕ}
+use lib.ListN.{length}
 use Rattle.forms.specs.declared.House.{House}
 use Rattle.sheet.specs.Sheet.{Sheet}
 use Rattle.sheet.specs.Lists.{WrittenLists}
@@ -12,11 +13,13 @@ use Rattle.print.specs.Printing as print
 use Rattle.print.specs.Reply as printing
 use Rattle.read_ask.specs.Reading.{ListRooms, reading}
 use Rattle.read.specs.Rooms.{sizesOf, roomsAfter}
-use Rattle.tugrokt_replies.specs.Numbers.{readingOf, planningOf, seatingOf, printingOf}
+use Rattle.write.specs.Writing.{writing, pageAfter}
+use Rattle.tugrokt_replies.specs.Numbers.{readingOf, planningOf, seatingOf, printingOf, writingOf}
 use Rattle.tugrokt_replies.specs.declared.planning.Planning.{Planning}
 use Rattle.tugrokt_replies.specs.declared.printing.Printing.{Printing}
 use Rattle.tugrokt_replies.specs.declared.reading.Reading.{Reading}
 use Rattle.tugrokt_replies.specs.declared.seating.Seating.{Seating}
+use Rattle.tugrokt_replies.specs.declared.writing.Writing.{Writing}
 
 pub record ReadTold (h : House) (text : List ℕ) (before : ListRooms (List ℕ)) (numbers : Reading) (after : ListRooms (List ℕ)) : Type 0 where
   pub told : numbers ≡ readingOf (reading h text (sizesOf before))
@@ -41,3 +44,7 @@ pub record PrintTold (l : WrittenLists) (before : Rooms) (page : List ℕ) (at :
   pub reply : printing.Reply
   pub call : print.Printing l before page at reply after left
   pub told : numbers ≡ printingOf at reply
+
+pub record WriteTold (h : House) (l : WrittenLists) (page : List ℕ) (at : ℕ) (numbers : Writing) (left : List ℕ) : Type 0 where
+  pub told : numbers ≡ writingOf at (writing h l (length page) at)
+  pub page-left : left ≡ pageAfter h l page at

@@ -5,3 +5,4 @@ pub mod planning;
 pub mod printing;
 pub mod reading;
 pub mod seating;
+pub mod writing;

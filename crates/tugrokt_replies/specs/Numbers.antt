@@ -3,10 +3,12 @@ use Prim.Native.Nat.{ℕ}
 use Rattle.read_ask.specs.Reading as reading
 use Rattle.plan_solve.specs.Reply as planning
 use Rattle.print.specs.Reply as printing
+use Rattle.write.specs.Writing as writing
 use Rattle.tugrokt_replies.specs.declared.reading.Reading.{Reading}
 use Rattle.tugrokt_replies.specs.declared.planning.Planning.{Planning}
 use Rattle.tugrokt_replies.specs.declared.printing.Printing.{Printing}
 use Rattle.tugrokt_replies.specs.declared.seating.Seating.{Seating}
+use Rattle.tugrokt_replies.specs.declared.writing.Writing.{Writing}
 
 abbrev pub readingOf : reading.Reply → Reading
 readingOf (reading.refused q n) = record { number = q; line = n; span = 0; units = 0; rules = 0 }
@@ -29,3 +31,7 @@ abbrev pub printingOf : ℕ → printing.Reply → Printing
 printingOf at (printing.refused q n) = record { number = q; line = n; length = 0; place = at }
 printingOf at (printing.plan next) = record { number = 0; line = 0; length = 0; place = next }
 printingOf at (printing.none k next) = record { number = 0; line = 0; length = k; place = next }
+
+abbrev pub writingOf : ℕ → writing.Reply → Writing
+writingOf at (writing.refused q n) = record { number = q; line = n; place = at }
+writingOf at (writing.text next) = record { number = 0; line = 0; place = next }

@@ -7,3 +7,4 @@ pub mod planning;
 pub mod printing;
 pub mod reading;
 pub mod seating;
+pub mod writing;
