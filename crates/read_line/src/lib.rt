@@ -75,7 +75,10 @@ fn to_stop(text: &[u8], at: usize, from: usize, grid: &Grid, table: &[u8; 256]) 
         state = read_form::next_state(grid, table, state, text[i]);
         i += 1;
     }
-    Stop { place: i - 1, state }
+    Stop {
+        place: i - 1,
+        state,
+    }
 }
 
 // The line that starts at a place. Its numbers are read where they are met, each into the place of its state.
