@@ -6,3 +6,4 @@ pub mod Decimal
 pub mod DecimalLaws
 pub mod Lines
 pub mod LinesLaws
+pub mod WrittenLines

@@ -3,25 +3,26 @@
 -- numbers back, a line without a line feed inside is found again, and each form differs from an earlier one at a word, which is one computed test (`clear`).
 -- So one law, `says`, reads every line. A carried unit's slot is past the span, so it is in the count of no slot line.
 use mathlib.Core.Path.{_≡_, refl, sym, ap, ap₂, _∙_}
-use mathlib.Core.Bool.{Bool, true, false, _&&_, not, cond}
+use mathlib.Core.Bool.{Bool, true, false, _&&_, cond}
 use mathlib.Core.List.{List, [], _∷_, _++_, map, append-assoc, append-nil}
 use Prim.Native.Nat.{ℕ, zero, suc, _+_, _-_, _≤_}
 use native.Mathlib.Omega.{arith}
 use lib.Dec.{T, eqb, leb, ltb}
 use lib.ListN.{length, getD}
 use lib.IntN.{negℤ}
-use borrow.Author.Tests.{ne-eqb, leb-true, leb-false}
-use Rattle.lists.specs.Members.{both, left, right, and-left}
+use borrow.Author.Tests.{ne-eqb, leb-false}
+use Rattle.lists.specs.Members.{left, right}
 use Rattle.lists.specs.Values.{listOf-is, values-same}
 use Rattle.lists.specs.Lists.{run, fromTo, every, howMany, oneIf, joined}
 use Rattle.integers.specs.Parts.{up}
 use Rattle.network.specs.Network.{Weights}
 use Rattle.forms.specs.Words.{lineFeed, text}
-use Rattle.forms.specs.Form.{Piece, word, number, isDigit, numbers, written, value}
-use Rattle.forms.specs.FormLaws.{Digits, Suits, separated, written-matches, formsApart, apart-unmatched}
+use Rattle.forms.specs.Form.{Piece, printable, numbers, value}
+use Rattle.forms.specs.FormLaws.{Suits, separated, written-matches, formsApart, apart-unmatched}
 use Rattle.forms.specs.Decimal.{digits, spell, formLine}
 use Rattle.forms.specs.DecimalLaws.{values-digits, numbersIn, suits-digits}
-use Rattle.forms.specs.Lines.{textLine, inFront, lines}
+use Rattle.forms.specs.Lines.{lines}
+use Rattle.forms.specs.WrittenLines.{wordsPrintable, written-printable, next-line}
 use Rattle.print_bytes.specs.Writing.{Room, Written, planHead, unitLine, carriedLine, slotLine, fitsHead, rangeLine}
 use Rattle.print_bytes.specs.Writing.{noneHead, atMostLine, atLeastLine, shortfallLine, refusedLine}
 use Rattle.print_bytes.specs.WritingLaws.{written-part}
@@ -33,55 +34,11 @@ use Rattle.pages.specs.PageLines.{unitSaid, slotSaid, rangeSaid, stepSai
 
 -- ---- lines
 
--- no byte is a line feed
-abbrev pub unbroken : List ℕ → Bool
-unbroken l = every (λ b. not (eqb b lineFeed)) l
-
-module _ (b : ℕ) (w t : List ℕ) where
-  next-byte : (e : Bool) → T (not e && unbroken w) → (T (unbroken w) → lines (w ++ (lineFeed ∷ t)) ≡ textLine w true ∷ lines t)
-      → cond e (textLine [] true ∷ lines (w ++ (lineFeed ∷ t))) (inFront b (lines (w ++ (lineFeed ∷ t)))) ≡ textLine (b ∷ w) true ∷ lines t
-  next-byte true h rest = absurd h
-  next-byte false h rest = ap (inFront b) (rest h)
-
--- a line ended by a line feed is found again
-next-line : (w t : List ℕ) → T (unbroken w) → lines (w ++ (lineFeed ∷ t)) ≡ textLine w true ∷ lines t
-unfolding lines
-next-line [] t h = refl
-next-line (b ∷ w) t h = next-byte b w t (eqb b lineFeed) h (next-line w t)
-
-unbroken-append : (v w : List ℕ) → T (unbroken v) → T (unbroken w) → T (unbroken (v ++ w))
-unbroken-append [] w g h = h
-unbroken-append (b ∷ v) w g h =
-    both (not (eqb b lineFeed)) (unbroken (v ++ w)) (left (not (eqb b lineFeed)) (unbroken v) g)
-    (unbroken-append v w (right (not (eqb b lineFeed)) (unbroken v) g) h)
-
-unbroken-digits : (l : List ℕ) → Digits l → T (unbroken l)
-unbroken-digits [] h = tt
-unbroken-digits (b ∷ l) h = both (not (eqb b lineFeed)) (unbroken l) (one b (h .0)) (unbroken-digits l (h .1))
-  where
-    one : (b : ℕ) → isDigit b ≡ true → T (not (eqb b lineFeed))
-    one b e = rw (ne-eqb b lineFeed (λ z. omega (arith, leb-true 48 b (and-left (leb 48 b) (leb b 57) e)))) tt
-
--- the words of a form
-abbrev unbrokenForm : List Piece → Bool
-unbrokenForm [] = true
-unbrokenForm (word w ∷ f) = unbroken w && unbrokenForm f
-unbrokenForm (number ∷ f) = unbrokenForm f
-
-unbroken-written : (f : List Piece) (ns : List (List ℕ)) → T (unbrokenForm f) → Suits f ns → T (unbroken (written f ns))
-unfolding written
-unbroken-written [] ns h s = tt
-unbroken-written (word w ∷ f) ns h s =
-    unbroken-append w (written f ns) (left (unbroken w) (unbrokenForm f) h) (unbroken-written f ns (right (unbroken w) (unbrokenForm f) h) s)
-unbroken-written (number ∷ f) [] h s = absurd s
-unbroken-written (number ∷ f) (n ∷ ns) h s =
-    unbroken-append n (written f ns) (unbroken-digits n (s .0 .digits)) (unbroken-written f ns h (s .1))
-
 -- a line that says s
 pub record Says (line : List ℕ) (s : Said) : Type 0 where
   pub bytes : List ℕ
   pub ended : line ≡ bytes ++ (lineFeed ∷ [])
-  pub whole : T (unbroken bytes)
+  pub whole : T (printable bytes)
   pub read : readLine bytes ≡ s
 
 read-next : {line : List ℕ} {s : Said} (t : List ℕ) → Says line s → readLines (line ++ t) ≡ s ∷ readLines t
@@ -98,9 +55,9 @@ nth [] i = reading [] (λ n. other)
 nth (r ∷ rs) zero = r
 nth (r ∷ rs) (suc i) = nth rs i
 
--- a form whose lines are read back: words end its numbers, and no line feed stands in it
+-- a form whose lines are read back: words end its numbers, and they are printable, so that no line feed stands in a line
 abbrev sound : List Piece → Bool
-sound f = separated f && unbrokenForm f
+sound f = separated f && wordsPrintable f
 
 -- the form at a place is one, and differs from each earlier one at a word
 abbrev clear : List Reading → ℕ → Bool
@@ -118,10 +75,10 @@ is-true true h = refl
 is-true false h = absurd h
 
 clear-separated : (rs : List Reading) (i : ℕ) → T (clear rs i) → separated (nth rs i .form) ≡ true
-clear-separated rs i h = let f = nth rs i .form in is-true (separated f) (left (separated f) (unbrokenForm f) (clear-sound rs i h))
+clear-separated rs i h = let f = nth rs i .form in is-true (separated f) (left (separated f) (wordsPrintable f) (clear-sound rs i h))
 
-clear-unbroken : (rs : List Reading) (i : ℕ) → T (clear rs i) → T (unbrokenForm (nth rs i .form))
-clear-unbroken rs i h = let f = nth rs i .form in right (separated f) (unbrokenForm f) (clear-sound rs i h)
+clear-printable : (rs : List Reading) (i : ℕ) → T (clear rs i) → T (wordsPrintable (nth rs i .form))
+clear-printable rs i h = let f = nth rs i .form in right (separated f) (wordsPrintable f) (clear-sound rs i h)
 
 reads : (rs : List Reading) (i : ℕ) (ns : List ℕ) → T (clear rs i) → Suits (nth rs i .form) (map digits ns)
     → readBy rs (spell (nth rs i .form) ns) ≡ (nth rs i .says) (λ j. getD ns j 0)
@@ -147,52 +104,52 @@ says i ns h e =
     record {
       bytes = spell (nth readings i .form) ns;
       ended = refl;
-      whole = unbroken-written (nth readings i .form) (map digits ns) (clear-unbroken readings i h) s;
+      whole = written-printable (nth readings i .form) (map digits ns) (clear-printable readings i h) s;
       read = reads readings i ns h s;
     }
 
 plan-says : (n : ℕ) → Says (planHead n) (plan n)
-unfolding planHead text
+unfolding planHead text printable
 plan-says n = says 0 (n ∷ []) tt refl
 
 unit-says : (a b c d : ℕ) → Says (unitLine a b c d) (unit a b c d)
-unfolding unitLine text
+unfolding unitLine text printable
 unit-says a b c d = says 1 (a ∷ b ∷ c ∷ d ∷ []) tt refl
 
 carried-says : (a b c : ℕ) → Says (carriedLine a b c) (carried a b c)
-unfolding carriedLine text
+unfolding carriedLine text printable
 carried-says a b c = says 2 (a ∷ b ∷ c ∷ []) tt refl
 
 slot-says : (a b c d : ℕ) → Says (slotLine a b c d) (slot a b c d)
-unfolding slotLine text
+unfolding slotLine text printable
 slot-says a b c d = says 3 (a ∷ b ∷ c ∷ d ∷ []) tt refl
 
 fits-says : (n : ℕ) → Says (fitsHead n) (fits n)
-unfolding fitsHead text
+unfolding fitsHead text printable
 fits-says n = says 4 (n ∷ []) tt refl
 
 range-says : (a b c : ℕ) → Says (rangeLine a b c) (range a b c)
-unfolding rangeLine text
+unfolding rangeLine text printable
 range-says a b c = says 5 (a ∷ b ∷ c ∷ []) tt refl
 
 none-says : Says noneHead none
-unfolding noneHead text
+unfolding noneHead text printable
 none-says = says 6 [] tt refl
 
 at-most-says : (a b c : ℕ) → Says (atMostLine a b c) (atMost a b c)
-unfolding atMostLine text
+unfolding atMostLine text printable
 at-most-says a b c = says 7 (a ∷ b ∷ c ∷ []) tt refl
 
 at-least-says : (a b c : ℕ) → Says (atLeastLine a b c) (atLeast a b c)
-unfolding atLeastLine text
+unfolding atLeastLine text printable
 at-least-says a b c = says 8 (a ∷ b ∷ c ∷ []) tt refl
 
 shortfall-says : (n : ℕ) → Says (shortfallLine n) (shortfall n)
-unfolding shortfallLine text
+unfolding shortfallLine text printable
 shortfall-says n = says 9 (n ∷ []) tt refl
 
 refused-says : (q n : ℕ) → Says (refusedLine q n) (refused q n)
-unfolding refusedLine text
+unfolding refusedLine text printable
 refused-says q n = says 10 (q ∷ n ∷ []) tt refl
 
 -- ---- the page of a plan, read

@@ -1,4 +1,3 @@
-pub mod WrittenLines
 pub mod WrittenContents
 pub mod Passing
 pub mod RoundTrip

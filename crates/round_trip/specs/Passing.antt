@@ -1,8 +1,8 @@
 -- The lines of a sheet's text pass reading's questions, one after another, and are the sheet.
 -- Key idea: go through the lines with what those before have come to: the span, the units and the rules so far. A unit's line is asked against just these, and
 -- adds its unit; so one induction over the units and one over the rules give the answers and the sheet together.
-use mathlib.Core.Path.{_≡_, refl, sym, ap, ap₂, _∙_, subst}
-use mathlib.Core.Bool.{Bool, true, false, _&&_, not}
+use mathlib.Core.Path.{_≡_, refl, sym, ap, _∙_, subst}
+use mathlib.Core.Bool.{Bool, true, false, _&&_}
 use mathlib.Core.List.{List, [], _∷_, _++_, map, map-append, append-assoc, append-nil}
 use Prim.Native.Nat.{ℕ, suc, _+_, _≤_, _<_}
 use native.Mathlib.Omega.{arith}
@@ -10,7 +10,7 @@ use lib.Dec.{T, leb, le→leb}
 use lib.ListN.{length, getD, length-append}
 use Rattle.lists.specs.Lists.{within, every}
 use Rattle.lists.specs.Members.{both, left, right, every-both, within-iff}
-use Rattle.questions.specs.Questions.{Question, ask, AllYes}
+use Rattle.questions.specs.Questions.{AllYes}
 use Rattle.sheet.specs.Sizes.{maxSlots, maxUnits, maxRules, maxCount}
 use Rattle.sheet.specs.Sheet.{Rule, SheetUnit}
 use Rattle.sheet.specs.PlanLaws.{noRule}
@@ -21,9 +21,9 @@ use Rattle.forms.specs.Forms.{spanFormOf, unitFormOf, ruleFormOf}
 use Rattle.forms.specs.Decimal.{digits, spell}
 use Rattle.forms.specs.Lines.{TextLine, textLine}
 use Rattle.forms.specs.declared.House.{House}
-use Rattle.forms.specs.declared.House.the-variants.{Ours, Partner}
-use Rattle.read_line.specs.Content.{Content, sheet, unit, rule, contentOf, numbersIn}
-use Rattle.read_ask.specs.Reading.{contents, isSheet, hasSheet, spanIn, spanElse, unitOf, unitsIn, loadersIn, ruleOf, rulesIn, lastPlace, questionsOf, lineQuestions}
+use Rattle.read_line.specs.Content.{Content, sheet, unit, rule}
+use Rattle.read_ask.specs.Reading.{contents, isSheet, hasSheet, spanIn, spanElse, unitOf, unitsIn, loadersIn, ruleOf, rulesIn}
+use Rattle.read_ask.specs.Reading.{lastPlace, questionsOf, lineQuestions}
 use Rattle.read_ask.specs.SpanLaws.{units-more, rules-more, hasSheet-same, spanIn-same}
 use Rattle.sheet_texts.specs.SheetText.{unitNumbers, ruleNumbers}
 use Rattle.round_trip.specs.WrittenContents.{LowKept, Line, span-line, unit-line, rule-line}
@@ -95,8 +95,9 @@ module _ (h : House) (span : ℕ) (most : span ≤ maxSlots) where
   ruleLine r = textLine (spell (ruleFormOf h) (ruleNumbers h r)) true
 
   -- of a unit, after these lines
-  unit-asked : (xs : List Content) (us : List SheetUnit) (u : SheetUnit) → SoFar xs span us [] → OutUnit h span u → T (isNew (map (λ v. v .loader) us) (u .loader))
-      → length us < maxUnits → (n : ℕ) → AllYes (questionsOf h n xs (unitLine u) (unit (map digits (unitNumbers h u)) (u .loader) (u .window .first) (u .window .last)))
+  unit-asked : (xs : List Content) (us : List SheetUnit) (u : SheetUnit) → SoFar xs span us [] → OutUnit h span u
+      → T (isNew (map (λ v. v .loader) us) (u .loader)) → length us < maxUnits → (n : ℕ)
+      → AllYes (questionsOf h n xs (unitLine u) (unit (map digits (unitNumbers h u)) (u .loader) (u .window .first) (u .window .last)))
   unit-asked xs us u s o new few n =
       let f = u .window .first in
       let l = u .window .last in

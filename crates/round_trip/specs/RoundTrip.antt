@@ -1,17 +1,17 @@
 -- What goes out to a house comes back: the text of a sheet passes every question of reading, and the sheet that it is read as is the one that was written.
 -- Key idea: before 15 the questions of writing are planning's and the house's own, and they say of each unit and rule just what reading asks of its line.
 use mathlib.Core.Path.{_≡_, refl, sym, ap, ap₂, _∙_, subst}
-use mathlib.Core.Bool.{Bool, true, _&&_}
+use mathlib.Core.Bool.{true, _&&_}
 use mathlib.Core.List.{List, [], _∷_, _++_, map, append-nil, append-assoc}
 use Prim.Native.Nat.{ℕ, suc, _≤_, _<_}
 use native.Mathlib.Omega.{arith}
 use lib.Dec.{T, leb, eqb, leb→le, le→leb, eqb→eq}
 use lib.ListN.{length, getD, length-map, List·getD-map}
-use Rattle.lists.specs.Lists.{within, every, joined, onFront}
+use Rattle.lists.specs.Lists.{within, every, onFront}
 use Rattle.lists.specs.Members.{both, left, right, every-at, every-both, within-iff}
-use Rattle.questions.specs.Questions.{Question, ask, allYes, firstNo, AllYes}
+use Rattle.questions.specs.Questions.{ask, allYes, firstNo, AllYes}
 use Rattle.questions.specs.FirstNoLaws.{yes-every, every-yes, yes-front, yes-back, yes-at}
-use Rattle.sheet.specs.Sizes.{maxSlots, maxUnits, maxBytes}
+use Rattle.sheet.specs.Sizes.{maxBytes}
 use Rattle.sheet.specs.Sheet.{Window, Rule, Sheet, SheetUnit, WrittenSheet, constraints, loaders, noWindow}
 use Rattle.sheet.specs.PlanLaws.{noRule}
 use Rattle.sheet.specs.Questions.{isSpan, rising, isWindow, spanFits, windowsFit, sheetQuestions, accepted, loadersFit, sheetOf}
@@ -19,7 +19,6 @@ use Rattle.sheet.specs.QuestionLaws.{accepted-sized}
 use Rattle.sheet.specs.Lists.{WrittenLists, givenBy, writtenBy}
 use Rattle.sheet.specs.WrittenLaws.{noUnit, unit-fits, rule-fits, written-constraints, written-loaders, windows-lists, rules-lists}
 use Rattle.forms.specs.Words.{lineFeed}
-use Rattle.forms.specs.Form.{printable}
 use Rattle.forms.specs.Forms.{spanFormOf, unitFormOf, ruleFormOf}
 use Rattle.forms.specs.Decimal.{spell}
 use Rattle.forms.specs.Lines.{TextLine, textLine, lines}
@@ -33,11 +32,12 @@ use Rattle.sheet_texts.specs.SheetText.{unitNumbers, ruleNumbers, spanText, uni
 use Rattle.sheet_texts.specs.SheetTextLaws.{text-short, text-readable}
 use Rattle.write_ask.specs.HouseQuestions.{houseQuestions}
 use Rattle.write.specs.Writing.{sheetAsked, outgoing}
-use Rattle.read_ask.specs.Reading.{contents, hasSheet, lastPlace, sheetIn, lineQuestions, passQuestions, questions, ListRooms, rooms, listsFit, reading, concluded, read}
+use Rattle.read_ask.specs.Reading.{contents, hasSheet, lastPlace, sheetIn, lineQuestions, passQuestions, questions}
+use Rattle.read_ask.specs.Reading.{ListRooms, rooms, listsFit, reading, concluded}
 use Rattle.read.specs.Rooms.{sizesOf, leaves, roomsAfter}
-use Rattle.round_trip.specs.WrittenLines.{next-line, next-lines}
+use Rattle.forms.specs.WrittenLines.{next-line, next-lines}
 use Rattle.round_trip.specs.WrittenContents.{LowKept, span-shown, unit-shown, rule-shown}
-use Rattle.round_trip.specs.Passing.{SoFar, OutUnit, OutRule, Passes, lines-pass}
+use Rattle.round_trip.specs.Passing.{OutUnit, OutRule, Passes, lines-pass}
 
 -- ---- the lines of a text are those that were written
 

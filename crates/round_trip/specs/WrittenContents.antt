@@ -2,7 +2,7 @@
 -- Key idea: a line's own form matches it and gives its numbers back, and every form before it differs from it at a word, which is one computed test.
 -- A stretch by its start and its hours ends where it was said to end.
 use mathlib.Core.Path.{_≡_, refl, sym, ap, ap₂, _∙_}
-use mathlib.Core.Bool.{true, false, cond}
+use mathlib.Core.Bool.{true, false}
 use mathlib.Core.List.{List, [], _∷_, map}
 use Prim.Native.Nat.{ℕ, _≤_, _<_}
 use native.Mathlib.Omega.{arith}
@@ -26,7 +26,7 @@ use Rattle.read_form.specs.declared.Kind.the-variants as Kind
 use Rattle.read_line.specs.Content.{Content, sheet, unit, rule, valueAt, lastOf, unitSaid, ruleSaid, formContent, contentOf}
 use Rattle.read_line.specs.Content.{numbersIn as digitsIn}
 use Rattle.sheet_texts.specs.SheetText.{hoursOf, unitNumbers, ruleNumbers}
-use Rattle.round_trip.specs.WrittenLines.{wordsPrintable, written-printable, digits-plain}
+use Rattle.forms.specs.WrittenLines.{wordsPrintable, written-printable, digits-plain}
 
 -- a house that knows no low is sent none
 abbrev pub LowKept : House → Rule → Type 0

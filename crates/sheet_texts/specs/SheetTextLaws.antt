@@ -1,8 +1,7 @@
 -- No text of an accepted sheet with loader numbers is longer than maxText, so a room of that length holds every one, and reading refuses none by 1.
 -- Key idea: a line is no longer than its form's words and so many digits (`line-short`), and a text no longer than so many lines.
-use mathlib.Core.Path.{_≡_}
 use mathlib.Core.List.{List, [], _∷_, map}
-use Prim.Native.Nat.{ℕ, suc, _+_, _*_, _≤_, _<_}
+use Prim.Native.Nat.{ℕ, suc, _*_, _≤_, _<_}
 use native.Mathlib.Omega.{arith}
 use native.Mathlib.Nat.{mul-le-mul-right, suc-mul}
 use lib.Dec.{T}

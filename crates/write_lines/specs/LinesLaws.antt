@@ -10,10 +10,9 @@ use lib.ListN.{length, getD, drop, drop-of-length-le}
 use lib.Seq.{drop-cons}
 use Rattle.lists.specs.Lists.{joined}
 use Rattle.forms.specs.declared.House.{House}
-use Rattle.sheet.specs.Sheet.{Window, Rule, Sheet, constraints, loaders, top, noWindow}
-use Rattle.sheet.specs.PlanLaws.{noRule}
+use Rattle.sheet.specs.Sheet.{Window, Sheet, constraints, loaders, top}
 use Rattle.sheet.specs.Questions.{windowsOf, rulesOf, sheetOf, accepted, loadersFit}
-use Rattle.sheet.specs.QuestionLaws.{Agree, windowsOf-length, windowsOf-at, rulesOf-length, rulesOf-at, accepted-sized, accepted-valid}
+use Rattle.sheet.specs.QuestionLaws.{Agree, windowsOf-at, rulesOf-length, rulesOf-at, accepted-sized, accepted-valid}
 use Rattle.sheet.specs.Lists.{WrittenLists, givenBy, unitsOf, writtenBy}
 use Rattle.sheet.specs.WrittenLaws.{FitRule, rule-fits, written-constraints, written-loaders}
 use Rattle.plan_ask.specs.Asking.{Listed}
@@ -22,7 +21,7 @@ use Rattle.sheet_texts.specs.SheetText.{spanText, unitTexts, ruleTexts, sheetTe
 use Rattle.sheet_texts.specs.SheetTextLaws.{text-short}
 use Rattle.print_bytes.specs.Writing.{Written}
 use Rattle.print_bytes.specs.WritingLaws.{Pending, pending-nothing}
-use Rattle.write_lines.specs.Lines.{Ends, Stretches}
+use Rattle.write_lines.specs.Lines.{Stretches}
 
 -- ---- a line for each entry of a list, one after another
 

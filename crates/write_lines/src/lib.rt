@@ -1,7 +1,5 @@
-ghost use Prim.Native.Nat.{_≤_};
 ghost use mathlib.Core.Path.{_≡_};
 ghost use lib.ListN.{length};
-ghost use Rattle.sheet.specs.Sizes.{maxSlots};
 ghost use Rattle.sheet.specs.Questions.{windowsOf, rulesOf};
 ghost use Rattle.sheet.specs.Lists.{writtenLists, unitsOf, writtenBy};
 ghost use Rattle.plan_ask.specs.Asking.{Listed};
@@ -16,7 +14,7 @@ use sheet::Sheet;
 
 // A sheet as a text of a house, written into a slice from a place on.
 
-// No text is longer: the partner's line of the span, a line of 33 bytes for each unit and one of 40 for each rule. Our own lines of units and rules are shorter.
+// No text is longer: the partner's line of the span, a line of 33 bytes for each unit and one of 40 for each rule. Our own units and rules are shorter.
 pub const MAX_TEXT: usize = 9 + 33 * Sheet::MAX_UNITS + 40 * Sheet::MAX_RULES;
 
 // How many slots long a stretch is.

@@ -43,7 +43,8 @@ returns : tie.Need-returns
 returns c =
     let d : tie.After-ask-house = c .before .before .before .before .before in
     let s = start d in
-    let told = house-told (s .args .house) (lists s) (s .pre) _ (d .ask-house .ensures) _ (ap verdictOf (c .before .before .before .asked .given .1)) (text s) in
+    let told = house-told (s .args .house) (lists s) (s .pre) _ (d .ask-house .ensures) _ (ap verdictOf (c .before .before .before .asked .given .1))
+    (text s) in
     (c .refuse .ensures .0 ∙ told .0, c .refuse .ensures .1 ∙ ap (withBytes (now (s .args .page)) 0) (told .1))
 
 returns-2 : tie.Need-returns-2

@@ -1,5 +1,5 @@
 -- The text is the front of an array of the call's own. Where the page holds it, it is written; else nothing is.
-use mathlib.Core.Path.{_≡_, refl, sym}
+use mathlib.Core.Path.{_≡_, sym}
 use mathlib.Core.List.{List}
 use Prim.Native.Nat.{ℕ, _≤_}
 use borrow.Author.Needs.{needs}

@@ -18,7 +18,8 @@ abbrev verdict : tie.Start → House → Verdict
 verdict c house = let a = c .args in firstNo (endQuestions house (a .span) (now (a .last)) (now (a .low)))
 
 -- past a yes to 17, question 18 decides
-past-carried : (c : tie.Else1) → verdict (c .before .before .before .before .before .before) Partner ≡ firstNo (askEach 18 (λ k. eqb k 0) (now (c .before .before .before .before .before .before .args .low)) ∷ [])
+past-carried : (c : tie.Else1) → let s = c .before .before .before .before .before .before in
+    verdict s Partner ≡ firstNo (askEach 18 (λ k. eqb k 0) (now (s .args .low)) ∷ [])
 past-carried c =
     let a = c .before .before .before .before .before .before .args in
     each-yes 17 (λ t. leb t (a .span)) (now (a .last)) _ (c .before .first-carried .ensures) _ (eq-eqb _ _ (c .if1 .left))

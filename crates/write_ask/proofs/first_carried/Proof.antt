@@ -42,4 +42,5 @@ returns-2 c =
 
 pub first-carried-spec : {M : Type 1} → statement M
 first-carried-spec = tie.close (tie.spec Inv-loop μ-loop (λ c. (omega arith, refl)) (λ c. omega arith) (λ c. omega arith)
-    (λ c. omega (arith, c .shared-slice-known .given (c .before .before .loop .j))) (λ c. omega arith) (λ c. omega arith) loop-again (λ c. omega arith) returns returns-2)
+    (λ c. omega (arith, c .shared-slice-known .given (c .before .before .loop .j))) (λ c. omega arith) (λ c. omega arith)
+    loop-again (λ c. omega arith) returns returns-2)

@@ -1,7 +1,7 @@
 -- The lines of the rules from j on are left to write.
 use mathlib.Core.Path.{_≡_, refl}
 use mathlib.Core.List.{List, _∷_, map}
-use Prim.Native.Nat.{ℕ, _+_, _-_, _≤_}
+use Prim.Native.Nat.{_+_, _-_, _≤_}
 use native.Mathlib.Omega.{arith}
 use denote.Ref.{now}
 use lib.ListN.{length, getD, drop}
@@ -72,4 +72,5 @@ returns c =
 
 pub put-rules-spec : {M : Type 1} → statement M
 put-rules-spec = tie.close (tie.spec Inv-loop μ-loop loop-holds (λ c. omega arith) (λ c. omega arith) (λ c. omega arith) (λ c. omega arith)
-    (λ c. omega arith) (λ c. omega arith) (λ c. omega arith) (λ c. omega arith) put-rule-requires (λ c. omega arith) (λ c. omega arith) loop-again (λ c. omega arith) returns)
+    (λ c. omega arith) (λ c. omega arith) (λ c. omega arith) (λ c. omega arith) put-rule-requires (λ c. omega arith) (λ c. omega arith)
+    loop-again (λ c. omega arith) returns)

@@ -54,5 +54,6 @@ returns c =
     (c .before .before .before .before .before .before .put-units .ensures)) (c .before .before .put-rules .ensures))
 
 pub put-sheet-spec : {M : Type 1} → statement M
-put-sheet-spec = tie.close (tie.spec cast-put-span (λ c κs. pending-room (begun (c .before .before .before .before .before .before .before .before .before))) put-units-requires put-rules-requires (λ c. search needs)
+put-sheet-spec = tie.close (tie.spec cast-put-span (λ c κs. pending-room (begun (c .before .before .before .before .before .before .before .before .before)))
+    put-units-requires put-rules-requires (λ c. search needs)
     returns)

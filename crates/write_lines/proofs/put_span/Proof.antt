@@ -1,5 +1,5 @@
 -- Whose sheet it is decides which form is written.
-use mathlib.Core.Path.{_≡_, refl, sym, subst}
+use mathlib.Core.Path.{refl, sym, subst}
 use mathlib.Core.List.{List}
 use Prim.Native.Nat.{ℕ}
 use borrow.Author.Needs.{needs}
@@ -32,7 +32,8 @@ unfolding spanText text
 returns c =
     let s = c .before .before .before .before .before .before .before .before .before in
     let put = c .before .before .put-one-number in
-    subst (λ house. Written (now (s .args .page)) (s .args .at) (line s house) (put .last .0) (put .result)) (sym (c .before .before .before .before .before .before .enum-told .given .1))
+    subst (λ house. Written (now (s .args .page)) (s .args .at) (line s house) (put .last .0) (put .result))
+    (sym (c .before .before .before .before .before .before .enum-told .given .1))
     (put .ensures)
 
 returns-2 : tie.Need-returns-2
@@ -40,9 +41,11 @@ unfolding spanText text
 returns-2 c =
     let s = c .before .before .before .before .before .before .before .before .before in
     let put = c .before .before .put-one-number2 in
-    subst (λ house. Written (now (s .args .page)) (s .args .at) (line s house) (put .last .0) (put .result)) (sym (c .before .before .before .before .before .before .enum-told2 .given .1))
+    subst (λ house. Written (now (s .args .page)) (s .args .at) (line s house) (put .last .0) (put .result))
+    (sym (c .before .before .before .before .before .before .enum-told2 .given .1))
     (put .ensures)
 
 pub put-span-spec : {M : Type 1} → statement M
 unfolding text
-put-span-spec = tie.close (tie.spec (λ c. search needs) (λ c. refl) (λ c. refl) put-one-number-requires (λ c. search needs) (λ c. refl) (λ c. refl) put-one-number-requires-2 (λ c. search needs) returns (λ c. search needs) returns-2)
+put-span-spec = tie.close (tie.spec (λ c. search needs) (λ c. refl) (λ c. refl) put-one-number-requires (λ c. search needs)
+    (λ c. refl) (λ c. refl) put-one-number-requires-2 (λ c. search needs) returns (λ c. search needs) returns-2)

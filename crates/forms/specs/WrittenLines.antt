@@ -10,15 +10,15 @@ use native.Mathlib.Omega.{arith}
 use native.Mathlib.Decide.{decLe}
 use lib.Dec.{T, eqb, leb}
 use lib.ListN.{length, length-append}
-use borrow.Author.Tests.{le-leb, leb-true, leb-false, ne-eqb}
+use borrow.Author.Tests.{le-leb, leb-true, ne-eqb}
 use Rattle.lists.specs.Lists.{every, joined}
 use Rattle.lists.specs.Members.{both, left, right, and-left, and-right, every-both}
 use Rattle.forms.specs.Words.{lineFeed, zeroDigit}
 use Rattle.forms.specs.Form.{Piece, word, number, anyBytes, isPrintable, isDigit, printable, some, plain, written}
 use Rattle.forms.specs.FormLaws.{Digits, Suits}
-use Rattle.forms.specs.Decimal.{digit, digits, formLine}
+use Rattle.forms.specs.Decimal.{digit, digits}
 use Rattle.forms.specs.DecimalLaws.{digits-one, digits-last, line-short}
 use Rattle.forms.specs.Lines.{TextLine, textLine, inFront, lines}
 
 -- ---- printable
 
