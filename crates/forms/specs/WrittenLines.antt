@@ -22,7 +22,7 @@ use Rattle.forms.specs.Lines.{TextLine, textLine, inFront, lines}
 
 -- ---- printable
 
-digit-printable : (b : ℕ) → isDigit b ≡ true → T (isPrintable b)
+pub digit-printable : (b : ℕ) → isDigit b ≡ true → T (isPrintable b)
 digit-printable b e =
     let low = leb-true 48 b (and-left (leb 48 b) (leb b 57) e) in
     let high = leb-true b 57 (and-right (leb 48 b) (leb b 57) e) in

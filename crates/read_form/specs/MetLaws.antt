@@ -10,12 +10,13 @@ use native.Mathlib.Omega.{arith}
 use native.Mathlib.Nat.{zero-add, add-zero}
 use lib.ListN.{length, getD, drop}
 use lib.Dec.{T, eqb, eqb→eq, leb, ltb}
-use borrow.Author.Tests.{eq-eqb, ne-eqb, le-leb, leb-true, ltb-true}
+use borrow.Author.Tests.{eq-eqb, ne-eqb, ltb-true}
 use Rattle.lists.specs.Lists.{every, consIf}
 use Rattle.lists.specs.Members.{both, left, right, and-left, and-right, false-not-true}
 use Rattle.forms.specs.Words.{lineFeed, text}
 use Rattle.forms.specs.Form.{isPrintable, isDigit, printable, some, leading, past, Piece, word, number, anyBytes, startsWith, matches, numbers}
 use Rattle.forms.specs.FormLaws.{Digits}
+use Rattle.forms.specs.WrittenLines.{digit-printable}
 use Rattle.forms.specs.declared.House.{House}
 use Rattle.forms.specs.declared.House.the-variants.{Ours, Partner}
 use Rattle.forms.specs.Forms.{noteForm, shortNoteForm, spanFormOf, unitFormOf, ruleFormOf}
@@ -477,12 +478,6 @@ number-way (going (way k (digit ∷ t) ∷ ws)) n = absurd n
 number-way (going (way k (more ∷ t) ∷ ws)) n = (k, t, inl refl)
 number-way (going (way k (free ∷ t) ∷ ws)) n = absurd n
 
-digit-printable : (b : ℕ) → isDigit b ≡ true → isPrintable b ≡ true
-digit-printable b d =
-    let low = leb-true 48 b (and-left (leb 48 b) (leb b 57) d) in
-    let high = leb-true b 57 (and-right (leb 48 b) (leb b 57) d) in
-    ap₂ (λ (x y : Bool). x && y) (le-leb 32 b (omega (arith, low))) (le-leb b 126 (omega (arith, high)))
-
 module _ (h : House) (q : ℕ) (hq : q < stateCount) (b : ℕ) where
   pub number-begins : isNumber (nextOf h q (classOf b)) ≡ true → isDigit b ≡ true
   number-begins n = go (isDigit b) refl
@@ -499,7 +494,7 @@ module _ (h : House) (q : ℕ) (hq : q < stateCount) (b : ℕ) where
   unfolding goes after
   digits-stay n d =
       let m = number-way (stateAt h q) (number-state h q hq n) in
-      let there = follows-among h q hq b (digit-printable b d) (m .0) (more ∷ m .1) (ap (λ (e : Bool). cond e true (goes (m .1) b)) d) (m .2) in
+      let there = follows-among h q hq b (holds (isPrintable b) (digit-printable b d)) (m .0) (more ∷ m .1) (ap (λ (e : Bool). cond e true (goes (m .1) b)) d) (m .2) in
       let same = subst (λ (u : List Sign). Among (way (m .0) u) (waysOf (stateAt h (nextOf h q (classOf b)))))
       (ap (λ (e : Bool). cond e (more ∷ m .1) (after (m .1) b)) d) there in
       omega (

@@ -1,18 +1,32 @@
 -- The words that the program takes, and what each asks for. Definitions only.
 use mathlib.Core.Path.{_≡_}
-use mathlib.Core.List.{List}
+use mathlib.Core.Logic.{_⊎_}
+use mathlib.Core.List.{List, [], _∷_}
 use Prim.Native.Nat.{ℕ}
 use Rattle.forms.specs.Words.{text}
-use Rattle.answer.specs.declared.Query.{Query}
+use Rattle.forms.specs.declared.House.the-variants.{Ours, Partner}
 use Rattle.answer.specs.declared.Query.the-variants.{Plan, Fits}
 use Rattle.wave_pipe.specs.declared.words.Asked.{Asked}
 use Rattle.wave_pipe.specs.declared.words.Asked.the-variants as asked
 
-abbrev pub wordOf : Query → List ℕ
-wordOf Plan = text "plan"
-wordOf Fits = text "fits"
+-- a word and what it asks for
+pub record Word : Type 0 where
+  pub bytes : List ℕ
+  pub asks : Asked
 
--- a word asks for the query whose word it is, and where it is no query's word for none
+abbrev pub words : List Word
+words =
+    record { bytes = text "plan"; asks = asked.Answer Ours Plan } ∷
+    record { bytes = text "fits"; asks = asked.Answer Ours Fits } ∷
+    record { bytes = text "partner"; asks = asked.Answer Partner Plan } ∷
+    record { bytes = text "from-partner"; asks = asked.Convert Partner Ours } ∷
+    record { bytes = text "to-partner"; asks = asked.Convert Ours Partner } ∷
+    []
+
+-- what the first of these that is the word asks for, and where none is, nothing that the program does
+abbrev pub FoundIn : List Word → Asked → List ℕ → Type 0
+FoundIn [] asks word = asks ≡ asked.Unknown
+FoundIn (w ∷ ws) asks word = ((word ≡ w .bytes) × (asks ≡ w .asks)) ⊎ ((word ≡ w .bytes → ⊥) × FoundIn ws asks word)
+
 abbrev pub AsksFor : Asked → List ℕ → Type 0
-AsksFor (asked.Query query) word = word ≡ wordOf query
-AsksFor asked.Unknown word = (query : Query) → word ≡ wordOf query → ⊥
+AsksFor asks word = FoundIn words asks word

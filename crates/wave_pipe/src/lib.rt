@@ -1,19 +1,25 @@
-// What the program does: it reads a sheet from standard input and writes the answer to what its word asks to standard output. The contracts of the C
-// functions say nothing of the bytes that come and go; what is promised is what a word asks for, the answer to the bytes that were read, and that all ends
-// and does nothing undefined.
+// What the program does: it reads a sheet from standard input and writes to standard output what its word asks for, an answer or the sheet in the form of
+// the other house. The contracts of the C functions say nothing of the bytes that come and go; what is promised is what a word asks for, the answer to the
+// bytes that were read, and that all ends and does nothing undefined.
+mod fault;
 mod words;
 
 ghost use Prim.Native.Nat.{_≤_};
 ghost use lib.ListN.{length, take};
-ghost use Rattle.wave_pipe.specs.Input.{InputAnswered};
+ghost use Rattle.sheet.specs.Sizes.{maxBytes};
+ghost use Rattle.wave_pipe.specs.Input.{InputAnswered, InputConverted, placeOf, lineOf};
 use answer::Query;
+use convert::Converted;
+use fault::MAX_FAULT;
 use forms::House;
+use libc::STDERR_FILENO;
 use libc::STDIN_FILENO;
 use libc::STDOUT_FILENO;
 use print_page::MAX_PAGE;
 use sheet::Sheet;
 use words::Asked;
 use words::MAX_WORD;
+use write_lines::MAX_TEXT;
 
 // One byte more than the longest text that is read, so that a longer text is known for one without its rest.
 pub const TEXT_BYTES: usize = Sheet::MAX_BYTES + 1;
@@ -23,7 +29,7 @@ fn read_words() -> Asked {
     let count = os::arg_count();
     // The first is the program's own name.
     if count < 2 {
-        return Asked::Query(Query::Plan);
+        return Asked::Answer(House::Ours, Query::Plan);
     }
     if 2 < count {
         return Asked::Unknown;
@@ -31,7 +37,7 @@ fn read_words() -> Asked {
     // A longer word comes as none, which asks for nothing.
     let mut word = [0u8; MAX_WORD];
     let n = os::arg(1, &mut word);
-    words::query_of(&word[..n])
+    words::asked_by(&word[..n])
 }
 
 // How many bytes were read, and whether a read failed on the way.
@@ -82,8 +88,40 @@ pub fn answer_input(
     answer::answer(house, query, &text[..n], page)
 }
 
+// The whole input in the form of the other house, by the n bytes that the buffer took of it.
+pub fn convert_input(
+    from: House,
+    to: House,
+    buffer: &[u8; TEXT_BYTES],
+    n: usize,
+    page: &mut [u8; MAX_TEXT],
+) -> Converted
+    requires { ⌜ n ≤ length (now buffer) ⌝ }
+    ensures { λ r. let text = now (buffer .entry) in
+        ⌜ InputConverted from to (length text) (take n text) (now (page .entry)) (now (page .exit)) r ⌝ }
+    ensures { λ r. ⌜ (placeOf r ≤ length (now (page .exit))) × (lineOf r ≤ maxBytes) ⌝ }
+{
+    let text: &[u8] = buffer;
+    convert::convert(from, to, &text[..n], page)
+}
+
+fn write_page(page: &[u8]) {
+    if !io::write_all(STDOUT_FILENO, page) {
+        os::fail(b"write");
+    }
+}
+
+// Which unit or rule a refusal by 17 or 18 is of, on standard error.
+fn show_fault(number: usize, line: usize)
+    requires { ⌜ line ≤ maxBytes ⌝ }
+{
+    let mut words = [0u8; MAX_FAULT];
+    let end = fault::put_fault(&mut words, number, line);
+    io::write_all(STDERR_FILENO, &words[..end]);
+}
+
 // From standard input to standard output.
-fn answer_pipe(query: Query) {
+fn answer_pipe(house: House, query: Query) {
     let mut text = [0u8; TEXT_BYTES];
     let input = read_text(&mut text);
     if input.failed {
@@ -91,16 +129,33 @@ fn answer_pipe(query: Query) {
         return;
     }
     let mut page = [0u8; MAX_PAGE];
-    let end = answer_input(House::Ours, query, &text, input.length, &mut page);
-    if !io::write_all(STDOUT_FILENO, &page[..end]) {
-        os::fail(b"write");
+    let end = answer_input(house, query, &text, input.length, &mut page);
+    write_page(&page[..end]);
+}
+
+fn convert_pipe(from: House, to: House) {
+    let mut text = [0u8; TEXT_BYTES];
+    let input = read_text(&mut text);
+    if input.failed {
+        os::fail(b"read");
+        return;
+    }
+    let mut page = [0u8; MAX_TEXT];
+    let converted = convert_input(from, to, &text, input.length, &mut page);
+    match converted {
+        Converted::Sheet(end) => write_page(&page[..end]),
+        Converted::Refused(refusal, end) => {
+            write_page(&page[..end]);
+            show_fault(refusal.number, refusal.line);
+        }
     }
 }
 
 pub fn run() {
     let asked = read_words();
     match asked {
-        Asked::Query(query) => answer_pipe(query),
+        Asked::Answer(house, query) => answer_pipe(house, query),
+        Asked::Convert(from, to) => convert_pipe(from, to),
         Asked::Unknown => words::show_usage(),
     }
 }

@@ -4,14 +4,16 @@ ghost use mathlib.Core.Logic.{_↔_};
 ghost use lib.Dec.{T};
 ghost use Rattle.wave_pipe.specs.Words.{AsksFor};
 use answer::Query;
+use forms::House;
 use libc::STDERR_FILENO;
 
 // No word that is taken is longer.
-pub const MAX_WORD: usize = 4;
+pub const MAX_WORD: usize = 12;
 
-// What the words ask for, or that they are none that the program takes.
+// What the words ask for: an answer to a sheet of a house, or a sheet of one house in the form of another; or that they are none that the program takes.
 pub enum Asked {
-    Query(Query),
+    Answer(House, Query),
+    Convert(House, House),
     Unknown,
 }
 
@@ -32,19 +34,31 @@ fn same(a: &[u8], b: &[u8]) -> bool
 }
 
 // What a word asks for.
-pub fn query_of(word: &[u8]) -> Asked
+pub fn asked_by(word: &[u8]) -> Asked
     ensures { λ r. ⌜ AsksFor r (now (word .entry)) ⌝ }
 {
     if same(word, b"plan") {
-        return Asked::Query(Query::Plan);
+        return Asked::Answer(House::Ours, Query::Plan);
     }
     if same(word, b"fits") {
-        return Asked::Query(Query::Fits);
+        return Asked::Answer(House::Ours, Query::Fits);
+    }
+    if same(word, b"partner") {
+        return Asked::Answer(House::Partner, Query::Plan);
+    }
+    if same(word, b"from-partner") {
+        return Asked::Convert(House::Partner, House::Ours);
+    }
+    if same(word, b"to-partner") {
+        return Asked::Convert(House::Ours, House::Partner);
     }
     Asked::Unknown
 }
 
 // The words there are, on standard error.
 pub fn show_usage() {
-    io::write_all(STDERR_FILENO, b"usage: wave [plan|fits] < SHEET\n");
+    io::write_all(
+        STDERR_FILENO,
+        b"usage: wave [plan|fits|partner|from-partner|to-partner] < SHEET\n",
+    );
 }
