@@ -9,19 +9,14 @@ use native.Mathlib.Omega.{arith}
 use lib.Dec.{leb}
 use lib.ListN.{length, take}
 use lib.Seq.{take-all, length-take-le}
-use borrow.Author.Tests.{leb-true, leb-false, lt-leb}
+use borrow.Author.Tests.{leb-true, leb-false}
 use Rattle.forms.specs.declared.House.{House}
-use Rattle.questions.specs.Questions.{no, firstNo}
-use Rattle.questions.specs.FirstNoLaws.{no-here}
 use Rattle.sheet.specs.Sizes.{maxBytes}
-use Rattle.read_ask.specs.Reading.{questions, roomsForAll, sheetIn}
+use Rattle.read_ask.specs.Reading.{sheetIn}
+use Rattle.read_whole.specs.WholeLaws.{too-long}
 use Rattle.print_bytes.specs.Writing.{refusedLine}
 use Rattle.answer.specs.declared.Query.{Query}
 use Rattle.answer.specs.Answer.{ByReading, AnswerTo}
-
-too-long : (h : House) (input : List ℕ) → maxBytes < length input → firstNo (questions h input roomsForAll) ≡ no 1 0
-unfolding questions
-too-long h input long = no-here (leb (length input) maxBytes) 1 0 _ (lt-leb (length input) maxBytes long)
 
 refused-by-1 : (h : House) (query : Query) (input bytes : List ℕ) → maxBytes < length input → AnswerTo h query input bytes ↔ (bytes ≡ refusedLine 1 0)
 refused-by-1 h query input bytes long = (

@@ -91,19 +91,20 @@ module _ (h : House) (l : WrittenLists) (y : Listed l) (told : Verdict)
 
 -- ---- what reading came to, with rooms for every sheet
 
+-- reading's verdict, and then the house's
+pub refusal-then : (from to : House) (input : List ℕ) (v : Verdict) → firstNo (questions from input roomsForAll) ≡ v
+    → refusal from to input ≡ andThen v (firstNo (houseQuestions to (constraints (sheetIn from input))))
+unfolding refusal
+refusal-then from to input = first-then (questions from input roomsForAll) (houseQuestions to (constraints (sheetIn from input)))
+
 module _ (from to : House) (input : List ℕ) (m : ListRooms (List ℕ)) (sizes : sizesOf m ≡ roomsForAll) where
   abbrev text : List ℕ
   text = sheetText to (sheetIn from input)
 
-  refusal-then : (v : Verdict) → firstNo (questions from input roomsForAll) ≡ v
-      → refusal from to input ≡ andThen v (firstNo (houseQuestions to (constraints (sheetIn from input))))
-  unfolding refusal
-  refusal-then = first-then (questions from input roomsForAll) (houseQuestions to (constraints (sheetIn from input)))
-
   pub refused-converted : (q n : ℕ) → refused q n ≡ reading from input (sizesOf m)
       → (replyBy (no q n) [] ≡ converting from to input) × (refusedLine q n ≡ converted from to input)
   refused-converted q n e =
-      let v = sym (refusal-then (no q n) (first-no from input m sizes q n e)) in
+      let v = sym (refusal-then from to input (no q n) (first-no from input m sizes q n e)) in
       (ap (λ (x : Verdict). replyBy x text) v, ap (λ (x : Verdict). bytesBy x text) v)
 
   module _ (t : Read) (e : read (t .span) (t .units) (t .rules) ≡ reading from input (sizesOf m))
@@ -116,5 +117,5 @@ module _ (from to : House) (input : List ℕ) (m : ListRooms (List ℕ)) (sizes 
         let sheet : givenBy (fronts t after) ≡ constraints w = ap givenBy are ∙ given-back w in
         let bytes : sheetText to (writtenBy (fronts t after)) ≡ text = ap (λ l. sheetText to (writtenBy l)) are ∙ ap (sheetText to) (written-back w) in
         let v : firstNo (houseQuestions to (givenBy (fronts t after))) ≡ refusal from to input =
-        ap (λ (s : Sheet). firstNo (houseQuestions to s)) sheet ∙ sym (refusal-then allYes (all-yes from input m sizes t e after lists)) in
+        ap (λ (s : Sheet). firstNo (houseQuestions to s)) sheet ∙ sym (refusal-then from to input allYes (all-yes from input m sizes t e after lists)) in
         (ap₂ replyBy v bytes, ap₂ bytesBy v bytes)

@@ -1,2 +1,3 @@
 pub mod Converting
 pub mod ConvertingLaws
+pub mod Conversion

@@ -6,12 +6,14 @@ use mathlib.Core.Bool.{Bool, true, false, _||_}
 use mathlib.Core.List.{List}
 use Prim.Native.Nat.{ℕ, _≤_, _<_}
 use native.Mathlib.Omega.{arith}
-use lib.Dec.{T, eqb, eqb→eq}
+use lib.Dec.{T, leb, eqb, eqb→eq}
 use lib.ListN.{length}
+use borrow.Author.Tests.{lt-leb}
 use Rattle.lists.specs.Lists.{within}
 use Rattle.lists.specs.Members.{within-iff}
 use Rattle.sheet.specs.declared.Sheet.{Sheet as Read}
 use Rattle.questions.specs.Questions.{Verdict, no, allYes, firstNo}
+use Rattle.questions.specs.FirstNoLaws.{no-here}
 use Rattle.sheet.specs.Sizes.{maxBytes}
 use Rattle.forms.specs.declared.House.{House}
 use Rattle.read_ask.specs.Reading.{ListRooms, roomsForAll, refused, read, reading, questions, concluded, sheetIn}
@@ -30,6 +32,11 @@ two-digits q h =
     either : (a b : Bool) → T (a || b) → T a ⊎ T b
     either true b h = inl tt
     either false b h = inr h
+
+-- a text that is longer than question 1 allows is refused by it, the first question
+pub too-long : (h : House) (input : List ℕ) → maxBytes < length input → firstNo (questions h input roomsForAll) ≡ no 1 0
+unfolding questions
+too-long h input long = no-here (leb (length input) maxBytes) 1 0 _ (lt-leb (length input) maxBytes long)
 
 -- ---- what reading comes to, with rooms for every sheet
 module _ (h : House) (input : List ℕ) (m : ListRooms (List ℕ)) (sizes : sizesOf m ≡ roomsForAll) where
