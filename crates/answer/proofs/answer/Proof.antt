@@ -1,14 +1,14 @@
 -- Reading's answer decides: its refusal is printed, or the sheet that it left at the front of the lists is answered.
 use mathlib.Core.Path.{_≡_, refl, sym, ap, _∙_}
 use mathlib.Core.List.{List}
-use Prim.Native.Nat.{ℕ}
+use Prim.Native.Nat.{ℕ, _≤_, _<_}
 use native.Mathlib.Omega.{arith}
 use denote.Ref.{now}
 use lib.ListN.{replicate}
 use Rattle.forms.specs.declared.House.{House}
 use Rattle.read_ask.specs.Reading.{ListRooms, rooms, roomsForAll, refused, read, reading, replyOf}
 use Rattle.read.specs.Rooms.{sizesOf}
-use Rattle.sheet.specs.Sizes.{maxUnits, maxRules}
+use Rattle.sheet.specs.Sizes.{maxUnits, maxRules, maxBytes}
 use Rattle.answer.specs.declared.Query.{Query}
 use Rattle.print_bytes.specs.WritingLaws.{refused-short}
 use Rattle.read_whole.specs.WholeLaws.{refused-small, read-held}
@@ -54,12 +54,17 @@ read-told : (c : tie.After-reading2)
     → let s = c .reading2 .given .0 .0 in read (s .span) (s .units) (s .rules) ≡ reading (house (sheet-call c)) (input (sheet-call c)) (sizesOf empty)
 read-told c = sym (ap replyOf (c .reading2 .given .1)) ∙ sheet-call c .read .ensures .0
 
-refuse-requires : tie.Need-refuse-requires
-refuse-requires c κs =
-    let d = c .before .before in
-    let p = refused-call d in
-    let r = refused-small (house p) (input p) empty sizes _ _ (refused-told d) in
-    (omega (arith, r .0), omega (arith, r .1))
+small : (c : tie.After-reading) → let f = c .reading .given .0 .0 in (f .number < 100) × (f .line ≤ maxBytes)
+small c = let p = refused-call c in refused-small (house p) (input p) empty sizes _ _ (refused-told c)
+
+-- the line of a refusal is short enough for the page
+put-refusal-requires : tie.Need-put-refusal-requires
+put-refusal-requires c κs =
+    let d : tie.After-reading = c .before .before .before .before in
+    let f = d .reading .given .0 .0 in
+    record {
+      fits = omega (arith, refused-short (f .number) (f .line) (small d .0) (omega (arith, small d .1)), c .before .before .put-refusal-arg .given .0 .1);
+    }
 
 answer-fronts-requires : tie.Need-answer-fronts-requires
 answer-fronts-requires c κs =
@@ -68,9 +73,9 @@ answer-fronts-requires c κs =
 
 returns : tie.Need-returns
 returns c =
-    let d = c .before .before .before in
+    let d = c .before .before .before .before .before in
     let p = refused-call d in
-    record { bytes = _; answers = refused-answer (house p) (input p) empty sizes _ _ (refused-told d) (asked p); written = c .refuse .ensures }
+    record { bytes = _; answers = refused-answer (house p) (input p) empty sizes _ _ (refused-told d) (asked p); written = c .put-refusal .ensures }
 
 returns-2 : tie.Need-returns-2
 returns-2 c =
@@ -80,5 +85,6 @@ returns-2 c =
 
 pub answer-spec : {M : Type 1} → statement M
 answer-spec = tie.close (tie.spec (λ c. search needs) (λ c. search needs) (λ c. search needs) (λ c. search needs) (λ c. search needs) (λ c. search needs)
-    (λ c. search needs) (λ c κs. search needs) (λ c. search needs) refuse-requires (λ c. search needs) (λ c. search needs) (λ c. search needs)
+    (λ c. search needs) (λ c κs. search needs) (λ c. search needs) (λ c. omega (arith, small (c .before .before .before) .0))
+    (λ c. omega (arith, small (c .before .before .before .before) .1)) put-refusal-requires (λ c. search needs) (λ c. search needs) (λ c. search needs)
     (λ c. search needs) (λ c. search needs) (λ c. search needs) (λ c. search needs) (λ c. search needs) answer-fronts-requires returns returns-2)
