@@ -1,24 +1,101 @@
--- The words in the code are the queries' own.
+-- The words in the code are those of the list, in its order.
 use borrow.Author.Needs.{needs}
-use mathlib.Core.Path.{sym, subst}
+use mathlib.Core.Path.{_≡_, refl, sym, subst}
+use mathlib.Core.Logic.{_↔_, inl, inr}
+use mathlib.Core.Bool.{Bool, true, false}
+use mathlib.Core.List.{List}
+use Prim.Native.Nat.{ℕ}
 use lib.Dec.{T}
 use Rattle.forms.specs.Words.{text}
-use Rattle.answer.specs.declared.Query.the-variants.{Plan, Fits}
-use Rattle.wave_pipe.proofs.words.query_of.Statement.{statement}
-use Rattle.wave_pipe.proofs.words.query_of.Tie as tie
+use Rattle.wave_pipe.proofs.words.asked_by.Statement.{statement}
+use Rattle.wave_pipe.proofs.words.asked_by.Tie as tie
+
+-- what a test says of the word
+is-it : {b : Bool} {v w : List ℕ} → T b ↔ (v ≡ w) → b ≡ true → v ≡ w
+is-it t e = t .0 (subst T (sym e) tt)
+
+not-it : {b : Bool} {v w : List ℕ} → T b ↔ (v ≡ w) → b ≡ false → v ≡ w → ⊥
+not-it t e s = subst T e (t .1 s)
 
 returns : tie.Need-returns
 unfolding text
-returns c = c .before .same .ensures .0 (subst T (sym (c .if1 .taken)) tt)
+returns c = inl (is-it (c .before .same .ensures) (c .if1 .taken), refl)
 
 returns-2 : tie.Need-returns-2
 unfolding text
-returns-2 c = c .before .same2 .ensures .0 (subst T (sym (c .if2 .taken)) tt)
+returns-2 c =
+    let a = c .before .before .before in
+    inr (not-it (a .before .same .ensures) (a .if1 .left), inl (is-it (c .before .same2 .ensures) (c .if2 .taken), refl))
 
 returns-3 : tie.Need-returns-3
 unfolding text
-returns-3 c Plan e = subst T (c .before .before .before .if1 .left) (c .before .before .before .before .same .ensures .1 e)
-returns-3 c Fits e = subst T (c .if2 .left) (c .before .same2 .ensures .1 e)
+returns-3 c =
+    let b = c .before .before .before in
+    let a = b .before .before .before in
+    inr (
+      not-it (a .before .same .ensures) (a .if1 .left),
+      inr (
+        not-it (b .before .same2 .ensures) (b .if2 .left),
+        inl (is-it (c .before .same3 .ensures) (c .if3 .taken), refl),
+      ),
+    )
 
-pub query-of-spec : {M : Type 1} → statement M
-query-of-spec = tie.close (tie.spec (λ c. search needs) (λ c κs. search needs) returns (λ c. search needs) (λ c κs. search needs) returns-2 returns-3)
+returns-4 : tie.Need-returns-4
+unfolding text
+returns-4 c =
+    let d = c .before .before .before in
+    let b = d .before .before .before in
+    let a = b .before .before .before in
+    inr (
+      not-it (a .before .same .ensures) (a .if1 .left),
+      inr (
+        not-it (b .before .same2 .ensures) (b .if2 .left),
+        inr (not-it (d .before .same3 .ensures) (d .if3 .left), inl (is-it (c .before .same4 .ensures) (c .if4 .taken), refl)),
+      ),
+    )
+
+returns-5 : tie.Need-returns-5
+unfolding text
+returns-5 c =
+    let e = c .before .before .before in
+    let d = e .before .before .before in
+    let b = d .before .before .before in
+    let a = b .before .before .before in
+    inr (
+      not-it (a .before .same .ensures) (a .if1 .left),
+      inr (
+        not-it (b .before .same2 .ensures) (b .if2 .left),
+        inr (
+          not-it (d .before .same3 .ensures) (d .if3 .left),
+          inr (
+            not-it (e .before .same4 .ensures) (e .if4 .left),
+            inl (is-it (c .before .same5 .ensures) (c .if5 .taken), refl),
+          ),
+        ),
+      ),
+    )
+
+returns-6 : tie.Need-returns-6
+unfolding text
+returns-6 c =
+    let e = c .before .before .before in
+    let d = e .before .before .before in
+    let b = d .before .before .before in
+    let a = b .before .before .before in
+    inr (
+      not-it (a .before .same .ensures) (a .if1 .left),
+      inr (
+        not-it (b .before .same2 .ensures) (b .if2 .left),
+        inr (
+          not-it (d .before .same3 .ensures) (d .if3 .left),
+          inr (
+            not-it (e .before .same4 .ensures) (e .if4 .left),
+            inr (not-it (c .before .same5 .ensures) (c .if5 .left), refl),
+          ),
+        ),
+      ),
+    )
+
+pub asked-by-spec : {M : Type 1} → statement M
+asked-by-spec = tie.close (tie.spec (λ c. search needs) (λ c κs. search needs) returns (λ c. search needs) (λ c κs. search needs) returns-2 (λ c. search needs) (λ c κs. search needs) returns-3 (λ c. search needs) (λ c κs. search needs) returns-4 (λ c. search needs)
+    (λ c κs. search needs) returns-5 returns-6)
