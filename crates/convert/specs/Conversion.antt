@@ -1,5 +1,5 @@
--- What is promised of converting, beyond its definition: nothing is refused by 12 or 15, what is written is no longer than the page, the first bytes decide, and
--- what goes out to a house comes back from it.
+-- What is promised of converting, beyond its definition: nothing is refused by 12 or 15, what is written is no longer than the page, the first bytes
+-- decide, and what goes out to a house comes back from it.
 -- Key idea: a refusal is reading's or the house's, each by questions of its own; a text that goes out is accepted by reading as the sheet it was.
 use mathlib.Core.Path.{_≡_, refl, sym, ap, ap₂, _∙_, subst}
 use mathlib.Core.Logic.{_⊎_, inl, inr, ⊎-elim}

@@ -2,6 +2,7 @@
 use mathlib.Core.Path.{_≡_, refl, sym, ap, _∙_}
 use mathlib.Core.List.{List}
 use Prim.Native.Nat.{ℕ}
+use native.Mathlib.Omega.{arith}
 use denote.Ref.{now}
 use lib.ListN.{replicate}
 use Rattle.read_ask.specs.Reading.{ListRooms, rooms, roomsForAll, refused, read, reading, replyOf}
@@ -49,7 +50,8 @@ refuse-requires : tie.Need-refuse-requires
 refuse-requires c κs =
     let d = c .before .before in
     let p = refused-call d in
-    refused-small (start p .args .from) (input p) empty sizes _ _ (refused-told d)
+    let r = refused-small (start p .args .from) (input p) empty sizes _ _ (refused-told d) in
+    (omega (arith, r .0), omega (arith, r .1))
 
 convert-fronts-requires : tie.Need-convert-fronts-requires
 convert-fronts-requires c κs =
