@@ -1,7 +1,7 @@
 -- Which numbers reading a line meets: those of its form, each in a state of its own (`form-met`).
 -- Key idea: the way of the line's form is among the ways of every state that is met. Where that way has the digits of a number in front, the state is that
 -- number's own, and else it is no number's: one test of every way of every state, which is computed for each house (`placed-ways`).
-use Prim.Native.Nat.{ℕ, zero, suc, _+_, _-_, _<_, _≤_}
+use Prim.Native.Nat.{ℕ, zero, suc, _+_, _-_, _<_}
 use mathlib.Core.Path.{_≡_, refl, sym, ap, ap₂, subst, _∙_}
 use mathlib.Core.Logic.{_⊎_, inl, inr, ⊎-elim}
 use mathlib.Core.Bool.{Bool, true, false, _&&_, not, cond, and-false}
@@ -21,7 +21,8 @@ use Rattle.forms.specs.declared.House.{House}
 use Rattle.forms.specs.declared.House.the-variants.{Ours, Partner}
 use Rattle.forms.specs.Forms.{noteForm, shortNoteForm, spanFormOf, unitFormOf, ruleFormOf}
 use Rattle.read_form.specs.Kinds.{shapesOf, kindOf}
-use Rattle.read_form.specs.Grid.{Sign, byte, digit, more, free, signs, fits, Way, way, goOn, over, State, ended, unprintable, going, inLine, follows, kindFrom}
+use Rattle.read_form.specs.Grid.{Sign, byte, digit, more, free, signs, fits, Way, way, goOn}
+use Rattle.read_form.specs.Grid.{over, State, ended, unprintable, going, inLine, follows, kindFrom}
 use Rattle.read_form.specs.Grid.{startWays, inDigits, inNumber, stateCount, ends, stops, states, start, stateAt, classOf, nextOf, runOf}
 use Rattle.read_form.specs.GridLaws.{signs-fit, states-length, next-inside, next-state, start-inside, start-state}
 use Rattle.read_form.specs.Met.{Met, isNumber, met, inTurn}
@@ -415,7 +416,8 @@ module _ (h : House) (l : List ℕ) where
   unfolding Among
   rule-met e =
       let t = subst (Told h l) e (told h l) in
-      form-met h Kind.Rule (ruleFormOf h) l (inr (inr (inr (inr (inl refl))))) (t .0) (t .1) ∙ ap (λ n. inTurn n (numbers (ruleFormOf h) l)) (first-numbers h .2)
+      form-met h Kind.Rule (ruleFormOf h) l (inr (inr (inr (inr (inl refl))))) (t .0) (t .1)
+      ∙ ap (λ n. inTurn n (numbers (ruleFormOf h) l)) (first-numbers h .2)
 
 -- ---- a number begins with a digit, and its digits lead to no other state
 
@@ -494,7 +496,8 @@ module _ (h : House) (q : ℕ) (hq : q < stateCount) (b : ℕ) where
   unfolding goes after
   digits-stay n d =
       let m = number-way (stateAt h q) (number-state h q hq n) in
-      let there = follows-among h q hq b (holds (isPrintable b) (digit-printable b d)) (m .0) (more ∷ m .1) (ap (λ (e : Bool). cond e true (goes (m .1) b)) d) (m .2) in
+      let there = follows-among h q hq b (holds (isPrintable b) (digit-printable b d)) (m .0) (more ∷ m .1)
+      (ap (λ (e : Bool). cond e true (goes (m .1) b)) d) (m .2) in
       let same = subst (λ (u : List Sign). Among (way (m .0) u) (waysOf (stateAt h (nextOf h q (classOf b)))))
       (ap (λ (e : Bool). cond e (more ∷ m .1) (after (m .1) b)) d) there in
       omega (

@@ -2,7 +2,7 @@
 -- Key idea: the numbers that reading meets are those of the line's form, one after the other, and so are their values (`values-are`). The questions in the
 -- code's order are `lineOf`, by the line's kind (`line-said`, `line-unended`).
 use Prim.Native.Nat.{ℕ, zero, suc, _+_, _-_, _≤_, _<_}
-use mathlib.Core.Path.{_≡_, refl, sym, ap, ap₂, subst, _∙_}
+use mathlib.Core.Path.{_≡_, refl, sym, ap, ap₂, _∙_}
 use mathlib.Core.Bool.{Bool, true, false, _&&_, cond, and-true, and-assoc}
 use mathlib.Core.List.{List, [], _∷_, map}
 use native.Mathlib.Omega.{arith}
@@ -12,7 +12,7 @@ use lib.Seq.{sets, getD-set-same, getD-set-other}
 use lib.Dec.{eqb}
 use borrow.Author.Tests.{eq-eqb, ne-eqb}
 use Rattle.lists.specs.Lists.{every}
-use Rattle.lists.specs.Members.{and-left, and-right, false-not-true}
+use Rattle.lists.specs.Members.{and-left, and-right}
 use Rattle.forms.specs.Words.{text}
 use Rattle.forms.specs.Form.{printable, plain, value, matches, numbers}
 use Rattle.forms.specs.Forms.{noteForm, shortNoteForm, spanFormOf, unitFormOf, ruleFormOf}
@@ -20,7 +20,7 @@ use Rattle.forms.specs.declared.House.{House}
 use Rattle.forms.specs.declared.House.the-variants.{Ours, Partner}
 use Rattle.read_form.specs.Kinds.{kindOf}
 use Rattle.read_form.specs.Grid.{code, ends, start}
-use Rattle.read_form.specs.Met.{Met, met, inTurn}
+use Rattle.read_form.specs.Met.{met, inTurn}
 use Rattle.read_form.specs.MetLaws.{sheet-met, unit-met, rule-met}
 use Rattle.read_form.specs.declared.Kind.{Kind}
 use Rattle.read_form.specs.declared.Kind.the-variants as Kind
@@ -156,7 +156,8 @@ module _ (h : House) (l : List ℕ) where
 
   pub line-unended : Refused (unendedFault (kindOf h l) l) ≡ lineOf h l false
   unfolding lineOf contentOf kindOf
-  line-unended = go (printable l) (matches noteForm l) (matches shortNoteForm l) (matches (spanFormOf h) l) (matches (unitFormOf h) l) (matches (ruleFormOf h) l)
+  line-unended = go (printable l) (matches noteForm l) (matches shortNoteForm l) (matches (spanFormOf h) l) (matches (unitFormOf h) l)
+      (matches (ruleFormOf h) l)
     where
       noted : (b : Bool) → Refused (cond b 3 11) ≡ cond b (Refused 3) (Refused 11)
       noted true = refl
@@ -240,7 +241,10 @@ module _ (h : House) (l before v : List ℕ) (p : Bool) (room : length before �
       let there : valued v p ≡ withNumbers (valued before true) (inTurn (ends + 4) ds) = e ∙ ap (withNumbers (valued before true)) (rule-met h l k) in
       let fits : 4 + length ds ≤ length before = omega (arith, n .1) in
       let at = value-is 4 ds before v p fits there in
-      values-are 4 ds before v p fits there _ _ (λ t. ap₂ (λ (a b : ℕ). ruleBy h a b (getD v 6 0) (getD v 7 0)) (at t 0 (omega (arith, n .0))) (at t 1 (omega (arith, n .0)))
+      values-are 4 ds before v p fits there _ _ (λ t. ap₂ (λ (a b : ℕ). ruleBy h a b (getD v 6 0) (getD v 7 0)) (at t 0 (omega (
+        arith,
+        n .0,
+      ))) (at t 1 (omega (arith, n .0)))
       ∙ ap (λ c. ruleBy h (valueAt ds 0) (valueAt ds 1) c (getD v 7 0)) (at t 2 (omega (arith, n .0))) ∙ last h t at) ∙ sym (rule-said h ds)
     where
       last : (h : House) → every plain (numbers (ruleFormOf h) l) ≡ true → ((t : every plain (numbers (ruleFormOf h) l) ≡ true) (i : ℕ)

@@ -2,8 +2,8 @@
 -- Key idea: before a line feed every digit has a byte behind it (`more-follows`), so the digits from a place on are known one by one up to the first byte
 -- that is none. A number of up to four such digits without a needless zero is plain (`few-read`), and every other is not (`zero-read`, `long-read`).
 use Prim.Native.Nat.{ℕ, suc, _+_, _-_, _≤_, _<_}
-use mathlib.Core.Path.{_≡_, refl, sym, ap, ap₂, subst, _∙_}
-use mathlib.Core.Bool.{Bool, true, false, _&&_, _||_, not, cond, and-false, or-true}
+use mathlib.Core.Path.{_≡_, refl, sym, ap, subst, _∙_}
+use mathlib.Core.Bool.{Bool, true, false, _&&_, _||_, not, cond, and-false}
 use mathlib.Core.List.{List, [], _∷_, _++_, append-nil, append-assoc}
 use native.Mathlib.Omega.{arith}
 use native.Mathlib.Decide.{decLe}
@@ -14,10 +14,9 @@ use lib.Dec.{eqb, leb, T}
 use borrow.Author.Tests.{ne-eqb, le-leb, lt-leb, leb-true}
 use Rattle.lists.specs.Members.{and-left, and-right, false-not-true}
 use Rattle.forms.specs.Words.{lineFeed}
-use Rattle.forms.specs.Form.{isDigit, leading, some, plain, value, valueFrom}
+use Rattle.forms.specs.Form.{isDigit, leading, some, plain, value}
 use Rattle.forms.specs.Lines.{hasFeed}
-use Rattle.read_number.specs.Number.{numberWith, readValue, numberRead}
-use Rattle.read_number.specs.declared.Number.{Number}
+use Rattle.read_number.specs.Number.{numberWith, numberRead}
 
 pub digit-bounds : (b : ℕ) → isDigit b ≡ true → (48 ≤ b) × (b ≤ 57)
 digit-bounds b h = (leb-true 48 b (and-left (leb 48 b) (leb b 57) h), leb-true b 57 (and-right (leb 48 b) (leb b 57) h))

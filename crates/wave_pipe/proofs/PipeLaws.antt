@@ -1,7 +1,7 @@
 -- The place past what was converted, and the line of a refusal.
 -- Key idea: both follow from the verdict, which is one of reading's or of the other house's, and the bytes stand on the page whole.
-use mathlib.Core.Path.{_≡_, refl, sym, ap, _∙_}
-use mathlib.Core.List.{List, _++_}
+use mathlib.Core.Path.{_≡_, refl, ap, _∙_}
+use mathlib.Core.List.{List}
 use Prim.Native.Nat.{ℕ, _+_, _≤_}
 use native.Mathlib.Omega.{arith}
 use lib.ListN.{length, drop, length-append}

@@ -11,19 +11,30 @@ use Rattle.read_ask.proofs.ask_text.Tie as tie
 tables-of : (h j : House) (g : List (List ℕ)) (k : List ℕ) → h ≡ j → g ≡ grid j → k ≡ classes → Tables h g k
 tables-of h j g k e f c = record { is-grid = f ∙ ap grid (sym e); is-classes = c }
 
+-- what our own arm hands on, and what the partner's does
+ours : tie.Need-pass-requires
+ours c κs =
+    let told = c .before .before .before .before .before .before in
+    let p = told .before .before .before .before .before .before .before .pre in (
+      tables-of _ _ _ _ (told .enum-told .given .1) (c .before .before .before .before .before .table .ensures)
+          (told .before .before .class-table .ensures),
+      p .0,
+      p .1,
+      p .2,
+    )
+
+partners : tie.Need-pass-requires-2
+partners c κs =
+    let told = c .before .before .before .before .before .before in
+    let p = told .before .before .before .before .before .before .before .pre in (
+      tables-of _ _ _ _ (told .enum-told2 .given .1) (c .before .before .before .before .before .table3 .ensures)
+          (told .before .before .class-table .ensures),
+      p .0,
+      p .1,
+      p .2,
+    )
+
 pub ask-text-spec : {M : Type 1} → statement M
-ask-text-spec = tie.close (tie.spec (λ c κs. search needs) (λ c. search needs) (λ c κs. search needs)
-    (λ c κs. let p = c .before .before .before .before .before .before .before .before .before .before .before .before .before .pre in (
-      tables-of _ _ _ _ (c .before .before .before .before .before .before .enum-told .given .1) (c .before .before .before .before .before .table .ensures) (c .before .before .before .before .before .before .before .before .class-table .ensures),
-      p .0,
-      p .1,
-      p .2,
-    )) (λ c. search needs) (λ c κs. search needs)
-    (λ c κs. let p = c .before .before .before .before .before .before .before .before .before .before .before .before .before .pre in (
-      tables-of _ _ _ _ (c .before .before .before .before .before .before .enum-told2 .given .1) (c .before .before .before .before .before .table3 .ensures) (c .before .before .before .before .before .before .before .before .class-table .ensures),
-      p .0,
-      p .1,
-      p .2,
-    ))
-    (λ c. search needs) (λ c. search needs) (λ c. search needs) (λ c. search needs)
-    (λ c. search needs) (λ c. search needs) (λ c. search needs) (λ c. search needs))
+ask-text-spec = tie.close (tie.spec (λ c κs. search needs) (λ c. search needs) (λ c κs. search needs) ours (λ c. search needs) (λ c κs. search needs) partners
+    (λ c. search needs) (λ c. search needs) (λ c. search needs) (λ c. search needs) (λ c. search needs) (λ c. search needs) (λ c. search needs)
+    (λ c. search needs))

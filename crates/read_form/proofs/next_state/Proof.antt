@@ -1,10 +1,10 @@
 -- The entry read is the one of the grid at the state and the byte's class. It fits its type, because every entry of a house's grid is a state.
-use Prim.Native.Nat.{ℕ, _<_}
-use mathlib.Core.Path.{_≡_, ap, sym, subst, _∙_}
+use Prim.Native.Nat.{ℕ}
+use mathlib.Core.Path.{ap, _∙_}
 use mathlib.Core.List.{List}
 use native.Mathlib.Omega.{arith}
 use borrow.Author.Needs.{needs}
-use Rattle.read_form.specs.Grid.{entryOf, classOf, stateCount}
+use Rattle.read_form.specs.Grid.{entryOf, classOf}
 use Rattle.read_form.specs.GridLaws.{next-inside}
 use Rattle.read_form.proofs.next_state.Statement.{statement}
 use Rattle.read_form.proofs.next_state.Tie as tie
@@ -20,4 +20,5 @@ small c =
     omega (arith, returns c ∙ e, next-inside (p .0 .0) (a .state) (p .1) (a .b))
 
 pub next-state-spec : {M : Type 1} → statement M
-next-state-spec = tie.close (tie.spec (λ c κs. c .pre .0 .1 .is-classes) (λ c. search needs) (λ c. c .before .pre .1) (λ c. c .class-of .ensures .1) small returns)
+next-state-spec = tie.close (tie.spec (λ c κs. c .pre .0 .1 .is-classes) (λ c. search needs) (λ c. c .before .pre .1)
+    (λ c. c .class-of .ensures .1) small returns)

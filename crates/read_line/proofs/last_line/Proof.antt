@@ -7,7 +7,7 @@ use lib.Seq.{take-all}
 use Rattle.forms.specs.LinesLaws.{rest-line}
 use Rattle.forms.specs.Words.{lineFeed}
 use Rattle.read_form.specs.Kinds.{kindOf}
-use Rattle.read_form.specs.Grid.{kindOfCode, classOf, entryOf, nextOf}
+use Rattle.read_form.specs.Grid.{kindOfCode, classOf, entryOf}
 use Rattle.read_form.specs.GridLaws.{feedless, grid-reads, kind-back}
 use Rattle.read_line.specs.Scan.{unendedFault}
 use Rattle.read_line.specs.declared.Line.the-variants.{Refused}
@@ -35,7 +35,8 @@ module _ (c : tie.After-kind-of-code) where
   whole = let a = begun .args in take-all (length (a .text .now) - a .at) (drop (a .at) (a .text .now)) (omega (arith, length-drop (a .at) (a .text .now)))
 
 pub last-line-spec : {M : Type 1} → statement M
-last-line-spec = tie.close (tie.spec (λ c κs. search needs) (λ c κs. search needs) (λ c κs. search needs) (λ c. search needs) (λ c. search needs) (λ c. search needs)
+last-line-spec = tie.close (tie.spec (λ c κs. search needs) (λ c κs. search needs) (λ c κs. search needs) (λ c. search needs) (λ c. search needs)
+    (λ c. search needs)
     (λ c κs e. let k = c .before in
     let a = begun k .args in
     omega (arith, ap length (whole k), note-bytes (a .house) (drop (a .at) (a .text .now)) (sym (kind-is k) ∙ e)))

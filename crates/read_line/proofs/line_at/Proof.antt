@@ -1,14 +1,11 @@
 -- The part that is handed on is the line that was scanned, and what is said of it by the values is what the definition says (`line-said` of LineLaws).
 use Prim.Native.Nat.{_+_, _≤_}
-use mathlib.Core.Path.{_≡_, refl, sym, ap, ap₂, _∙_}
-use mathlib.Core.Bool.{true}
+use mathlib.Core.Path.{refl, sym, ap, _∙_}
 use native.Mathlib.Omega.{arith}
-use lib.ListN.{length, drop, getD, replicate}
-use Rattle.forms.specs.Lines.{hasFeed}
-use Rattle.forms.specs.LinesLaws.{lineEnd, end-within, line-part, whole-ended, whole-within, whole-next}
-use Rattle.read_line.specs.Scan.{ScannedAs, Small, lineSaid}
+use lib.ListN.{length, replicate}
+use Rattle.forms.specs.LinesLaws.{line-part, whole-ended, whole-within, whole-next}
+use Rattle.read_line.specs.Scan.{ScannedAs, lineSaid}
 use Rattle.read_line.proofs.LineLaws.{note-bytes, line-said, zeros-small}
-use borrow.Author.Needs.{needs}
 use Rattle.read_line.proofs.line_at.Statement.{statement}
 use Rattle.read_line.proofs.line_at.Tie as tie
 
@@ -44,7 +41,8 @@ line-at-spec = tie.close (tie.spec
     (λ c. omega (arith, end-inside (c .before .before .before)))
     (λ c. let s = c .before .before .before in
     let a = begun s .args in (
-      c .read-line .ensures ∙ ap (lineSaid (a .house) (s .scan .result .kind) (s .scan .result .plain) _) (line-part (a .text .now) (a .at) _ (scanned s .is-end))
+      c .read-line .ensures
+          ∙ ap (lineSaid (a .house) (s .scan .result .kind) (s .scan .result .plain) _) (line-part (a .text .now) (a .at) _ (scanned s .is-end))
           ∙ line-said (a .house) _ (replicate 8 0) _ (s .scan .result .plain) refl (scanned s .are-values) (s .scan .result .kind) (scanned s .is-kind),
       ap (λ n. n + 1) (scanned s .is-end),
     )))

@@ -1,8 +1,8 @@
 -- The invariant: the bytes behind the place have no line feed, so the whole lines of the text are those of its front.
 use Prim.Native.Nat.{suc, _-_, _≤_}
-use mathlib.Core.Path.{_≡_, sym, ap, subst, _∙_}
+use mathlib.Core.Path.{_≡_, sym, ap, _∙_}
 use native.Mathlib.Omega.{arith}
-use lib.ListN.{length, take, getD}
+use lib.ListN.{length, take}
 use lib.Seq.{take-all}
 use borrow.Author.Tests.{eq-eqb, ne-eqb}
 use Rattle.forms.specs.Lines.{wholeLines}
@@ -39,5 +39,8 @@ returns c =
     e ∙ ap (λ n. wholeLines (take n t)) (sym e) ∙ l .inv .1
 
 pub lines-end-spec : {M : Type 1} → statement M
-lines-end-spec = tie.close (tie.spec Inv-loop μ-loop (λ c. (omega arith, ap wholeLines (take-all (length (c .args .text .now)) (c .args .text .now) (omega arith))))
+lines-end-spec = tie.close (tie.spec Inv-loop μ-loop (λ c. (
+  omega arith,
+  ap wholeLines (take-all (length (c .args .text .now)) (c .args .text .now) (omega arith)),
+))
     (λ c. omega arith) (λ c. omega arith) (λ c. omega arith) (λ c. omega arith) loop-again returns returns-2)

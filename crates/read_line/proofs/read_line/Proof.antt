@@ -30,7 +30,9 @@ read-line-spec = tie.close (tie.spec (λ c. search needs) (λ c. search needs)
     (ap (λ t. cond t Note (Refused 11)) (sym (sym (c .before .note-matched .ensures) ∙ c .if1 .left))))
     (λ c. as-kind _ _ _ _ _ _ _ (c .before .before .enum-told3 .given .1) (c .checked .ensures))
     (λ c. as-kind _ _ _ _ _ _ _ (c .before .before .before .before .before .enum-told4 .given .1)
-    (c .checked2 .ensures ∙ ap (λ l. cond (c .before .before .before .before .before .before .before .before .args .plain) l (Refused 4)) (c .before .unit-line .ensures)))
+    (c .checked2 .ensures
+    ∙ ap (λ l. cond (c .before .before .before .before .before .before .before .before .args .plain) l (Refused 4)) (c .before .unit-line .ensures)))
     (λ c. as-kind _ _ _ _ _ _ _ (c .before .before .before .before .before .before .enum-told5 .given .1)
-    (c .checked3 .ensures ∙ ap (λ l. cond (c .before .before .before .before .before .before .before .before .before .args .plain) l (Refused 4)) (c .before .rule-line .ensures)))
+    (c .checked3 .ensures
+    ∙ ap (λ l. cond (c .before .before .before .before .before .before .before .before .before .args .plain) l (Refused 4)) (c .before .rule-line .ensures)))
     (λ c. search needs))

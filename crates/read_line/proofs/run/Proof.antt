@@ -32,7 +32,8 @@ again c =
     let s = c .before .before .loop-test .taken in
     let p = z .pre .1 in (
       omega arith,
-      subst (λ q. q < stateCount) (sym (next c (p .0) (p .1))) (next-inside (p .0) (l .loop .state) (l .loop .inv .1) (getD (z .args .text .now) (l .loop .i) 0)),
+      subst (λ q. q < stateCount) (sym (next c (p .0) (p .1)))
+          (next-inside (p .0) (l .loop .state) (l .loop .inv .1) (getD (z .args .text .now) (l .loop .i) 0)),
       λ h t. run-byte h (z .args .text .now) (l .loop .i) (l .loop .state) _ s (next c h t) ∙ l .loop .inv .2 h t,
     )
 

@@ -11,7 +11,8 @@ use Rattle.forms.specs.declared.House.{House}
 use Rattle.read_form.specs.Grid.{ends, stops, Tables}
 use Rattle.read_number.specs.Number.{numberRead}
 use Rattle.read_line.specs.Scan.{Resumes, AtNumber, Small}
-use Rattle.read_line.proofs.ScanLaws.{feed-here, Gathering, resumes-start, gathered-all, next-past, next-resumes, gathered-more, small-set, number-inside}
+use Rattle.read_line.proofs.ScanLaws.{feed-here, Gathering, resumes-start, gathered-all, next-past}
+use Rattle.read_line.proofs.ScanLaws.{next-resumes, gathered-more, small-set, number-inside}
 use borrow.Author.Needs.{needs}
 use Rattle.read_line.proofs.scan.Statement.{statement}
 use Rattle.read_line.proofs.scan.Tie as tie
@@ -83,7 +84,8 @@ module _ (c : tie.After-struct-known3 Inv-loop μ-loop) where
       let r = stopped .before .before .to-stop .result .state in
       let n = read .number-at .result in
       let v = set (at-head .loop .values) (r - ends) (n .value) in
-      Resumes (a .text .now) (n .next) r × Small v × ((h : House) → Tables h (a .grid .now) (a .table .now) → Gathering h (a .text .now) (a .at) (a .values .now) (n .next) r p v)
+      Resumes (a .text .now) (n .next) r × Small v × ((h : House) → Tables h (a .grid .now) (a .table .now)
+      → Gathering h (a .text .now) (a .at) (a .values .now) (n .next) r p v)
   unfolding numberRead
   again p e =
       let z = begun at-head in

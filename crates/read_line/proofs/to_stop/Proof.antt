@@ -1,11 +1,11 @@
 -- The invariant is `Past` of ScanLaws, whichever house's tables they are: past each byte the line is read on, or that byte is the stop.
-use Prim.Native.Nat.{ℕ, _+_, _-_, _≤_, _<_}
+use Prim.Native.Nat.{ℕ, _-_, _≤_, _<_}
 use mathlib.Core.Path.{_≡_, ap, _∙_}
 use mathlib.Core.List.{List}
 use native.Mathlib.Omega.{arith}
-use lib.ListN.{length, getD}
+use lib.ListN.{length}
 use Rattle.forms.specs.declared.House.{House}
-use Rattle.read_form.specs.Grid.{classOf, entryOf, nextOf, stateCount, Tables}
+use Rattle.read_form.specs.Grid.{classOf, entryOf, nextOf, Tables}
 use Rattle.read_line.proofs.ScanLaws.{feed-here, Scanning, Past, scanning-start, past-byte}
 use Rattle.read_line.proofs.to_stop.Statement.{statement}
 use Rattle.read_line.proofs.to_stop.Tie as tie

@@ -2,7 +2,7 @@
 use Prim.Native.Nat.{_+_}
 use mathlib.Core.Path.{_≡_, refl, sym, ap, subst, _∙_}
 use mathlib.Core.Bool.{true, false, not}
-use mathlib.Core.List.{List, [], _∷_}
+use mathlib.Core.List.{[], _∷_}
 use native.Mathlib.Omega.{arith}
 use lib.ListN.{length, getD, drop}
 use lib.Dec.{eqb}
@@ -51,14 +51,16 @@ no-zero c =
     ap not (ne-eqb (getD (a .s .now) (a .at) 0) 48 (λ e. c .if2 .left (omega (arith, d, e))))
 
 -- the digits are known to be all
-all-one : (c : tie.Then1) → let a = c .before .before .before .before .before .before .args in leading (drop (a .at) (a .s .now)) ≡ getD (a .s .now) (a .at) 0 ∷ []
+all-one : (c : tie.Then1)
+    → let a = c .before .before .before .before .before .before .args in leading (drop (a .at) (a .s .now)) ≡ getD (a .s .now) (a .at) 0 ∷ []
 all-one c = upto-all _ _ 1 _ (one (c .before .before .before .before .before .before)) (sym (c .before .is-digit .ensures) ∙ not-true _ (c .if1 .taken))
 
 returns : tie.Need-returns
 unfolding valueFrom
 returns c =
     let a = c .before .before .before .before .before .before .args in (
-      few-read _ [] _ (a .at) (omega arith) refl (omega (arith, c .before .before .before .digit .ensures .0)) ∙ ap (λ ds. numberRead ds (a .at)) (sym (all-one c)),
+      few-read _ [] _ (a .at) (omega arith) refl (omega (arith, c .before .before .before .digit .ensures .0))
+          ∙ ap (λ ds. numberRead ds (a .at)) (sym (all-one c)),
       omega (arith, c .before .before .before .digit .ensures .1),
     )
 
@@ -66,7 +68,11 @@ returns-2 : tie.Need-returns-2
 returns-2 c =
     let e = c .before .before in
     let a = start e .args in
-    let z : getD (a .s .now) (a .at) 0 ≡ 48 = omega (arith, e .before .before .before .digit .ensures .0, digit-bounds (getD (a .s .now) (a .at) 0) (start e .pre .1)) in
+    let z : getD (a .s .now) (a .at) 0 ≡ 48 = omega (
+      arith,
+      e .before .before .before .digit .ensures .0,
+      digit-bounds (getD (a .s .now) (a .at) 0) (start e .pre .1),
+    ) in
     let ds = two e .digits in
     let f = ds ∙ ap (λ x. x ∷ getD (a .s .now) (a .at + 1) 0 ∷ leading (drop (a .at + 2) (a .s .now))) z in (
       c .faulty .ensures ∙ subst (λ l. numberWith 0 false (a .at + length l) ≡ numberRead l (a .at)) (sym f) (zero-read _ _ (a .at)),
@@ -129,7 +135,10 @@ pub number-at-spec : {M : Type 1} → statement M
 number-at-spec = tie.close (tie.spec
     (λ c. omega (arith, upto-inside _ _ 1 _ (one (c .before .before)))) (λ c. omega (arith, c .shared-slice-known2 .given (c .before .before .args .at)))
     (λ c κs. search needs) (λ c. omega (arith, upto-inside _ _ 1 _ (one (c .before .before .before))))
-    (λ c. upto-inside _ _ 1 _ (one (c .before .before .before .before))) (λ c. omega (arith, c .shared-slice-known3 .given (c .before .before .before .before .args .at + 1)))
+    (λ c. upto-inside _ _ 1 _ (one (c .before .before .before .before))) (λ c. omega (
+      arith,
+      c .shared-slice-known3 .given (c .before .before .before .before .args .at + 1),
+    ))
     (λ c κs. search needs) (λ c. search needs) (λ c. omega (arith, upto-inside _ _ 1 _ (one (c .before .before .before .before .before .before)))) returns
     (λ c κs. search needs) returns-2 (λ c. search needs)
     (λ c κs. sym (c .before .before .is-digit .ensures) ∙ not-false _ (c .before .if1 .left)) (λ c. search needs)

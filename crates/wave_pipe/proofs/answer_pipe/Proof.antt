@@ -6,5 +6,6 @@ use Rattle.wave_pipe.proofs.answer_pipe.Statement.{statement}
 use Rattle.wave_pipe.proofs.answer_pipe.Tie as tie
 
 pub answer-pipe-spec : {M : Type 1} → statement M
-answer-pipe-spec = tie.close (tie.spec (λ c. search needs) (λ c κs. search needs) (λ c. search needs) (λ c κs. search needs) (λ c. search needs) (λ c κs. search needs) (λ c. search needs)
+answer-pipe-spec = tie.close (tie.spec (λ c. search needs) (λ c κs. search needs) (λ c. search needs) (λ c κs. search needs) (λ c. search needs)
+    (λ c κs. search needs) (λ c. search needs)
     (λ c. sym (length-take-le _ _ (c .before .answer-input .ensures .1))) (λ c κs. search needs) (λ c. search needs))

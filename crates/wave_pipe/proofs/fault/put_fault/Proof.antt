@@ -61,6 +61,7 @@ returns-2 c =
 pub put-fault-spec : {M : Type 1} → statement M
 unfolding text
 put-fault-spec = tie.close (tie.spec (λ c. search needs) (λ c. search needs) (λ c. search needs)
-    (λ c κs. room (text "unit ") _ _ refl (c .before .before .before .before .pre) (c .before .before .put-one-number-arg .given .0 .1)) (λ c. search needs) (λ c. search needs) (λ c. search needs)
+    (λ c κs. room (text "unit ") _ _ refl (c .before .before .before .before .pre) (c .before .before .put-one-number-arg .given .0 .1))
+    (λ c. search needs) (λ c. search needs) (λ c. search needs)
     (λ c κs. room (text "rule ") _ _ refl (c .before .before .before .before .pre) (c .before .before .put-one-number-arg4 .given .0 .1)) returns returns-2
     (λ c. (as-none _ _ _ (c .match .rest .0 .1) (c .match .rest .1), omega arith)))
