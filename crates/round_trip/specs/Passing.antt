@@ -134,36 +134,36 @@ module _ (h : House) (span : ℕ) (most : span ≤ maxSlots) where
 
   -- ---- all of them
 
-  rules-pass : (todo : List Rule) (xs : List Content) (us : List SheetUnit) (done : List Rule) → SoFar xs span us done
-      → ((j : ℕ) → j < length todo → OutRule h span (getD todo j noRule)) → length us ≤ maxUnits → length done + length todo ≤ maxRules
-      → Passes h xs (map ruleLine todo) span us (done ++ todo)
+  rules-pass : (ahead : List Rule) (xs : List Content) (us : List SheetUnit) (done : List Rule) → SoFar xs span us done
+      → ((j : ℕ) → j < length ahead → OutRule h span (getD ahead j noRule)) → length us ≤ maxUnits → length done + length ahead ≤ maxRules
+      → Passes h xs (map ruleLine ahead) span us (done ++ ahead)
   rules-pass [] xs us done s out units few = subst (Passes h xs [] span us) (sym (append-nil done)) (passes-end s)
-  rules-pass (r ∷ todo) xs us done s out units few =
+  rules-pass (r ∷ ahead) xs us done s out units few =
       let o = out 0 (omega arith) in
       let x = rule (map digits (ruleNumbers h r)) (r .from) (r .to) (r .low) (r .high) in
       let next = subst (λ vs. SoFar (xs ++ (x ∷ [])) span vs (done ++ (r ∷ []))) (append-nil us) (more x s refl (λ p. refl)) in
       passes-next (rule-line span most r (o .fits) h (o .low-kept)) (rule-asked xs us done r s o units (omega arith))
-      (subst (Passes h (xs ++ (x ∷ [])) (map ruleLine todo) span us) (append-assoc done (r ∷ []) todo)
-      (rules-pass todo (xs ++ (x ∷ [])) us (done ++ (r ∷ [])) next (λ j l. out (suc j) (omega arith)) units
+      (subst (Passes h (xs ++ (x ∷ [])) (map ruleLine ahead) span us) (append-assoc done (r ∷ []) ahead)
+      (rules-pass ahead (xs ++ (x ∷ [])) us (done ++ (r ∷ [])) next (λ j l. out (suc j) (omega arith)) units
       (omega (arith, length-append done (r ∷ [])))))
 
-  units-pass : (todo : List SheetUnit) (xs : List Content) (done : List SheetUnit) (rest : List TextLine) (all : List SheetUnit) (rs : List Rule)
-      → done ++ todo ≡ all → SoFar xs span done [] → ((j : ℕ) → j < length todo → OutUnit h span (getD todo j noUnit))
-      → T (allNew (map (λ u. u .loader) done) (map (λ u. u .loader) todo)) → length done + length todo ≤ maxUnits
-      → ((ys : List Content) → SoFar ys span all [] → Passes h ys rest span all rs) → Passes h xs (map unitLine todo ++ rest) span all rs
+  units-pass : (ahead : List SheetUnit) (xs : List Content) (done : List SheetUnit) (rest : List TextLine) (all : List SheetUnit) (rs : List Rule)
+      → done ++ ahead ≡ all → SoFar xs span done [] → ((j : ℕ) → j < length ahead → OutUnit h span (getD ahead j noUnit))
+      → T (allNew (map (λ u. u .loader) done) (map (λ u. u .loader) ahead)) → length done + length ahead ≤ maxUnits
+      → ((ys : List Content) → SoFar ys span all [] → Passes h ys rest span all rs) → Passes h xs (map unitLine ahead ++ rest) span all rs
   unfolding allNew
   units-pass [] xs done rest all rs e s out new few last =
       last xs (subst (λ us. SoFar xs span us []) (sym (append-nil done) ∙ e) s)
-  units-pass (u ∷ todo) xs done rest all rs e s out new few last =
+  units-pass (u ∷ ahead) xs done rest all rs e s out new few last =
       let o = out 0 (omega arith) in
       let k = u .loader in
       let ks = map (λ (v : SheetUnit). v .loader) done in
-      let js = map (λ (v : SheetUnit). v .loader) todo in
+      let js = map (λ (v : SheetUnit). v .loader) ahead in
       let x = unit (map digits (unitNumbers h u)) k (u .window .first) (u .window .last) in
       let here : T (isNew ks k) = left (isNew ks k) (allNew (ks ++ (k ∷ [])) js) new in
       let later = right (isNew ks k) (allNew (ks ++ (k ∷ [])) js) new in
       passes-next (unit-line span most u (o .fits) h) (unit-asked xs done u s o here (omega arith))
-      (units-pass todo (xs ++ (x ∷ [])) (done ++ (u ∷ [])) rest all rs (append-assoc done (u ∷ []) todo ∙ e) (more x s refl (λ p. refl))
+      (units-pass ahead (xs ++ (x ∷ [])) (done ++ (u ∷ [])) rest all rs (append-assoc done (u ∷ []) ahead ∙ e) (more x s refl (λ p. refl))
       (λ j l. out (suc j) (omega arith)) (subst (λ is. T (allNew is js)) (sym (map-append (λ (v : SheetUnit). v .loader) done (u ∷ []))) later)
       (omega (arith, length-append done (u ∷ []))) last)
 

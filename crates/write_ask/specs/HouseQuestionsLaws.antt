@@ -3,13 +3,13 @@
 use mathlib.Core.Path.{_≡_, refl, sym, ap, ap₂, _∙_}
 use mathlib.Core.Bool.{Bool, true, false, _&&_, cond}
 use mathlib.Core.List.{List, [], _∷_}
-use Prim.Native.Nat.{ℕ, suc, _+_, _≤_, _<_}
+use Prim.Native.Nat.{ℕ, zero, suc, _+_, _≤_, _<_}
 use native.Mathlib.Omega.{arith}
 use native.Mathlib.Numerals.{add-one}
-use lib.Dec.{eqb}
+use lib.Dec.{leb, eqb}
 use lib.ListN.{length, getD, drop, drop-of-length-le}
 use lib.Seq.{drop-cons}
-use borrow.Author.Tests.{ne-eqb}
+use borrow.Author.Tests.{lt-leb, ne-eqb}
 use Rattle.lists.specs.Lists.{every}
 use Rattle.questions.specs.Questions.{Question, no, firstNo}
 use Rattle.questions.specs.FirstNoLaws.{no-here, yes-here}
@@ -49,6 +49,19 @@ every-none t i (x ∷ xs) = go (t x) (every-none t (suc i) xs)
         → (b && every t xs) ≡ eqb (cond b (faultFrom t (suc (suc i)) xs) (suc i)) 0
     go true e = e
     go false e = sym (ne-eqb (suc i) 0 (λ z. omega arith))
+
+-- two tests that say the same have the same first place at fault
+fault-same : {A : Type 0} (t u : A → Bool) → ((x : A) → t x ≡ u x) → (i : ℕ) (xs : List A) → faultFrom t i xs ≡ faultFrom u i xs
+fault-same t u e i [] = refl
+fault-same t u e i (x ∷ xs) = ap₂ (λ (b : Bool) (n : ℕ). cond b n i) (e x) (fault-same t u e (suc i) xs)
+
+none-past : (k : ℕ) → leb k 0 ≡ eqb k 0
+none-past zero = refl
+none-past (suc k) = lt-leb (suc k) 0 (omega arith) ∙ sym (ne-eqb (suc k) 0 (λ z. omega arith))
+
+-- past 0 is what is not 0
+pub fault-past : (ks : List ℕ) → firstAtFault (λ k. leb k 0) ks ≡ firstAtFault (λ k. eqb k 0) ks
+fault-past ks = fault-same (λ k. leb k 0) (λ k. eqb k 0) none-past _ ks
 
 -- so the question is answered by the place that was found
 module _ {A : Type 0} (q : ℕ) (t : A → Bool) (xs : List A) (found : ℕ) (is : found ≡ firstAtFault t xs) (qs : List Question) where

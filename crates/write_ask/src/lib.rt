@@ -1,5 +1,5 @@
 ghost use mathlib.Core.Path.{_≡_};
-ghost use lib.Dec.{leb, eqb};
+ghost use lib.Dec.{leb};
 ghost use Rattle.questions.specs.Questions.{firstNo, verdictOf};
 ghost use Rattle.write_ask.specs.HouseQuestions.{firstAtFault, endQuestions};
 use forms::House;
@@ -8,28 +8,13 @@ use questions::Refusal;
 
 // What is asked of a sheet before it goes out as a text of a house.
 
-// The first unit, counted from 1, that may be carried: its window ends past the span. 0 where there is none.
-fn first_carried(span: usize, last: &[u16]) -> usize
-    ensures { λ r. ⌜ r ≡ firstAtFault (λ t. leb t span) (now (last .entry)) ⌝ }
+// The first place of a list, counted from 1, whose number is past the most allowed. 0 where there is none.
+fn first_past(xs: &[u16], most: usize) -> usize
+    ensures { λ r. ⌜ r ≡ firstAtFault (λ x. leb x most) (now (xs .entry)) ⌝ }
 {
     let mut j: usize = 0;
-    while j < last.len() {
-        if last[j] as usize <= span {
-            j += 1;
-        } else {
-            return j + 1;
-        }
-    }
-    0
-}
-
-// The first rule, counted from 1, with a low that is not 0. 0 where there is none.
-fn first_with_low(low: &[u16]) -> usize
-    ensures { λ r. ⌜ r ≡ firstAtFault (λ k. eqb k 0) (now (low .entry)) ⌝ }
-{
-    let mut j: usize = 0;
-    while j < low.len() {
-        if low[j] == 0 {
+    while j < xs.len() {
+        if xs[j] as usize <= most {
             j += 1;
         } else {
             return j + 1;
@@ -45,14 +30,14 @@ pub fn ask_house(house: House, span: usize, last: &[u16], low: &[u16]) -> Checke
     match house {
         House::Ours => Checked::Yes,
         House::Partner => {
-            let carried = first_carried(span, last);
+            let carried = first_past(last, span);
             if carried != 0 {
                 return Checked::No(Refusal {
                     number: 17,
                     line: carried,
                 });
             }
-            let with_low = first_with_low(low);
+            let with_low = first_past(low, 0);
             if with_low != 0 {
                 return Checked::No(Refusal {
                     number: 18,

@@ -9,7 +9,7 @@ use Rattle.questions.specs.Questions.{Verdict, firstNo}
 use Rattle.forms.specs.declared.House.{House}
 use Rattle.forms.specs.declared.House.the-variants.{Partner}
 use Rattle.write_ask.specs.HouseQuestions.{askEach, endQuestions}
-use Rattle.write_ask.specs.HouseQuestionsLaws.{each-no, each-yes}
+use Rattle.write_ask.specs.HouseQuestionsLaws.{fault-past, each-no, each-yes}
 use Rattle.write_ask.proofs.ask_house.Statement.{statement}
 use Rattle.write_ask.proofs.ask_house.Tie as tie
 
@@ -22,20 +22,20 @@ past-carried : (c : tie.Else1) → let s = c .before .before .before .before .be
     verdict s Partner ≡ firstNo (askEach 18 (λ k. eqb k 0) (now (s .args .low)) ∷ [])
 past-carried c =
     let a = c .before .before .before .before .before .before .args in
-    each-yes 17 (λ t. leb t (a .span)) (now (a .last)) _ (c .before .first-carried .ensures) _ (eq-eqb _ _ (c .if1 .left))
+    each-yes 17 (λ t. leb t (a .span)) (now (a .last)) _ (c .before .first-past .ensures) _ (eq-eqb _ _ (c .if1 .left))
 
 returns : tie.Need-returns
 returns c =
     let s = c .before .before .before .before .before .before in
     let a = s .args in
     sym (ap (verdict s) (c .before .before .enum-told2 .given .1)
-    ∙ each-no 17 (λ t. leb t (a .span)) (now (a .last)) _ (c .before .first-carried .ensures) _ (ne-eqb _ _ (c .if1 .taken)))
+    ∙ each-no 17 (λ t. leb t (a .span)) (now (a .last)) _ (c .before .first-past .ensures) _ (ne-eqb _ _ (c .if1 .taken)))
 
 returns-2 : tie.Need-returns-2
 returns-2 c =
     let s = c .before .before .before .before .before .before .before .before in
     sym (ap (verdict s) (c .before .before .before .before .enum-told2 .given .1) ∙ past-carried (c .before .before)
-    ∙ each-no 18 (λ k. eqb k 0) (now (s .args .low)) _ (c .before .first-with-low .ensures) [] (ne-eqb _ _ (c .if2 .taken)))
+    ∙ each-no 18 (λ k. eqb k 0) (now (s .args .low)) _ (c .before .first-past2 .ensures ∙ fault-past (now (s .args .low))) [] (ne-eqb _ _ (c .if2 .taken)))
 
 returns-3 : tie.Need-returns-3
 unfolding firstNo
@@ -46,7 +46,7 @@ unfolding firstNo
 returns-4 c =
     let s = c .before .before .before .before .before .before .before .before in
     sym (ap (verdict s) (c .before .before .before .before .enum-told2 .given .1) ∙ past-carried (c .before .before)
-    ∙ each-yes 18 (λ k. eqb k 0) (now (s .args .low)) _ (c .before .first-with-low .ensures) [] (eq-eqb _ _ (c .if2 .left)))
+    ∙ each-yes 18 (λ k. eqb k 0) (now (s .args .low)) _ (c .before .first-past2 .ensures ∙ fault-past (now (s .args .low))) [] (eq-eqb _ _ (c .if2 .left)))
 
 pub ask-house-spec : {M : Type 1} → statement M
 ask-house-spec = tie.close (tie.spec (λ c. search needs) (λ c. search needs) (λ c κs. search needs) returns (λ c κs. search needs) returns-2 returns-3
