@@ -5,15 +5,15 @@ use mathlib.Core.List.{List}
 use Prim.Native.Nat.{ℕ}
 use lib.Dec.{T}
 use Rattle.forms.specs.declared.House.{House}
-use Rattle.network.specs.Table.{Passed, finished, stopped}
+use Rattle.network_pass.specs.Pass.{Passed, finished, stopped}
 use Rattle.sheet.specs.Sheet.{Sheet, WrittenSheet, constraints, loaders, isRing}
 use Rattle.questions.specs.Questions.{Verdict, no, allYes, firstNo}
-use Rattle.read_ask.specs.Reading.{questions, roomsForAll, sheetIn}
-use Rattle.plan_solve.specs.Planning.{passed}
+use Rattle.read_questions.specs.Reading.{questions, roomsForAll, sheetIn}
+use Rattle.plan_steps.specs.Closing.{passed}
 use Rattle.print_bytes.specs.Writing.{Written, refusedLine}
 use Rattle.pages.specs.SheetPages.{planBytes, fitsBytes, ringBytes}
-use Rattle.answer.specs.declared.Query.{Query}
-use Rattle.answer.specs.declared.Query.the-variants.{Plan, Fits}
+use Rattle.wave_words.specs.declared.Query.{Query}
+use Rattle.wave_words.specs.declared.Query.the-variants.{Plan, Fits}
 
 -- the page of a sheet that fits, by what is asked of it: its plan, with its units' loader numbers, or its slots' ranges alone
 abbrev pub pageOf : Query → List ℕ → Sheet → List ℕ

@@ -12,18 +12,19 @@ use lib.Dec.{T}
 use lib.ListN.{length, length-map}
 use Rattle.forms.specs.declared.House.{House}
 use Rattle.network.specs.Network.{Weights}
-use Rattle.network.specs.Table.{Passed, finished, stopped, entry}
+use Rattle.network.specs.Table.{entry}
+use Rattle.network_pass.specs.Pass.{Passed, finished, stopped}
 use Rattle.sheet.specs.Sheet.{Sheet, WrittenSheet, constraints, loaders, lawful, boundaries, printedPlan}
 use Rattle.sheet.specs.QuestionLaws.{accepted-valid}
 use Rattle.sheet.specs.Solved.{Solved}
-use Rattle.read_ask.specs.Reading.{questions, roomsForAll, sheetIn}
+use Rattle.read_questions.specs.Reading.{questions, roomsForAll, sheetIn}
 use Rattle.questions.specs.Questions.{Verdict, no, allYes, firstNo}
-use Rattle.read_ask.specs.AcceptedLaws.{reading-accepts, reading-loaders}
-use Rattle.read_ask.specs.RefusalLaws.{asksText, reading-refusals}
+use Rattle.read_questions.specs.AcceptedLaws.{reading-accepts, reading-loaders}
+use Rattle.read_questions.specs.RefusalLaws.{asksText, reading-refusals}
 use Rattle.plan_ask.specs.Questions.{refusalBy}
 use Rattle.plan_ask.specs.SolvableLaws.{yes-asked}
-use Rattle.plan_solve.specs.Planning.{passed}
-use Rattle.plan_solve.specs.PlanningLaws.{passed-solved}
+use Rattle.plan_steps.specs.Closing.{passed}
+use Rattle.plan_steps.specs.PassedLaws.{passed-solved}
 use Rattle.pages.specs.Page.{maxPage}
 use Rattle.pages.specs.PageBounds.{plan-short, fits-short, none-short}
 use Rattle.pages.specs.PageLines.{Said, refused, readLines, answerOn}
@@ -31,8 +32,8 @@ use Rattle.pages.specs.PageLinesLaws.{refused-read, answer-read}
 use Rattle.pages.specs.SheetPages.{planBytes, fitsBytes, ringBytes}
 use Rattle.pages.specs.Pages.{PlanPage, FitsPage, NonePage}
 use Rattle.pages.specs.PagesLaws.{plan-page, fits-page, none-page}
-use Rattle.answer.specs.declared.Query.{Query}
-use Rattle.answer.specs.declared.Query.the-variants.{Plan, Fits}
+use Rattle.wave_words.specs.declared.Query.{Query}
+use Rattle.wave_words.specs.declared.Query.the-variants.{Plan, Fits}
 use Rattle.answer.specs.Answer.{pageOf, ByPass, ByReading, AnswerTo, Answered}
 use Rattle.print_bytes.specs.WritingLaws.{refused-short}
 use Rattle.read_whole.specs.FrontsLaws.{listsOf, passes-back}

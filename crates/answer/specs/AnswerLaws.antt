@@ -7,7 +7,7 @@ use native.Mathlib.Omega.{arith}
 use lib.ListN.{length, drop, length-append}
 use Rattle.sheet.specs.Sheet.{constraints, loaders}
 use Rattle.sheet.specs.declared.Sheet.{Sheet as Read}
-use Rattle.read_ask.specs.Reading.{ListRooms, roomsForAll, refused, read, reading, sheetIn}
+use Rattle.read_questions.specs.Reading.{ListRooms, roomsForAll, refused, read, reading, sheetIn}
 use Rattle.read.specs.Rooms.{sizesOf, roomsAfter}
 use Rattle.read_whole.specs.Fronts.{fronts}
 use Rattle.read_whole.specs.FrontsLaws.{given-back}
@@ -15,7 +15,7 @@ use Rattle.read_whole.specs.WholeLaws.{first-no, all-yes, read-lists}
 use Rattle.sheet.specs.Lists.{givenBy}
 use Rattle.forms.specs.declared.House.{House}
 use Rattle.print_bytes.specs.Writing.{withBytes, refusedLine}
-use Rattle.answer.specs.declared.Query.{Query}
+use Rattle.wave_words.specs.declared.Query.{Query}
 use Rattle.answer.specs.Answer.{AnswerToSheet, ByReading, AnswerTo, Answered}
 
 -- ---- what reading comes to, with rooms for every sheet

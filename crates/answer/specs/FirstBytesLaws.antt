@@ -12,10 +12,10 @@ use lib.Seq.{take-all, length-take-le}
 use borrow.Author.Tests.{leb-true, leb-false}
 use Rattle.forms.specs.declared.House.{House}
 use Rattle.sheet.specs.Sizes.{maxBytes}
-use Rattle.read_ask.specs.Reading.{sheetIn}
+use Rattle.read_questions.specs.Reading.{sheetIn}
 use Rattle.read_whole.specs.WholeLaws.{too-long}
 use Rattle.print_bytes.specs.Writing.{refusedLine}
-use Rattle.answer.specs.declared.Query.{Query}
+use Rattle.wave_words.specs.declared.Query.{Query}
 use Rattle.answer.specs.Answer.{ByReading, AnswerTo}
 
 refused-by-1 : (h : House) (query : Query) (input bytes : List ℕ) → maxBytes < length input → AnswerTo h query input bytes ↔ (bytes ≡ refusedLine 1 0)

@@ -10,26 +10,28 @@ use lib.Dec.{T}
 use lib.ListN.{length, take}
 use lib.Seq.{length-take-le}
 use lib.IntN.{ℤ}
-use Rattle.network.specs.Table.{finished, stopped, entry, maxBoundaries}
+use Rattle.network.specs.Table.{entry, maxBoundaries}
+use Rattle.network_pass.specs.Pass.{finished, stopped}
 use Rattle.sheet.specs.Sizes.{maxSlots, maxUnits, maxCells, boundariesOf}
 use Rattle.sheet.specs.Sheet.{Sheet, isRing}
 use Rattle.sheet.specs.Questions.{sheetOf, loadersFit}
 use Rattle.sheet.specs.QuestionLaws.{accepted-sized}
 use Rattle.sheet.specs.Lists.{Lists, given}
 use Rattle.limits.specs.LimitTable.{limitTable, Fillable}
-use Rattle.plan_ask.specs.Questions.{Rooms, lent, DecideRooms, decideRooms, planLent, decideLent, roomsFit}
+use Rattle.plan_rooms.specs.Rooms.{Rooms, lent, DecideRooms, decideRooms, planLent, decideLent, roomsFit}
+use Rattle.plan_rooms.specs.RoomsLaws.{decide-hold, decision-for-all}
 use Rattle.plan_ask.specs.Asking.{Solvable}
-use Rattle.plan_ask.specs.RoomsLaws.{decide-hold, decision-for-all}
-use Rattle.plan_solve.specs.Planning.{passed, byPass, Settled, DecideSettled}
+use Rattle.plan_steps.specs.Closing.{passed}
+use Rattle.plan_solve.specs.Planning.{byPass, Settled, DecideSettled}
 use Rattle.plan_solve.specs.SolvingLaws.{limits-asked, decided-fits, decided-none}
 use Rattle.plan_solve.specs.Reply as says
 use Rattle.print_bytes.specs.Writing.{Room, Written}
 use Rattle.pages.specs.Page.{maxPage, Printable, tablePage, fitsPage, leastFrom, greatestFrom, RingFits, nonePage}
 use Rattle.pages.specs.PageBounds.{fits-short}
 use Rattle.pages.specs.SheetPages.{planBytes, fitsBytes, ringBytes}
-use Rattle.print.specs.BytesLaws.{places-span, table-size, plan-bytes, fits-bytes, ring-printable, ring-bytes, ring-fits}
-use Rattle.print.specs.OwnLaws.{ownRooms, own-solvable, Front, front, PlanFronts, units-are, none-own, plan-asked}
-use Rattle.answer.specs.declared.Query.{Query}
+use Rattle.print_solved.specs.BytesLaws.{places-span, table-size, plan-bytes, fits-bytes, ring-printable, ring-bytes, ring-fits}
+use Rattle.print_solved.specs.OwnLaws.{ownRooms, own-solvable, Front, front, PlanFronts, units-are, none-own, plan-asked}
+use Rattle.wave_words.specs.declared.Query.{Query}
 use Rattle.answer.specs.Answer.{pageOf, ByPass, AnswerToSheet, Answered}
 
 -- ---- how the pass ended decides what answers the query

@@ -8,7 +8,7 @@ ghost use Rattle.sheet.specs.Questions.{sheetOf};
 ghost use Rattle.sheet.specs.Lists.{listed, writtenLists, givenBy};
 ghost use Rattle.limits.specs.LimitTable.{Fillable};
 ghost use Rattle.plan_ask.specs.Asking.{Listed, Solvable};
-ghost use Rattle.read_ask.specs.Reading.{rooms};
+ghost use Rattle.read_questions.specs.Reading.{rooms};
 ghost use Rattle.print_bytes.specs.Writing.{Written};
 ghost use Rattle.pages.specs.SheetPages.{ringBytes};
 ghost use Rattle.answer.specs.Answer.{AnswerToSheet, AnswerTo, Answered};
@@ -16,14 +16,9 @@ ghost use Rattle.read_whole.specs.Fronts.{fronts, Held};
 use forms::House;
 use plan_solve::Fit;
 use print_page::MAX_PAGE;
-use read_ask::Reading;
+use read_questions::Reading;
 use sheet::Sheet;
-
-// What is asked of a sheet: its plan, or only whether there is one and how many units each slot may have.
-pub enum Query {
-    Plan,
-    Fits,
-}
+use wave_words::Query;
 
 // The page of a ring. Its limits are the sheet's own, which are worked out again.
 fn put_ring(

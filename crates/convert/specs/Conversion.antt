@@ -24,9 +24,9 @@ use Rattle.sheet_texts.specs.SheetTextLaws.{text-short}
 use Rattle.write_ask.specs.HouseQuestions.{houseQuestions}
 use Rattle.print_bytes.specs.Writing.{refusedLine}
 use Rattle.print_bytes.specs.WritingLaws.{refused-short}
-use Rattle.read_ask.specs.Reading.{passQuestions, questions, listsFit, roomsForAll, sheetIn}
-use Rattle.read_ask.specs.AcceptedLaws.{reading-accepts, reading-loaders}
-use Rattle.read_ask.specs.RefusalLaws.{asksText, reading-refusals}
+use Rattle.read_questions.specs.Reading.{passQuestions, questions, listsFit, roomsForAll, sheetIn}
+use Rattle.read_questions.specs.AcceptedLaws.{reading-accepts, reading-loaders}
+use Rattle.read_questions.specs.RefusalLaws.{asksText, reading-refusals}
 use Rattle.read_whole.specs.WholeLaws.{two-digits, too-long}
 use Rattle.round_trip.specs.RoundTrip.{text-accepted, text-read}
 use Rattle.convert.specs.Converting.{asked, refusal, bytesBy, converted, replyBy, converting}

@@ -6,7 +6,7 @@ use lib.ListN.{length}
 use Rattle.questions.specs.Questions.{Question, Verdict, no, allYes, firstNo}
 use Rattle.forms.specs.declared.House.{House}
 use Rattle.sheet.specs.Sheet.{constraints}
-use Rattle.read_ask.specs.Reading.{questions, roomsForAll, sheetIn}
+use Rattle.read_questions.specs.Reading.{questions, roomsForAll, sheetIn}
 use Rattle.write_ask.specs.HouseQuestions.{houseQuestions}
 use Rattle.sheet_texts.specs.SheetText.{sheetText}
 use Rattle.print_bytes.specs.Writing.{refusedLine}

@@ -25,7 +25,7 @@ use Rattle.sheet_texts.specs.SheetText.{sheetText}
 use Rattle.write_ask.specs.HouseQuestions.{faultFrom, firstAtFault, endQuestions, houseQuestions}
 use Rattle.write_ask.specs.HouseQuestionsLaws.{asks-lists}
 use Rattle.print_bytes.specs.Writing.{refusedLine}
-use Rattle.read_ask.specs.Reading.{ListRooms, roomsForAll, questions, refused, read, reading, sheetIn}
+use Rattle.read_questions.specs.Reading.{ListRooms, roomsForAll, questions, refused, read, reading, sheetIn}
 use Rattle.read.specs.Rooms.{sizesOf, roomsAfter}
 use Rattle.read_whole.specs.Fronts.{fronts}
 use Rattle.read_whole.specs.FrontsLaws.{given-back, written-back}

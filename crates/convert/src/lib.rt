@@ -5,7 +5,7 @@ ghost use Rattle.questions.specs.Questions.{firstNo};
 ghost use Rattle.sheet.specs.Sizes.{maxBytes};
 ghost use Rattle.sheet.specs.Lists.{writtenLists, givenBy, writtenBy};
 ghost use Rattle.plan_ask.specs.Asking.{Listed};
-ghost use Rattle.read_ask.specs.Reading.{rooms};
+ghost use Rattle.read_questions.specs.Reading.{rooms};
 ghost use Rattle.read_whole.specs.Fronts.{fronts, Held};
 ghost use Rattle.write_ask.specs.HouseQuestions.{houseQuestions};
 ghost use Rattle.sheet_texts.specs.SheetText.{sheetText};
@@ -15,7 +15,7 @@ ghost use Rattle.convert.specs.Converting as says;
 use forms::House;
 use questions::Checked;
 use questions::Refusal;
-use read_ask::Reading;
+use read_questions::Reading;
 use sheet::Sheet;
 use write_lines::MAX_TEXT;
 

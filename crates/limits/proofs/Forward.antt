@@ -11,7 +11,7 @@ use borrow.Author.Tests.{lt-ltb, le-ltb}
 use Rattle.network.specs.Network.{Weights}
 use Rattle.network.specs.Table.{entry}
 use Rattle.limits.specs.LimitTable.{withForward}
-use Rattle.limits.proofs.Sweep.{Swept, swept-first, swept-row, swept-set}
+use Rattle.limit_places.specs.Sweep.{Swept, swept-first, swept-row, swept-set}
 
 pub forward-yes : (n : ℕ) (d : Weights) (a b : ℕ) → a < b → withForward n d a b ≡ pos n
 unfolding withForward

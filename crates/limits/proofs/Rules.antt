@@ -19,9 +19,10 @@ use Rattle.sheet.specs.Sizes.{boundariesOf}
 use Rattle.sheet.specs.Sheet.{Window, Rule, Sheet, onStretch, atMost, atLeast, limit}
 use Rattle.sheet.specs.Questions.{windowsOf, rulesOf, sheetOf}
 use Rattle.sheet.specs.LimitLaws.{limit-fwd, limit-back, limit-same}
-use Rattle.limits.specs.LimitTable.{insideWeights, withForward, tightenedAt, Fillable}
-use Rattle.limits.specs.InsideLaws.{WindowsOrdered, inside-none}
-use Rattle.limits.specs.LentTableLaws.{TableFilled, filled-set, filled-same, filled-over}
+use Rattle.limit_windows.specs.Inside.{insideWeights}
+use Rattle.limits.specs.LimitTable.{withForward, tightenedAt, Fillable}
+use Rattle.limit_windows.specs.InsideLaws.{WindowsOrdered, inside-none}
+use Rattle.limit_places.specs.LentTableLaws.{TableFilled, filled-set, filled-same, filled-over}
 use Rattle.limits.specs.LimitTableLaws.{fillable-lists, fillable-rule}
 use Rattle.limits.proofs.Forward.{forward-yes, forward-no, forward-same}
 

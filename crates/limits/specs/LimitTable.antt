@@ -1,18 +1,17 @@
 -- The table of a sheet's limits, as code fills it. Definitions only.
 use mathlib.Core.Path.{_≡_}
-use mathlib.Core.Bool.{Bool, _&&_, cond}
+use mathlib.Core.Bool.{cond}
 use mathlib.Core.List.{List, _++_}
-use Prim.Native.Nat.{ℕ, _*_, _≤_, _<_}
-use lib.Dec.{T, ltb, eqb}
-use lib.ListN.{length, getD, set, drop}
-use lib.IntN.{ℤ, pos, negℤ}
+use Prim.Native.Nat.{ℕ, _*_, _≤_}
+use lib.Dec.{T, ltb}
+use lib.ListN.{getD, set, drop}
+use lib.IntN.{ℤ, pos}
 use Rattle.integers.specs.Parts.{minℤ}
-use Rattle.lists.specs.Lists.{howMany}
 use Rattle.network.specs.Network.{Weights}
-use Rattle.network.specs.Table.{tableOf, finished, passFrom}
-use Rattle.sheet.specs.Sizes.{maxUnits}
-use Rattle.slots.specs.Slots.{Slot, Boundary, slotEnd, slotAfter, slotBefore}
-use Rattle.sheet.specs.Sheet.{Window, Sheet, boundaries, insideOf, limit}
+use Rattle.network.specs.Table.{tableOf}
+use Rattle.network_pass.specs.Pass.{finished, passFrom}
+use Rattle.slots.specs.Slots.{Boundary}
+use Rattle.sheet.specs.Sheet.{Sheet, boundaries, limit}
 use Rattle.sheet.specs.Questions.{sheetOf, listsAgree, accepted}
 
 -- the limits of all steps, in front of what stands past them
@@ -22,24 +21,6 @@ limitTable s t = tableOf (boundaries s) (limit s) ++ drop (boundaries s * bounda
 -- the pass over the limits begins middle boundary m with the table t; at the last, it ends with it
 abbrev pub Begins : Sheet → Boundary → List ℤ → Type 0
 Begins s m t = passFrom m 0 (boundaries s) (tableOf (boundaries s) (limit s)) ≡ finished t
-
--- the units' windows, as first and last slots: at most `maxUnits`, each 1 ≤ first ≤ last, and last ends at one of w boundaries
-pub record WindowsFit (w : ℕ) (first last : List Slot) : Type 0 where
-  pub paired : length last ≡ length first
-  pub few : length first ≤ maxUnits
-  pub each : (j : ℕ) → j < length first → (1 ≤ getD first j 0) × (getD first j 0 ≤ getD last j 0) × (slotEnd (getD last j 0) < w)
-
--- minus the number of windows inside the slots b+1 to a; none is inside where a ≤ b
-unfoldable pub insideWeights : List Window → Weights
-insideWeights ws a b = negℤ (pos (howMany (insideOf (slotAfter b) (slotBefore a)) ws))
-
--- the window is exactly the slots f to t
-abbrev pub exactly : Slot → Slot → Window → Bool
-exactly f t w = eqb (w .first) f && eqb (w .last) t
-
--- minus the number of windows that are exactly the slots b+1 to a
-unfoldable pub exactWeights : List Window → Weights
-exactWeights ws a b = negℤ (pos (howMany (exactly (slotAfter b) (slotBefore a)) ws))
 
 -- n on every forward step, and the other steps as they are
 unfoldable pub withForward : ℕ → Weights → Weights

@@ -1,14 +1,14 @@
 -- What an accepted sheet in parallel lists gives to code, and the size of its limits.
-use mathlib.Core.Path.{_≡_, refl, _∙_, subst}
-use mathlib.Core.List.{List, [], _∷_, List·Memᴰ·head, List·Memᴰ·tail}
-use Prim.Native.Nat.{ℕ, zero, suc, _*_, _≤_, _<_}
+use mathlib.Core.Path.{_≡_, _∙_, subst}
+use mathlib.Core.List.{List}
+use Prim.Native.Nat.{ℕ, suc, _*_, _≤_, _<_}
 use native.Mathlib.Omega.{arith}
 use native.Mathlib.Decide.{decLe}
 use lib.Dec.{T}
 use lib.ListN.{length, getD, drop, length-append, length-drop}
 use lib.IntN.{ℤ, pos}
 use Rattle.integers.specs.Parts.{Within, neg}
-use Rattle.lists.specs.Members.{In}
+use Rattle.lists.specs.Members.{In, in-at}
 use Rattle.network.specs.Table.{maxBoundaries, tableOf, entry}
 use Rattle.network.specs.TableLaws.{length-tableOf, entry-front}
 use Rattle.sheet.specs.Sizes.{maxSlots, maxCount, topOf, boundariesOf}
@@ -18,13 +18,9 @@ use Rattle.sheet.specs.LimitLaws.{limit-fwd, limit-back, limit-same, atMost-n, 
 use Rattle.sheet.specs.Questions.{windowsOf, rulesOf, sheetOf, listsAgree, accepted}
 use Rattle.sheet.specs.QuestionLaws.{Agree, listsAgree-read, windowsOf-length, windowsOf-at, rulesOf-length, rulesOf-at}
 use Rattle.sheet.specs.QuestionLaws.{accepted-sized, accepted-valid}
-use Rattle.limits.specs.LimitTable.{WindowsFit, Fillable, limitTable}
+use Rattle.limit_windows.specs.Inside.{WindowsFit}
+use Rattle.limits.specs.LimitTable.{Fillable, limitTable}
 use Rattle.lists.specs.Counts.{howMany-most}
-
-in-at : (d : Rule) (rs : List Rule) (k : ℕ) → k < length rs → In (getD rs k d) rs
-in-at d [] k h = absurd (omega arith)
-in-at d (r ∷ rs) zero h = List·Memᴰ·head refl
-in-at d (r ∷ rs) (suc k) h = List·Memᴰ·tail (in-at d rs k (omega arith))
 
 -- a rule's fields, by line
 pub record RuleFits (span f t l h : ℕ) : Type 0 where

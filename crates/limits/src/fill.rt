@@ -8,11 +8,11 @@ ghost use Rattle.slots.specs.Slots.{slotEnd, slotStart};
 ghost use Rattle.sheet.specs.Sizes.{maxUnits, maxCount};
 ghost use Rattle.sheet.specs.Questions.{sheetOf};
 ghost use Rattle.limits.specs.LimitTable.{withForward, tightenedAt, limitTable, Fillable};
-use crate::back_place;
-use crate::forward_place;
-use crate::inside::windows_inside;
-use crate::limit::Limit;
-use crate::limit::signed;
+use limit_places::back_place;
+use limit_places::forward_place;
+use limit_value::Limit;
+use limit_value::signed;
+use limit_windows::windows_inside;
 
 // n on every forward step.
 pub fn fill_forward(n: usize, w: usize, t: &mut [i16])

@@ -113,6 +113,12 @@ in-fromTo a b x = (
   λ t. let r = within-iff a b x .0 t in run-in x a (suc b - a) (r .0) (omega arith),
 )
 
+-- what stands at a place of a list is in it
+pub in-at : {A : Type 0} (d : A) (xs : List A) (i : ℕ) → i < length xs → In (getD xs i d) xs
+in-at d [] i h = absurd (omega arith)
+in-at d (x ∷ xs) zero h = List·Memᴰ·head refl
+in-at d (x ∷ xs) (suc i) h = List·Memᴰ·tail (in-at d xs i (omega arith))
+
 pub every-at : {A : Type 0} (t : A → Bool) (d : A) (xs : List A) → T (every t xs) → (i : ℕ) → i < length xs → T (t (getD xs i d))
 every-at t d [] h i l = absurd (omega arith)
 every-at t d (x ∷ xs) h zero l = left (t x) (every t xs) h

@@ -27,18 +27,18 @@ fn is_among(ks: &[u16], n: usize, heads: &[u16], nexts: &[u16], k: u16) -> bool
     false
 }
 
-// Question 16 of a number that stands after the first n of a list.
+// Question 16 of a number that stands after the first n of a list. The chain is asked first: so the compiler has the remainder at hand for `link`.
 pub fn is_new(ks: &[u16], n: usize, heads: &[u16], nexts: &[u16], k: u16) -> bool
     requires { ⌜ (n ≤ length (now ks)) × (n ≤ length (now nexts)) × Linked (now ks) n (now heads) (now nexts) ⌝ }
     ensures { λ r. ⌜ r ≡ isNew (take n (now (ks .entry))) k ⌝ }
 {
+    if is_among(ks, n, heads, nexts, k) {
+        return false;
+    }
     if k < 1 {
         return false;
     }
-    if Sheet::MAX_LOADER < k {
-        return false;
-    }
-    !is_among(ks, n, heads, nexts, k)
+    k <= Sheet::MAX_LOADER
 }
 
 // The number at place n of a list is put in front of its chain.

@@ -4,8 +4,6 @@ pub mod Closure
 pub mod ClosureLaws
 pub mod Table
 pub mod TableLaws
-pub mod PassLaws
-pub mod PassFront
 pub mod RowStep
 pub mod Bounds
 pub mod BoundLaws

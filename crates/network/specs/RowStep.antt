@@ -1,18 +1,15 @@
--- One row of the pass: its step, and what the loops leave where the pass does not finish. Definitions only.
-use mathlib.Core.Path.{_≡_}
+-- One row of a table over a middle boundary. Definitions only.
 use mathlib.Core.Bool.{Bool, _&&_}
 use mathlib.Core.List.{List}
-use Prim.Native.Nat.{ℕ, _*_, _<_}
+use Prim.Native.Nat.{ℕ, _<_}
 use lib.Dec.{leb, ltb}
-use lib.ListN.{length, getD, drop}
+use lib.ListN.{length, getD}
 use lib.IntN.{ℤ, pos, _+ℤ_}
 use lib.Signed.{ltZ}
 use mir.Syntax.{w16}
 use mir.Val.{SFits}
 use Rattle.integers.specs.Parts.{minℤ}
 use Rattle.lists.specs.Values.{listOf}
-use Rattle.network.specs.Table.{Passed, finished, outcomeOf}
-use Rattle.network.specs.declared.Outcome.{Outcome}
 
 -- every sum of am with a number of the list fits 16 bits
 abbrev pub SumsFit : ℤ → List ℤ → Type 0
@@ -32,10 +29,3 @@ stretch = 32
 -- the diagonal entry of row a lies in the stretch from b to e, and is below 0
 abbrev pub fallsIn : ℕ → ℕ → ℕ → List ℤ → Bool
 fallsIn b e a row = leb b a && (ltb a e && ltZ (getD row a (pos 0)) (pos 0))
-
--- what the loops of the pass leave: the table of a pass that finishes; past the table nothing changes
-pub record Ran (w : ℕ) (t : List ℤ) (p : Passed) (r : Outcome) (u : List ℤ) : Type 0 where
-  pub outcome : r ≡ outcomeOf p
-  pub table : (x : List ℤ) → p ≡ finished x → u ≡ x
-  pub long : length u ≡ length t
-  pub past : drop (w * w) u ≡ drop (w * w) t

@@ -3,9 +3,9 @@ use mathlib.Core.Path.{_≡_}
 use mathlib.Core.List.{List}
 use Prim.Native.Nat.{ℕ}
 use lib.IntN.{ℤ}
-use Rattle.network.specs.Table.{Passed, After}
-use Rattle.network.specs.declared.Outcome.{Outcome}
-use Rattle.network.specs.declared.Outcome.the-variants.{Finished, Stopped}
+use Rattle.network_pass.specs.Pass.{Passed, After}
+use Rattle.network_pass.specs.declared.Outcome.{Outcome}
+use Rattle.network_pass.specs.declared.Outcome.the-variants.{Finished, Stopped}
 
 abbrev pub codeOf : Outcome → ℕ
 codeOf Finished = 0

@@ -1,8 +1,10 @@
 ghost use mathlib.Core.Path.{_≡_};
 ghost use Prim.Native.Nat.{_*_, _<_, _≤_};
 ghost use lib.ListN.{length};
-ghost use Rattle.network.specs.Table.{maxBoundaries, passFrom, passOf};
-ghost use Rattle.network.specs.Bounds.{Small, Limited};
+ghost use Rattle.network.specs.Table.{maxBoundaries};
+ghost use Rattle.network.specs.Bounds.{Small};
+ghost use Rattle.network_pass.specs.Pass.{passFrom, passOf};
+ghost use Rattle.network_pass.specs.PassBounds.{Limited};
 ghost use Rattle.network_cycles.specs.Finder.{Weighed, Infeasible, CycleAt};
 ghost use Rattle.network_border.specs.Codes.{codeOf, PassTold};
 
@@ -10,12 +12,12 @@ ghost use Rattle.network_border.specs.Codes.{codeOf, PassTold};
 // library for other languages; what calls them from there tests it first.
 
 // How a pass ended, as a number: 0 where it finished, 1 where it stopped.
-fn code(outcome: network::Outcome) -> usize
+fn code(outcome: network_pass::Outcome) -> usize
     ensures { λ r. ⌜ r ≡ codeOf outcome ⌝ }
 {
     match outcome {
-        network::Outcome::Finished => 0,
-        network::Outcome::Stopped => 1,
+        network_pass::Outcome::Finished => 0,
+        network_pass::Outcome::Stopped => 1,
     }
 }
 
@@ -25,7 +27,7 @@ pub extern "C" fn tugrokt_pass(t: &mut [i16], w: usize) -> usize
     requires { ⌜ (0 < w) × (w ≤ maxBoundaries) × (w * w ≤ length (now t)) × Limited w (now t) ⌝ }
     ensures { λ r. ⌜ PassTold w (now (t .entry)) (passOf w (now (t .entry))) r (now (t .exit)) ⌝ }
 {
-    let outcome = network::pass(t, w);
+    let outcome = network_pass::pass(t, w);
     code(outcome)
 }
 
@@ -35,7 +37,7 @@ pub extern "C" fn tugrokt_middle(t: &mut [i16], w: usize, m: usize) -> usize
     requires { ⌜ (m < w) × (w ≤ maxBoundaries) × (w * w ≤ length (now t)) × Small w (now t) ⌝ }
     ensures { λ r. ⌜ PassTold w (now (t .entry)) (passFrom 1 m w (now (t .entry))) r (now (t .exit)) ⌝ }
 {
-    let outcome = network::pass_middle(t, w, m);
+    let outcome = network_pass::pass_middle(t, w, m);
     code(outcome)
 }
 

@@ -19,7 +19,7 @@ use Rattle.network.specs.Network.{Weights, via, around}
 use Rattle.network.specs.NetworkLaws.{Upto, via-same}
 use Rattle.network.specs.Table.{maxBoundaries}
 use Rattle.sheet.specs.Sizes.{maxSlots}
-use Rattle.limits.specs.LentTableLaws.{place-inside}
+use Rattle.limit_places.specs.LentTableLaws.{place-inside}
 use Rattle.print_bytes.specs.Writing.{planHead, unitLine, carriedLine, fitsHead, noneHead, atMostLine, atLeastLine, shortfallLine}
 use Rattle.pages.specs.Page.{unitsAt, slotCounts, placedLine, unitLines, slotLineAt, slotLines, planPage, rangeLineAt, rangeLines, fitsPage}
 use Rattle.pages.specs.Page.{stepLine, stepLines, ringLines, shortfallOf, nonePage, RingFits}

@@ -10,17 +10,20 @@ use native.Mathlib.Omega.{arith}
 use lib.Dec.{T}
 use lib.ListN.{length}
 use lib.IntN.{ℤ}
-use Rattle.network.specs.Table.{Passed, finished, stopped, entry}
+use Rattle.network.specs.Table.{entry}
+use Rattle.network_pass.specs.Pass.{Passed, finished, stopped}
 use Rattle.questions.specs.Questions.{Verdict, no, allYes}
 use Rattle.sheet.specs.Sheet.{Sheet, boundaries, lawful}
 use Rattle.sheet.specs.Solved.{Solved}
 use Rattle.sheet.specs.QuestionLaws.{accepted-valid}
 use Rattle.sheet.specs.Lists.{WrittenLists, givenBy}
-use Rattle.plan_ask.specs.Questions.{places, refusalBy}
+use Rattle.plan_rooms.specs.Rooms.{places}
+use Rattle.plan_ask.specs.Questions.{refusalBy}
 use Rattle.plan_ask.specs.SolvableLaws.{asked-yes}
-use Rattle.plan_solve.specs.Planning.{passed, byPass, conclusionBy, SettledBy}
+use Rattle.plan_steps.specs.Closing.{passed}
+use Rattle.plan_steps.specs.PassedLaws.{passed-size, passed-solved, stopped-unlawful}
+use Rattle.plan_solve.specs.Planning.{byPass, conclusionBy, SettledBy}
 use Rattle.plan_solve.specs.ConclusionLaws.{by-verdict}
-use Rattle.plan_solve.specs.PlanningLaws.{passed-size, passed-solved, stopped-unlawful}
 use Rattle.plan_solve.specs.Reply as says
 use Rattle.plan_solve.specs.Reply.{refusalOf}
 

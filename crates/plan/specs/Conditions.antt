@@ -11,7 +11,8 @@ use Rattle.network.specs.Table.{entry}
 use Rattle.questions.specs.Questions.{no, allYes}
 use Rattle.sheet.specs.Sheet.{Sheet, boundaries, isRing, lawful, fair, printedPlan}
 use Rattle.sheet.specs.Lists.{WrittenLists, givenBy}
-use Rattle.plan_ask.specs.Questions.{Rooms, planLent, roomsFit, refusal}
+use Rattle.plan_rooms.specs.Rooms.{Rooms, planLent, roomsFit}
+use Rattle.plan_ask.specs.Questions.{refusal}
 use Rattle.plan_solve.specs.Planning.{conclusion, planned, ringed, WithRing, Settled}
 use Rattle.plan_solve.specs.Reply as says
 use Rattle.plan_solve.specs.Reply.{refusalOf}

@@ -10,7 +10,8 @@ use lib.ListN.{length, take}
 use Rattle.questions.specs.Questions.{no, allYes}
 use Rattle.sheet.specs.Sheet.{Sheet, isRing}
 use Rattle.sheet.specs.Lists.{WrittenLists, givenBy}
-use Rattle.plan_ask.specs.Questions.{DecideRooms, decideLent, roomsFit, refusalIn}
+use Rattle.plan_rooms.specs.Rooms.{DecideRooms, decideLent, roomsFit}
+use Rattle.plan_ask.specs.Questions.{refusalIn}
 use Rattle.plan_solve.specs.Planning.{conclusionIn, decided, contradicted, WithRing, DecideSettled}
 use Rattle.plan_solve.specs.Reply as says
 use Rattle.plan_solve.specs.Reply.{refusalOf}

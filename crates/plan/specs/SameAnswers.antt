@@ -7,11 +7,13 @@ use mathlib.Core.List.{List}
 use Prim.Native.Nat.{ℕ}
 use lib.ListN.{length, take}
 use lib.IntN.{ℤ}
-use Rattle.network.specs.Table.{Passed, finished, entry}
+use Rattle.network.specs.Table.{entry}
+use Rattle.network_pass.specs.Pass.{Passed, finished}
 use Rattle.questions.specs.Questions.{allYes}
 use Rattle.sheet.specs.Sheet.{Sheet, boundaries}
 use Rattle.sheet.specs.Lists.{WrittenLists, givenBy}
-use Rattle.plan_ask.specs.Questions.{Rooms, DecideRooms, SeatRooms, decideLent, seatLent, places, refusal, refusalIn}
+use Rattle.plan_rooms.specs.Rooms.{Rooms, DecideRooms, SeatRooms, decideLent, seatLent, places}
+use Rattle.plan_ask.specs.Questions.{refusal, refusalIn}
 use Rattle.plan_solve.specs.Planning.{conclusion, conclusionIn, Settled, DecideSettled, SeatSettled, planned, seated}
 use Rattle.plan_solve.specs.Reply as says
 use Rattle.plan.specs.ConditionLaws.{Planned}

@@ -11,7 +11,8 @@ use Rattle.network.specs.Table.{entry}
 use Rattle.questions.specs.Questions.{no, allYes}
 use Rattle.sheet.specs.Sheet.{Sheet, boundaries, lawful, fair, printedPlan}
 use Rattle.sheet.specs.Lists.{WrittenLists, givenBy}
-use Rattle.plan_ask.specs.Questions.{SeatRooms, seatLent, roomsFit, refusalIn}
+use Rattle.plan_rooms.specs.Rooms.{SeatRooms, seatLent, roomsFit}
+use Rattle.plan_ask.specs.Questions.{refusalIn}
 use Rattle.plan_solve.specs.Planning.{conclusionIn, seated, unseated, SeatNone, SeatSettled}
 use Rattle.plan_solve.specs.Reply as says
 use Rattle.plan_solve.specs.Reply.{refusalOf}

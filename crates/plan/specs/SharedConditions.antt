@@ -24,7 +24,8 @@ use Rattle.sheet.specs.PlanLaws.{lawful-iff, earliest-bound, earliest-attained,
 use Rattle.sheet.specs.Solved.{Solved}
 use Rattle.plans.specs.PrintedLaws.{Printed, some-printed}
 use Rattle.plans.specs.CountLaws.{solved-plan, range, greatest-entry, least-entry}
-use Rattle.plan_ask.specs.Questions.{places, refusalBy}
+use Rattle.plan_rooms.specs.Rooms.{places}
+use Rattle.plan_ask.specs.Questions.{refusalBy}
 use Rattle.sheet.specs.Lists.{WrittenLists, givenBy}
 use Rattle.plan_solve.specs.Planning.{conclusionBy, SettledBy, WithRing, tableIn, planIn, earliestIn, latestIn}
 use Rattle.plan_solve.specs.Reply as says

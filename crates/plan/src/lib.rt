@@ -1,6 +1,6 @@
 ghost use mathlib.Core.Path.{_≡_};
 ghost use Rattle.sheet.specs.Lists.{writtenLists, givenBy};
-ghost use Rattle.plan_ask.specs.Questions.{lent, decideRooms, seatRooms, decideLent, seatLent};
+ghost use Rattle.plan_rooms.specs.Rooms.{lent, decideRooms, seatRooms, decideLent, seatLent};
 ghost use Rattle.plan_solve.specs.Planning.{conclusion, conclusionIn, Settled, DecideSettled, SeatSettled};
 ghost use Rattle.plan_solve.specs.Reply.{replyOf, decisionReply, seatReply, fitReply, seatedReply};
 use plan_solve::Answer;
@@ -62,7 +62,7 @@ pub fn plan(
         ⌜ Settled (conclusion l before) (givenBy l) before (replyOf r)
         (lent (now (table .exit)) (now (plan .exit)) (now (earliest .exit)) (now (latest .exit)) (now (ring .exit))) ⌝ }
 {
-    let rooms = plan_ask::for_plan(table, plan, earliest, latest, ring);
+    let rooms = plan_rooms::for_plan(table, plan, earliest, latest, ring);
     let asked = plan_ask::ask(span, loader, first, last, from, to, low, high, rooms);
     match asked {
         Checked::No(refusal) => Answer::Refused(refusal),
@@ -102,7 +102,7 @@ pub fn decide(
         let before = decideRooms (now (table .entry)) (now (ring .entry)) in
         ⌜ DecideSettled (conclusionIn l (decideLent before)) (givenBy l) before (decisionReply r) (decideRooms (now (table .exit)) (now (ring .exit))) ⌝ }
 {
-    let rooms = plan_ask::for_decision(table, ring);
+    let rooms = plan_rooms::for_decision(table, ring);
     let asked = plan_ask::ask(span, loader, first, last, from, to, low, high, rooms);
     match asked {
         Checked::No(refusal) => Decision::Refused(refusal),
@@ -143,7 +143,7 @@ pub fn seat(
         ⌜ SeatSettled (conclusionIn l (seatLent before)) (givenBy l) before (seatReply r)
         (seatRooms (now (table .exit)) (now (plan .exit)) (now (earliest .exit)) (now (latest .exit))) ⌝ }
 {
-    let rooms = plan_ask::for_seats(table, plan, earliest, latest);
+    let rooms = plan_rooms::for_seats(table, plan, earliest, latest);
     let asked = plan_ask::ask(span, loader, first, last, from, to, low, high, rooms);
     match asked {
         Checked::No(refusal) => SeatAnswer::Refused(refusal),

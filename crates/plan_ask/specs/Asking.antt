@@ -1,16 +1,10 @@
--- The questions as the code asks them: two lists place by place. Definitions only; AskingLaws ties them to the questions.
+-- What a yes to every question of a call says. Definitions only; SolvableLaws ties them to the questions.
 use mathlib.Core.Path.{_≡_}
 use mathlib.Core.Bool.{Bool}
-use mathlib.Core.List.{List}
-use Prim.Native.Nat.{ℕ}
 use lib.Dec.{T}
 use lib.ListN.{length}
-use Rattle.lists.specs.Lists.{every}
-use Rattle.sheet.specs.Questions.{windowsOf, rising, loadersFit, accepted}
+use Rattle.sheet.specs.Questions.{loadersFit, accepted}
 use Rattle.sheet.specs.Lists.{Lists, given, agree, WrittenLists, givenBy}
-
-unfoldable pub allRising : ℕ → ℕ → ℕ → List ℕ → List ℕ → Bool
-allRising least start most fs ls = every (λ w. rising least start most (w .first) (w .last)) (windowsOf fs ls)
 
 -- every question of a call's lists is answered yes: the loader numbers are as many as the units, the other lists agree, they make a sheet that is accepted, and
 -- the loader numbers are new

@@ -1,51 +1,23 @@
 -- The questions as the code asks them are the questions of docs/RULES.md.
--- Key idea: a test of each unit or rule that looks at two numbers of it is a test of two lists, place by place; and at each place what is left to ask
--- gives the whole answer.
-use mathlib.Core.Path.{_≡_, refl, sym, ap, ap₂, subst, _∙_}
-use mathlib.Core.Bool.{Bool, true, false, _&&_}
+-- Key idea: a test of each unit or rule that looks at two numbers of it is a test of two lists, place by place.
+use mathlib.Core.Path.{_≡_, refl, sym, ap, ap₂, subst}
+use mathlib.Core.Bool.{Bool, _&&_}
 use mathlib.Core.List.{List, [], _∷_}
-use Prim.Native.Nat.{ℕ, suc, _+_, _≤_, _<_}
+use Prim.Native.Nat.{ℕ, _≤_}
 use native.Mathlib.Omega.{arith}
 use lib.Dec.{T, leb, eqb, eqb→eq}
-use lib.ListN.{length, getD, drop, drop-of-length-le}
-use lib.Seq.{drop-cons}
+use lib.ListN.{length}
 use borrow.Author.Tests.{eq-eqb}
 use Rattle.lists.specs.Lists.{every}
 use Rattle.lists.specs.Members.{both, left, right}
 use Rattle.sheet.specs.Sizes.{maxSlots, maxUnits, maxRules, maxCount, carriedPlace, boundariesOf}
-use Rattle.sheet.specs.Sheet.{Window, top, noWindow}
+use Rattle.sheet.specs.Sheet.{Window, top}
 use Rattle.sheet.specs.Questions.{windowsOf, rulesOf, sheetOf, isSpan, rising, spanFits, unitsFit, rulesFit, windowsFit, stretchesFit, countsFit, accepted}
 use Rattle.sheet.specs.Lists.{Lists, given, agree, WrittenLists, allAgree}
-use Rattle.sheet.specs.QuestionLaws.{Agree, listsAgree-read, windowsOf-length, windowsOf-at, rulesOf-length, accepted-sized}
-use Rattle.plan_ask.specs.Asking.{allRising}
-use Rattle.plan_ask.specs.Questions.{lengthsFit, roomsFit}
-use Rattle.plan_ask.specs.declared.Lengths.{Lengths}
-
--- ---- the loop over two lists: what is left to ask gives the whole answer
-
-unfoldable pub risingFrom : ℕ → ℕ → ℕ → List ℕ → List ℕ → ℕ → Bool
-risingFrom least start most fs ls j = every (λ w. rising least start most (w .first) (w .last)) (drop j (windowsOf fs ls))
-
-module _ (least start most : ℕ) (fs ls : List ℕ) (e : length ls ≡ length fs) where
-  rising-here : (j : ℕ) → j < length fs
-      → risingFrom least start most fs ls j ≡ (rising least start most (getD fs j 0) (getD ls j 0) && risingFrom least start most fs ls (suc j))
-  unfolding risingFrom
-  rising-here j h =
-      ap (every (λ w. rising least start most (w .first) (w .last))) (drop-cons (windowsOf fs ls) j noWindow (omega (arith, windowsOf-length fs ls e)))
-      ∙ ap (λ (w : Window). rising least start most (w .first) (w .last) && risingFrom least start most fs ls (suc j)) (windowsOf-at fs ls e j h)
-
-  pub rising-next : (j : ℕ) → j < length fs → rising least start most (getD fs j 0) (getD ls j 0) ≡ true
-      → risingFrom least start most fs ls j ≡ risingFrom least start most fs ls (j + 1)
-  rising-next j h t = rising-here j h ∙ ap₂ (λ b k. b && risingFrom least start most fs ls k) t (omega arith)
-
-  pub rising-stop : (j : ℕ) → j < length fs → rising least start most (getD fs j 0) (getD ls j 0) ≡ false → risingFrom least start most fs ls j ≡ false
-  rising-stop j h t = rising-here j h ∙ ap (λ b. b && risingFrom least start most fs ls (suc j)) t
-
-  pub rising-end : (j : ℕ) → length fs ≤ j → risingFrom least start most fs ls j ≡ true
-  unfolding risingFrom
-  rising-end j h =
-      ap (every (λ w. rising least start most (w .first) (w .last)))
-      (drop-of-length-le (windowsOf fs ls) {i = j} (omega (arith, windowsOf-length fs ls e)))
+use Rattle.sheet.specs.QuestionLaws.{Agree, listsAgree-read, windowsOf-length, rulesOf-length, accepted-sized}
+use Rattle.plan_lists.specs.Rising.{allRising}
+use Rattle.plan_rooms.specs.Rooms.{lengthsFit, roomsFit}
+use Rattle.plan_rooms.specs.declared.Lengths.{Lengths}
 
 -- ---- each question, as the code asks it
 

@@ -2,4 +2,3 @@ pub mod Questions
 pub mod Asking
 pub mod AskingLaws
 pub mod SolvableLaws
-pub mod RoomsLaws

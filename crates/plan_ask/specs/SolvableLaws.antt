@@ -13,7 +13,7 @@ use Rattle.sheet.specs.Lists.{WrittenLists, givenBy, allAgree}
 use Rattle.plan_ask.specs.Questions.{listQuestions, questions, refusalBy, refusalIn}
 use Rattle.plan_ask.specs.Asking.{Listed, Solvable}
 use Rattle.plan_ask.specs.AskingLaws.{all-agree-read, read-all-agree}
-use Rattle.plan_ask.specs.declared.Lengths.{Lengths}
+use Rattle.plan_rooms.specs.declared.Lengths.{Lengths}
 
 module _ (l : WrittenLists) where
   abbrev s : Sheet

@@ -11,7 +11,8 @@ use Rattle.sheet.specs.Lists.{WrittenLists, givenBy}
 use Rattle.plan_ask.specs.Questions.{refusalBy}
 use Rattle.plan_ask.specs.Asking.{Listed}
 use Rattle.plan_ask.specs.SolvableLaws.{yes-asked}
-use Rattle.plan_solve.specs.Planning.{Conclusion, passed, byPass, concluding, conclusionBy, SettledBy}
+use Rattle.plan_steps.specs.Closing.{passed}
+use Rattle.plan_solve.specs.Planning.{Conclusion, byPass, concluding, conclusionBy, SettledBy}
 use Rattle.plan_solve.specs.Reply as says
 
 -- whatever rooms the call asks for

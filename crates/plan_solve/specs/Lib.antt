@@ -1,10 +1,4 @@
 pub mod Reply
 pub mod Planning
 pub mod ConclusionLaws
-pub mod PlanningLaws
-pub mod Closing
-pub mod ClosingLaws
-pub mod Filling
-pub mod FillingLaws
-pub mod RingLaws
 pub mod SolvingLaws

@@ -6,19 +6,18 @@ use Prim.Native.Nat.{ℕ}
 use lib.Dec.{T}
 use lib.ListN.{length, drop}
 use lib.IntN.{ℤ}
-use Rattle.network.specs.Table.{Passed, finished, stopped, tableOf, passOf, cleared}
+use Rattle.network_pass.specs.Pass.{Passed, finished, stopped}
+use Rattle.network.specs.Table.{cleared}
 use Rattle.questions.specs.Questions.{Verdict, no, allYes}
-use Rattle.sheet.specs.Sheet.{Sheet, boundaries, limit, printedPlan, earliestSlots, latestSlots, isRing}
+use Rattle.sheet.specs.Sheet.{Sheet, printedPlan, earliestSlots, latestSlots, isRing}
 use Rattle.sheet.specs.Lists.{WrittenLists, givenBy}
 use Rattle.slots.specs.Slots.{Slot}
 use Rattle.lists.specs.Lists.{onFront}
-use Rattle.plan_ask.specs.Questions.{Rooms, DecideRooms, SeatRooms, planLent, places, roomsFit, refusalBy}
-use Rattle.plan_ask.specs.declared.Lengths.{Lengths}
+use Rattle.plan_rooms.specs.Rooms.{Rooms, DecideRooms, SeatRooms, planLent, places, roomsFit}
+use Rattle.plan_rooms.specs.declared.Lengths.{Lengths}
+use Rattle.plan_ask.specs.Questions.{refusalBy}
+use Rattle.plan_steps.specs.Closing.{passed}
 use Rattle.plan_solve.specs.Reply as says
-
--- the pass over the table of the sheet's limits
-unfoldable pub passed : Sheet → Passed
-passed s = passOf (boundaries s) (tableOf (boundaries s) (limit s))
 
 -- ---- what a call comes to: a refusal by number and line, a plan with the finished pass, or none
 

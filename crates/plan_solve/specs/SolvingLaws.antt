@@ -9,28 +9,29 @@ use native.Mathlib.Omega.{arith}
 use lib.ListN.{length, drop, replicate, length-append, length-drop, length-replicate}
 use lib.Seq.{drop-at}
 use lib.IntN.{ℤ, pos}
-use Rattle.network.specs.Table.{Passed, finished, stopped, entry, outcomeOf, cleared}
-use Rattle.network.specs.declared.Outcome.{Outcome}
-use Rattle.network.specs.declared.Outcome.the-variants.{Finished, Stopped}
+use Rattle.network.specs.Table.{entry, cleared}
+use Rattle.network_pass.specs.Pass.{Passed, finished, stopped, outcomeOf}
+use Rattle.network_pass.specs.declared.Outcome.{Outcome}
+use Rattle.network_pass.specs.declared.Outcome.the-variants.{Finished, Stopped}
 use Rattle.sheet.specs.Sizes.{boundariesOf}
 use Rattle.sheet.specs.Sheet.{Sheet, boundaries}
 use Rattle.limits.specs.LimitTable.{Fillable}
-use Rattle.limits.specs.LentTableLaws.{cleared-length}
+use Rattle.limit_places.specs.LentTableLaws.{cleared-length}
 use Rattle.sheet.specs.Questions.{windowsOf, sheetOf}
 use Rattle.sheet.specs.QuestionLaws.{Agree, windowsOf-length, accepted-valid}
 use Rattle.sheet.specs.Solved.{Solved}
 use Rattle.sheet.specs.Lists.{Lists, given}
-use Rattle.plan_ask.specs.Questions.{lent, decideRooms, seatRooms, places}
+use Rattle.plan_rooms.specs.Rooms.{lent, decideRooms, seatRooms, places}
+use Rattle.plan_rooms.specs.RoomsLaws.{SeatsHold}
+use Rattle.plan_rooms.specs.declared.Seats.{Seats}
 use Rattle.plan_ask.specs.Asking.{Solvable}
 use Rattle.plan_ask.specs.AskingLaws.{lists-read}
-use Rattle.plan_ask.specs.RoomsLaws.{SeatsHold}
-use Rattle.plan_ask.specs.declared.Seats.{Seats}
-use Rattle.plan_solve.specs.Planning.{passed, byPass, tableIn, Settled, DecideSettled, SeatSettled}
-use Rattle.plan_solve.specs.PlanningLaws.{passed-size, passed-solved}
-use Rattle.plan_solve.specs.Closing.{tableLeft, Closed, RingFound}
-use Rattle.plan_solve.specs.ClosingLaws.{boundaries-counted}
-use Rattle.plan_solve.specs.Filling.{Ready, PlanFilled}
-use Rattle.plan_solve.specs.FillingLaws.{solved-front}
+use Rattle.plan_steps.specs.Closing.{passed, tableLeft, Closed, RingFound}
+use Rattle.plan_steps.specs.PassedLaws.{passed-size, passed-solved}
+use Rattle.plan_steps.specs.ClosingLaws.{boundaries-counted}
+use Rattle.plan_steps.specs.Filling.{Ready, PlanFilled}
+use Rattle.plan_steps.specs.FillingLaws.{solved-front}
+use Rattle.plan_solve.specs.Planning.{byPass, tableIn, Settled, DecideSettled, SeatSettled}
 use Rattle.plan_solve.specs.Reply as says
 
 -- ---- which pass had the outcome

@@ -18,7 +18,8 @@ use Rattle.sheet.specs.PotentialLaws.{lawful-feasible}
 use Rattle.sheet.specs.Solved.{Solved}
 use Rattle.plans.specs.FeasibleLaws.{feasible-lawful}
 use Rattle.network_cuts.specs.Cut.{Admits, LeastCut}
-use Rattle.plan_windows.specs.CutSheet.{mirrored, addedArc, cutTo}
+use Rattle.plan_arcs.specs.Arcs.{mirrored}
+use Rattle.plan_windows.specs.CutSheet.{addedArc, cutTo}
 use Rattle.plan_windows.proofs.CutSheetLaws.{Gains, cut-lawful, cut-valid, plan-gains, gains-feasible}
 use Rattle.plan_windows.proofs.MirrorLaws.{turned, turned-feasible, mirrored-back}
 

@@ -1,9 +1,5 @@
 mod CutSheetLaws
 mod MirrorLaws
 mod ExtremeLaws
-mod RowFillLaws
-mod MarkLaws
-mod CommonCutLaws
-mod CutRowLaws
-mod CutWindowsLaws
+mod MarkedCutLaws
 mod NarrowLaws

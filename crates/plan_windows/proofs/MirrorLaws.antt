@@ -16,8 +16,9 @@ use Rattle.network.specs.Bounds.{maxWeight}
 use Rattle.network_cuts.specs.Cut.{Admits, LeastCut}
 use Rattle.network_cuts.specs.Sink.{Closed}
 use Rattle.network_cuts.specs.Decider.{into, CutNetwork}
-use Rattle.plan_windows.specs.CutSheet.{mirrored, HasEntries}
-use Rattle.plan_windows.specs.Windows.{Units, Admitted, LeastCuts, AdmittedLate, GreatestCuts}
+use Rattle.plan_marks.specs.Marks.{Units}
+use Rattle.plan_arcs.specs.Arcs.{mirrored, HasEntries}
+use Rattle.plan_windows.specs.Windows.{Admitted, LeastCuts, AdmittedLate, GreatestCuts}
 
 -- N is M seen from the end
 abbrev pub IsMirrored : ℕ → Weights → Weights → Type 0

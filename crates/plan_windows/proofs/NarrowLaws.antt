@@ -24,23 +24,20 @@ use Rattle.sheet.specs.Sheet.{Window, Sheet, noWindow, top, insideOf, limit, at
 use Rattle.sheet.specs.PlanLaws.{lawful-iff}
 use Rattle.sheet.specs.LimitLaws.{limit-fwd, limit-back, limit-same, atMost-n}
 use Rattle.lists.specs.Counts.{howMany-most}
-use Rattle.limits.specs.LimitTable.{WindowsFit, insideWeights}
+use Rattle.limit_windows.specs.Inside.{WindowsFit, insideWeights}
 use Rattle.sheet.specs.Questions.{windowsOf}
 use Rattle.sheet.specs.QuestionLaws.{windowsOf-length, windowsOf-at}
-use Rattle.plan_windows.specs.CutSheet.{oneLess, addedArc, HasEntries}
+use Rattle.plan_arcs.specs.Arcs.{oneLess, HasEntries}
+use Rattle.plan_arcs.specs.ArcLaws.{less-arc, less-other, inside-within}
+use Rattle.plan_windows.specs.CutSheet.{addedArc}
 use Rattle.network_cuts.specs.Sink.{Closed}
 use Rattle.network_cuts.specs.Decider.{into, CutNetwork}
-use Rattle.plan_windows.specs.Windows.{Units, Admitted, LeastCuts, AdmittedLate, GreatestCuts}
+use Rattle.plan_marks.specs.Marks.{Units}
+use Rattle.plan_windows.specs.Windows.{Admitted, LeastCuts, AdmittedLate, GreatestCuts}
 use Rattle.plan_windows.specs.Narrowing.{Narrowable, earliestRoom, latestRoom}
-use Rattle.plan_windows.proofs.RowFillLaws.{less-arc, less-other}
 use Rattle.plan_windows.proofs.ExtremeLaws.{plan-admits, earliest-is, plan-admits-late, latest-is}
 
--- windows inside are no more than there are units
-pub inside-within : (ws : List Window) (a b : ℕ) → length ws ≤ maxUnits → Within maxUnits (insideWeights ws a b)
-unfolding insideWeights
-inside-within ws a b h = omega (arith, howMany-most (insideOf (suc b) a) ws, neg (pos (howMany (insideOf (suc b) a) ws)))
-
--- and one less counts one window more
+-- one less than the windows inside counts one window more
 inside-less : (ws : List Window) (a b : ℕ) → insideWeights ws a b +ℤ negsuc 0 ≡ negℤ (pos (suc (howMany (insideOf (suc b) a) ws)))
 unfolding insideWeights
 inside-less ws a b =

@@ -1,7 +1,1 @@
-pub mod Reply
-pub mod Printing
-pub mod PrintingLaws
-pub mod BytesLaws
-pub mod CallLaws
-pub mod OwnLaws
 pub mod PageConditions

@@ -1,6 +1,7 @@
 -- The user's three conditions, of printing from lists, in the words of lawful plans, of the rooms and of the page's own lines, all of them.
--- `call` is what the entry `print` ensures of every call: `Printing`, in Printing.antt. `reply` is what its answer says (`replyOf`, in Reply.antt), `before`
--- and `after` are the rooms lent, `page` and `left` the page before and after, `at` the running place, `s` the sheet in the lists and `ks` its loader numbers.
+-- `call` is what the entry `print` ensures of every call: `Printing`, in Printing.antt of print_answer. `reply` is what its answer says (`replyOf`, in
+-- Reply.antt there), `before` and `after` are the rooms lent, `page` and `left` the page before and after, `at` the running place, `s` the sheet in the
+-- lists and `ks` its loader numbers.
 use mathlib.Core.Path.{_≡_, refl, sym, ap, _∙_, subst}
 use mathlib.Core.Logic.{_⊎_, inl, inr, ⊎-elim, _↔_}
 use mathlib.Core.Bool.{Bool, true, false}
@@ -14,7 +15,8 @@ use Rattle.network.specs.Table.{entry}
 use Rattle.questions.specs.Questions.{no, allYes}
 use Rattle.sheet.specs.Sheet.{Sheet, boundaries, lawful, printedPlan}
 use Rattle.sheet.specs.Lists.{WrittenLists, givenBy}
-use Rattle.plan_ask.specs.Questions.{Rooms, planLent, roomsFit, refusal}
+use Rattle.plan_rooms.specs.Rooms.{Rooms, planLent, roomsFit}
+use Rattle.plan_ask.specs.Questions.{refusal}
 use Rattle.plan_ask.specs.AskingLaws.{lists-read, units-length}
 use Rattle.plan_ask.specs.Asking.{Listed}
 use Rattle.plan_ask.specs.SolvableLaws.{asked-lists}
@@ -28,11 +30,11 @@ use Rattle.pages.specs.PageBounds.{plan-short, none-short}
 use Rattle.pages.specs.PageLines.{readLines, answerOn}
 use Rattle.pages.specs.PageLinesLaws.{answer-read}
 use Rattle.pages.specs.SheetPages.{planBytes, ringBytes}
-use Rattle.print.specs.Printing.{holds, Asked, Shown, Printing}
+use Rattle.print_answer.specs.Printing.{holds, Asked, Shown, Printing}
 use Rattle.pages.specs.Pages.{PlanPage, NonePage}
 use Rattle.pages.specs.PagesLaws.{plan-page, none-page}
-use Rattle.print.specs.Reply as says
-use Rattle.print.specs.Reply.{refusalOf}
+use Rattle.print_answer.specs.Reply as says
+use Rattle.print_answer.specs.Reply.{refusalOf}
 
 module _ (l : WrittenLists) (before : Rooms) (page : List ℕ) (at : ℕ) (reply : says.Reply) (after : Rooms) (left : List ℕ)
     (call : Printing l before page at reply after left) where

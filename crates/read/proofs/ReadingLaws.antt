@@ -1,12 +1,12 @@
 -- From the answer of the pass to that of the call: questions 1 and 12 stand at the two ends, and what is left in the rooms.
 -- Key idea: the first no of two lists of questions is that of the first, or else that of the second.
-use Prim.Native.Nat.{ℕ, _≤_, _<_, _*_}
-use mathlib.Core.Path.{_≡_, refl, sym, ap, ap₂, _∙_}
+use Prim.Native.Nat.{ℕ, _≤_, _<_}
+use mathlib.Core.Path.{_≡_, refl, sym, ap, ap₂, subst, _∙_}
 use mathlib.Core.Bool.{Bool, true, false, _&&_, cond}
 use mathlib.Core.List.{List, [], _∷_, map, map-map}
 use native.Mathlib.Omega.{arith}
-use lib.ListN.{length, getD, take, length-map}
-use lib.Seq.{length-sets}
+use lib.ListN.{length, take}
+use lib.Seq.{sets}
 use lib.Dec.{leb}
 use borrow.Author.Tests.{le-leb, lt-leb, leb-true}
 use Rattle.lists.specs.Lists.{onFront}
@@ -14,15 +14,13 @@ use Rattle.questions.specs.Questions.{ask, Verdict, no, allYes, firstNo, andThe
 use Rattle.questions.specs.FirstNoLaws.{firstNo-append}
 use Rattle.forms.specs.declared.House.{House}
 use Rattle.sheet.specs.Sizes.{maxUnits, maxRules, maxBytes}
-use Rattle.sheet.specs.Sheet.{Window, constraints, loaders}
+use Rattle.sheet.specs.Sheet.{Window, Rule, SheetUnit, constraints}
 use Rattle.sheet.specs.declared.Sheet.{Sheet}
 use Rattle.lists.specs.Members.{and-left, and-right}
-use Rattle.read_ask.specs.Reading.{sheetIn, ListRooms, listsFit, passQuestions, questions, Reply, refused, read, concluded, reading}
-use Rattle.read_ask.specs.Steps.{windowNumbers, ruleNumbers, unitStream, ruleStream, passReply, KeptNumbers}
-use Rattle.read_ask.specs.SpanLaws.{sets-front}
-use Rattle.read.specs.Rooms.{sizesOf, leaves, roomsAfter}
-use Rattle.read.specs.Spread.{strided, filled, Filling}
-use Rattle.read.proofs.SpreadLaws.{stream-column, rooms-same}
+use Rattle.read_questions.specs.Reading.{sheetIn, ListRooms, listsFit, passQuestions, questions, Reply, refused, read, concluded, reading}
+use Rattle.read_questions.specs.Steps.{Holds, columns, passReply, KeptNumbers}
+use Rattle.read_questions.specs.ArrayLaws.{rooms-same, column-front, SameSizes, set-sizes, still-holds}
+use Rattle.read.specs.Rooms.{sizesOf, leaves, roomsAfter, filled}
 
 module _ (h : House) (t : List ℕ) (sizes : ListRooms ℕ) where
   abbrev fit : Bool
@@ -84,69 +82,69 @@ module _ (h : House) (t : List ℕ) (sizes : ListRooms ℕ) where
 pub rooms-kept : (h : House) (t : List ℕ) (m : ListRooms (List ℕ)) (q n : ℕ) → refused q n ≡ reading h t (sizesOf m) → m ≡ roomsAfter h t m
 rooms-kept h t m q n e = ap (λ (a : Reply). leaves a (sheetIn h t) m) e
 
--- rooms that question 12 finds long enough, and arrays that hold what was kept
-pub fills : (h : House) (s : Sheet) (t numbers numbers′ units units′ rules rules′ : List ℕ) (sizes : ListRooms ℕ) → maxUnits ≤ length numbers
-    → 2 * maxUnits ≤ length units → 4 * maxRules ≤ length rules → KeptNumbers h s t numbers numbers′ units units′ rules rules′
-    → listsFit (s .units) (s .rules) sizes ≡ true → Filling s (length numbers′) (length units′) (length rules′) sizes
-fills h s t numbers numbers′ units units′ rules rules′ sizes n u r k f =
-    let c = leb (s .units) (sizes .loader) in
-    let a = leb (s .units) (sizes .first) && leb (s .units) (sizes .last) in
-    let b = leb (s .rules) (sizes .from) && leb (s .rules) (sizes .to) in
+-- rooms that question 12 finds long enough
+pub rooms-hold : (u r : ℕ) (m : ListRooms (List ℕ)) → listsFit u r (sizesOf m) ≡ true → Holds u r m
+rooms-hold u r m f =
+    let k = sizesOf m in
+    let c = leb u (k .loader) in
+    let a = leb u (k .first) && leb u (k .last) in
+    let b = leb r (k .from) && leb r (k .to) in
     let l = and-right c _ f in
     let g = and-left a _ l in
     let j = and-left b _ (and-right a _ l) in
     let i = and-right b _ (and-right a _ l) in
     record {
-      in-numbers = omega (arith, k .few-units, ap length (k .in-numbers), length-sets numbers 0 (loaders (sheetIn h t)));
-      in-units = omega (arith, k .few-units, ap length (k .in-units), length-sets units 0 (unitStream (sheetIn h t .units)));
-      in-rules = omega (arith, k .few-rules, ap length (k .in-rules), length-sets rules 0 (ruleStream (sheetIn h t .rules)));
-      in-loader = leb-true (s .units) (sizes .loader) (and-left c _ f);
-      in-first = leb-true (s .units) (sizes .first) (and-left _ _ g);
-      in-last = leb-true (s .units) (sizes .last) (and-right (leb (s .units) (sizes .first)) _ g);
-      in-from = leb-true (s .rules) (sizes .from) (and-left _ _ j);
-      in-to = leb-true (s .rules) (sizes .to) (and-right (leb (s .rules) (sizes .from)) _ j);
-      in-low = leb-true (s .rules) (sizes .low) (and-left _ _ i);
-      in-high = leb-true (s .rules) (sizes .high) (and-right (leb (s .rules) (sizes .low)) _ i);
+      in-loader = leb-true u (k .loader) (and-left c _ f);
+      in-first = leb-true u (k .first) (and-left _ _ g);
+      in-last = leb-true u (k .last) (and-right (leb u (k .first)) _ g);
+      in-from = leb-true r (k .from) (and-left _ _ j);
+      in-to = leb-true r (k .to) (and-right (leb r (k .from)) _ j);
+      in-low = leb-true r (k .low) (and-left _ _ i);
+      in-high = leb-true r (k .high) (and-right (leb r (k .low)) _ i);
     }
 
--- a window's two ends
-abbrev ends : Window → List ℕ
-ends w = (w .first) ∷ (w .last) ∷ []
+-- arrays with the numbers of a sheet that was read
+module _ (h : House) (s : Sheet) (t : List ℕ) (arrays arrays′ : ListRooms (List ℕ)) (all : Holds maxUnits maxRules arrays)
+    (k : KeptNumbers h s t arrays arrays′) where
+  pub arrays-hold : Holds (s .units) (s .rules) arrays′
+  arrays-hold =
+      let xs = columns (sheetIn h t .units) (sheetIn h t .rules) in
+      let e = subst (λ (x : ListRooms (List ℕ)). SameSizes x arrays) (sym (k .in-arrays)) (set-sizes arrays 0 0 xs) in
+      still-holds (s .units) (s .rules) arrays′ arrays e (record {
+        in-loader = omega (arith, all .in-loader, k .few-units);
+        in-first = omega (arith, all .in-first, k .few-units);
+        in-last = omega (arith, all .in-last, k .few-units);
+        in-from = omega (arith, all .in-from, k .few-rules);
+        in-to = omega (arith, all .in-to, k .few-rules);
+        in-low = omega (arith, all .in-low, k .few-rules);
+        in-high = omega (arith, all .in-high, k .few-rules);
+      })
 
--- what was filled in is what the sheet's lists are
-pub rooms-filled : (h : House) (s : Sheet) (t numbers numbers′ units units′ rules rules′ : List ℕ) (m : ListRooms (List ℕ)) → maxUnits ≤ length numbers
-    → 2 * maxUnits ≤ length units → 4 * maxRules ≤ length rules
-    → length t ≤ maxBytes → read (s .span) (s .units) (s .rules) ≡ passReply h t → listsFit (s .units) (s .rules) (sizesOf m) ≡ true
-    → KeptNumbers h s t numbers numbers′ units units′ rules rules′ → filled s numbers′ units′ rules′ m ≡ roomsAfter h t m
-unfolding unitStream ruleStream
-rooms-filled h s t numbers numbers′ units units′ rules rules′ m n u r short e f k =
-    rooms-same loader-room (unit-room 0 (omega arith) (m .first)) (unit-room 1 (omega arith) (m .last))
-    (rule-room 0 (omega arith) (m .from)) (rule-room 1 (omega arith) (m .to)) (rule-room 2 (omega arith) (m .low)) (rule-room 3 (omega arith) (m .high))
-    ∙ ap (λ (a : Reply). leaves a (sheetIn h t) m) (answer-read h t (sizesOf m) short (s .span) (s .units) (s .rules) e f)
-  where
-    g : PassYes h t (sizesOf m) short (s .span) (s .units) (s .rules) e
-    g = passed h t (sizesOf m) short (s .span) (s .units) (s .rules) e
+  -- what was filled in is what the sheet's lists are
+  pub rooms-filled : (m : ListRooms (List ℕ)) → length t ≤ maxBytes → read (s .span) (s .units) (s .rules) ≡ passReply h t
+      → listsFit (s .units) (s .rules) (sizesOf m) ≡ true → filled s arrays′ m ≡ roomsAfter h t m
+  rooms-filled m short e f =
+      ap (λ (x : ListRooms (List ℕ)). filled s x m) (k .in-arrays)
+      ∙ rooms-same (unit-room (λ u. u .loader) (arrays .loader) (m .loader) (all .in-loader))
+      (unit-room (λ u. u .window .first) (arrays .first) (m .first) (all .in-first) ∙ window-room (λ w. w .first) (m .first))
+      (unit-room (λ u. u .window .last) (arrays .last) (m .last) (all .in-last) ∙ window-room (λ w. w .last) (m .last))
+      (rule-room (λ r. r .from) (arrays .from) (m .from) (all .in-from)) (rule-room (λ r. r .to) (arrays .to) (m .to) (all .in-to))
+      (rule-room (λ r. r .low) (arrays .low) (m .low) (all .in-low)) (rule-room (λ r. r .high) (arrays .high) (m .high) (all .in-high))
+      ∙ ap (λ (a : Reply). leaves a (sheetIn h t) m) (answer-read h t (sizesOf m) short (s .span) (s .units) (s .rules) e f)
+    where
+      g : PassYes h t (sizesOf m) short (s .span) (s .units) (s .rules) e
+      g = passed h t (sizesOf m) short (s .span) (s .units) (s .rules) e
 
-    loader-room : onFront (take (s .units) numbers′) (m .loader) ≡ onFront (loaders (sheetIn h t)) (m .loader)
-    loader-room =
-        ap (λ (xs : List ℕ). onFront xs (m .loader))
-        (ap (take (s .units)) (k .in-numbers)
-        ∙ sets-front numbers (loaders (sheetIn h t)) (s .units) (length-map (sheetIn h t .units) (λ u. u .loader) ∙ sym (g .units))
-        (omega (arith, k .few-units)))
+      unit-room : (f : SheetUnit → ℕ) (array room : List ℕ) → maxUnits ≤ length array
+          → onFront (take (s .units) (sets array 0 (map f (sheetIn h t .units)))) room ≡ onFront (map f (sheetIn h t .units)) room
+      unit-room f array room l =
+          ap (λ (xs : List ℕ). onFront xs room) (column-front f array (sheetIn h t .units) (s .units) (g .units) (omega (arith, l, k .few-units)))
 
-    unit-room : (c : ℕ) → c < 2 → (room : List ℕ) → onFront (strided (s .units) 2 c units′) room
-        ≡ onFront (map (λ w. getD (ends w) c 0) (constraints (sheetIn h t) .units)) room
-    unit-room c l room =
-        let us = sheetIn h t .units in
-        ap (λ (xs : List ℕ). onFront xs room)
-        (ap₂ (λ (n : ℕ) (xs : List ℕ). strided n 2 c xs) (g .units) (k .in-units)
-        ∙ stream-column windowNumbers 2 c l (λ w. refl) units us (omega (arith, k .few-units, g .units))
-        ∙ sym (map-map (λ w. getD (ends w) c 0) (λ u. u .window) us))
+      window-room : (f : Window → ℕ) (room : List ℕ) → onFront (map (λ u. f (u .window)) (sheetIn h t .units)) room
+          ≡ onFront (map f (constraints (sheetIn h t) .units)) room
+      window-room f room = ap (λ (xs : List ℕ). onFront xs room) (sym (map-map f (λ u. u .window) (sheetIn h t .units)))
 
-    rule-room : (c : ℕ) → c < 4 → (room : List ℕ) → onFront (strided (s .rules) 4 c rules′) room
-        ≡ onFront (map (λ w. getD (ruleNumbers w) c 0) (sheetIn h t .rules)) room
-    rule-room c l room =
-        let rs = sheetIn h t .rules in
-        ap (λ (xs : List ℕ). onFront xs room)
-        (ap₂ (λ (n : ℕ) (xs : List ℕ). strided n 4 c xs) (g .rules) (k .in-rules)
-        ∙ stream-column ruleNumbers 4 c l (λ w. refl) rules rs (omega (arith, k .few-rules, g .rules)))
+      rule-room : (f : Rule → ℕ) (array room : List ℕ) → maxRules ≤ length array
+          → onFront (take (s .rules) (sets array 0 (map f (sheetIn h t .rules)))) room ≡ onFront (map f (sheetIn h t .rules)) room
+      rule-room f array room l =
+          ap (λ (xs : List ℕ). onFront xs room) (column-front f array (sheetIn h t .rules) (s .rules) (g .rules) (omega (arith, l, k .few-rules)))

@@ -2,33 +2,22 @@ ghost use mathlib.Core.Path.{_≡_};
 ghost use mathlib.Core.Bool.{_&&_};
 ghost use Prim.Native.Nat.{_≤_};
 ghost use lib.Dec.{leb};
-ghost use lib.ListN.{length};
+ghost use lib.ListN.{length, take};
 ghost use Rattle.lists.specs.Lists.{onFront};
-ghost use Rattle.read_ask.specs.Reading.{replyOf, reading, rooms, listsFit};
-ghost use Rattle.read.specs.Rooms.{sizesOf, roomsAfter};
-ghost use Rattle.read.specs.Spread.{strided, Reach, Filling, filled};
+ghost use Rattle.read_questions.specs.Reading.{replyOf, reading, rooms, listsFit};
+ghost use Rattle.read_questions.specs.Steps.{Holds};
+ghost use Rattle.read.specs.Rooms.{sizesOf, roomsAfter, filled};
 use forms::House;
 use questions::Refusal;
-use read_ask::Reading;
+use read_questions::Reading;
 use sheet::Sheet;
 
-// Beside its loader number, two numbers a unit and four a rule are kept on the way.
-const UNIT_NUMBERS: usize = 2 * Sheet::MAX_UNITS;
-
-const RULE_NUMBERS: usize = 4 * Sheet::MAX_RULES;
-
-// Every k-th number of an array, n of them from a place on, at the front of a room.
-fn spread(source: &[u16], n: usize, k: usize, start: usize, room: &mut [u16])
-    requires { ⌜ Reach n k start (length (now source)) × (k ≤ 4) × (n ≤ length (now room)) ⌝ }
-    ensures { λ _. ⌜ now (room .exit) ≡ onFront (strided n k start (now (source .entry))) (now (room .entry)) ⌝ }
+// The first n numbers of an array, at the front of a room.
+fn copy_front(array: &[u16], n: usize, room: &mut [u16])
+    requires { ⌜ (n ≤ length (now array)) × (n ≤ length (now room)) ⌝ }
+    ensures { λ _. ⌜ now (room .exit) ≡ onFront (take n (now (array .entry))) (now (room .entry)) ⌝ }
 {
-    let mut from = start;
-    let mut i: usize = 0;
-    while i < n {
-        room[i] = source[from];
-        from += k;
-        i += 1;
-    }
+    lists::copy_list(&array[0..n], room);
 }
 
 fn both_hold(n: usize, a: usize, b: usize) -> bool
@@ -65,12 +54,16 @@ fn lists_fit(
     both_hold(s.rules, low, high)
 }
 
-// The numbers of the three arrays into the rooms, which are long enough.
+// The fronts of the arrays into the rooms, which are long enough.
 fn fill(
     s: Sheet,
     numbers: &[u16],
-    units: &[u16],
-    rules: &[u16],
+    firsts: &[u16],
+    lasts: &[u16],
+    froms: &[u16],
+    tos: &[u16],
+    lows: &[u16],
+    highs: &[u16],
     loader: &mut [u16],
     first: &mut [u16],
     last: &mut [u16],
@@ -79,24 +72,24 @@ fn fill(
     low: &mut [u16],
     high: &mut [u16],
 )
-    requires { ⌜ Filling s (length (now numbers)) (length (now units)) (length (now rules))
-        (rooms (length (now loader)) (length (now first)) (length (now last)) (length (now from)) (length (now to)) (length (now low))
-        (length (now high))) ⌝ }
+    requires { ⌜ Holds (s .units) (s .rules) (rooms (now numbers) (now firsts) (now lasts) (now froms) (now tos) (now lows) (now highs))
+        × Holds (s .units) (s .rules) (rooms (now loader) (now first) (now last) (now from) (now to) (now low) (now high)) ⌝ }
     ensures { λ _. ⌜ rooms (now (loader .exit)) (now (first .exit)) (now (last .exit)) (now (from .exit)) (now (to .exit)) (now (low .exit))
         (now (high .exit))
-        ≡ filled s (now (numbers .entry)) (now (units .entry)) (now (rules .entry))
+        ≡ filled s (rooms (now (numbers .entry)) (now (firsts .entry)) (now (lasts .entry)) (now (froms .entry)) (now (tos .entry)) (now (lows .entry))
+        (now (highs .entry)))
         (rooms (now (loader .entry)) (now (first .entry)) (now (last .entry)) (now (from .entry)) (now (to .entry)) (now (low .entry))
         (now (high .entry))) ⌝ }
 {
     let n = s.units;
     let r = s.rules;
-    lists::copy_list(&numbers[0..n], loader);
-    spread(units, n, 2, 0, first);
-    spread(units, n, 2, 1, last);
-    spread(rules, r, 4, 0, from);
-    spread(rules, r, 4, 1, to);
-    spread(rules, r, 4, 2, low);
-    spread(rules, r, 4, 3, high);
+    copy_front(numbers, n, loader);
+    copy_front(firsts, n, first);
+    copy_front(lasts, n, last);
+    copy_front(froms, r, from);
+    copy_front(tos, r, to);
+    copy_front(lows, r, low);
+    copy_front(highs, r, high);
 }
 
 // The open entry, for a text of either house. A refusal leaves every room as it was; else the units and rules stand at the front of theirs.
@@ -125,9 +118,23 @@ pub fn read(
         return Reading::Refused(Refusal { number: 1, line: 0 });
     }
     let mut numbers = [0u16; Sheet::MAX_UNITS];
-    let mut units = [0u16; UNIT_NUMBERS];
-    let mut rules = [0u16; RULE_NUMBERS];
-    let asked = read_ask::ask_text(house, text, &mut numbers, &mut units, &mut rules);
+    let mut firsts = [0u16; Sheet::MAX_UNITS];
+    let mut lasts = [0u16; Sheet::MAX_UNITS];
+    let mut froms = [0u16; Sheet::MAX_RULES];
+    let mut tos = [0u16; Sheet::MAX_RULES];
+    let mut lows = [0u16; Sheet::MAX_RULES];
+    let mut highs = [0u16; Sheet::MAX_RULES];
+    let asked = read_ask::ask_text(
+        house,
+        text,
+        &mut numbers,
+        &mut firsts,
+        &mut lasts,
+        &mut froms,
+        &mut tos,
+        &mut lows,
+        &mut highs,
+    );
     match asked {
         Reading::Refused(refusal) => Reading::Refused(refusal),
         Reading::Sheet(s) => {
@@ -149,8 +156,12 @@ pub fn read(
             fill(
                 s,
                 &numbers,
-                &units,
-                &rules,
+                &firsts,
+                &lasts,
+                &froms,
+                &tos,
+                &lows,
+                &highs,
                 loader,
                 first,
                 last,

@@ -1,52 +1,58 @@
--- The laws that the steps of one line rest on.
--- Key idea: numbers written one after the other are a list set from a place on; and no number written changes nothing. A line that is no unit leaves the
--- chains of loader numbers, and a unit puts its number in front of one.
-use Prim.Native.Nat.{ℕ, suc, _+_, _*_, _%_, _≤_, _<_}
-use mathlib.Core.Path.{_≡_, refl, sym, ap, subst, _∙_}
+-- The laws that the step of one line rests on.
+-- Key idea: a line that is no unit leaves the chains of loader numbers; and what a unit or a rule puts into its arrays is what the line adds to them.
+use Prim.Native.Nat.{ℕ, _+_, _≤_}
+use mathlib.Core.Path.{_≡_, refl, sym, subst}
 use mathlib.Core.Bool.{Bool, true, false, not, cond}
-use mathlib.Core.List.{List, [], _∷_}
-use native.Mathlib.Numerals.{add-one}
-use native.Mathlib.Omega.{arith}
-use lib.ListN.{getD, set, length-set}
-use lib.Seq.{sets}
-use lib.Dec.{T, eqb, leb, ltb}
-use borrow.Author.Tests.{ne-eqb, leb-true}
-use Rattle.lists.specs.Lists.{within}
-use Rattle.lists.specs.Members.{and-left, and-right, within-iff}
-use Rattle.sheet.specs.Sizes.{maxSlots, maxUnits, maxRules}
-use Rattle.sheet.specs.Questions.{isSpan, rising, isStretch, isCount}
+use mathlib.Core.List.{List}
+use lib.Dec.{T, eqb, ltb}
+use Rattle.lists.specs.Members.{within-iff}
+use Rattle.sheet.specs.Sizes.{maxSlots, maxRules}
+use Rattle.sheet.specs.Questions.{isSpan, isStretch, isCount}
 use Rattle.sheet.specs.declared.Sheet.{Sheet}
-use Rattle.loaders.specs.Chains.{chains}
-use Rattle.loaders.specs.ChainLaws.{linked-written}
 use Rattle.forms.specs.declared.House.{House}
 use Rattle.read_line.specs.declared.Line.{Line}
 use Rattle.read_line.specs.declared.Line.the-variants as Line
-use Rattle.read_ask.specs.Reading.{lastPlace}
-use Rattle.read_ask.specs.Steps.{sheetStep, ruleStep, stepOf, loaderPart, unitPart, rulePart, keptBy, counted, Chained, ChainedBy}
-use Rattle.read_ask.specs.declared.Step.{Step}
-use Rattle.read_ask.specs.declared.Step.the-variants.{No, On}
-
-pub two-set : (l : List ℕ) (i a b : ℕ) → set (set l i a) (i + 1) b ≡ sets l i (a ∷ b ∷ [])
-two-set l i a b = ap (λ (k : ℕ). set (set l i a) k b) (add-one i)
-
-pub four-set : (l : List ℕ) (i a b c d : ℕ) → set (set (set (set l i a) (i + 1) b) (i + 2) c) (i + 3) d ≡ sets l i (a ∷ b ∷ c ∷ d ∷ [])
-four-set l i a b c d =
-    let one : i + 1 ≡ suc i = omega arith in
-    let two : i + 2 ≡ suc (suc i) = omega arith in
-    let three : i + 3 ≡ suc (suc (suc i)) = omega arith in
-    rw (one, two, three) refl
-
-pub kept-none : (r : Step) (l : List ℕ) (i : ℕ) → l ≡ keptBy r l i []
-kept-none (No q) l i = refl
-kept-none (On s) l i = refl
+use Rattle.read_steps.specs.Steps.{sheetStep, ruleStep, counted, putBy, Chained, ChainedBy}
+use Rattle.read_steps.specs.declared.Step.{Step}
+use Rattle.read_steps.specs.declared.Step.the-variants.{No, On}
+use Rattle.read_questions.specs.Reading.{ListRooms, rooms}
+use Rattle.read_questions.specs.Steps.{stepOf, keptBy}
+use Rattle.read_questions.specs.ArrayLaws.{rooms-same}
 
 -- a step that was made for what the line is
-pub line-stepped : (house : House) (ks : List ℕ) (s : Sheet) (line x : Line) (r : Step) (a a′ u u′ v v′ h n : List ℕ) → line ≡ x
-    → r ≡ stepOf house ks s x → ChainedBy r a′ h n
-    → a′ ≡ keptBy r a (s .units) (loaderPart x) → u′ ≡ keptBy r u (2 * s .units) (unitPart x) → v′ ≡ keptBy r v (4 * s .rules) (rulePart x)
-    → (r ≡ stepOf house ks s line) × (ChainedBy r a′ h n × ((a′ ≡ keptBy r a (s .units) (loaderPart line))
-    × ((u′ ≡ keptBy r u (2 * s .units) (unitPart line)) × (v′ ≡ keptBy r v (4 * s .rules) (rulePart line)))))
-line-stepped house ks s line x r a a′ u u′ v v′ h n e p c q t w = rw e (p, (c, (q, (t, w))))
+pub line-stepped : (house : House) (ks : List ℕ) (s : Sheet) (line x : Line) (r : Step) (m m′ : ListRooms (List ℕ)) (heads nexts : List ℕ) → line ≡ x
+    → r ≡ stepOf house ks s x → ChainedBy r (m′ .loader) heads nexts → m′ ≡ keptBy r m s x
+    → (r ≡ stepOf house ks s line) × (ChainedBy r (m′ .loader) heads nexts × (m′ ≡ keptBy r m s line))
+line-stepped house ks s line x r m m′ heads nexts e p c q = rw e (p, (c, q))
+
+-- ---- the arrays
+
+module _ (r : Step) (m : ListRooms (List ℕ)) (s : Sheet) where
+  pub kept-sheet : (p : ℕ) → m ≡ keptBy r m s (Line.Sheet p)
+  kept-sheet p = go r
+    where
+      go : (r : Step) → m ≡ keptBy r m s (Line.Sheet p)
+      go (No q) = refl
+      go (On more) = refl
+
+  pub kept-unit : (k f l : ℕ) (a b c : List ℕ) → a ≡ putBy r (m .loader) (s .units) k → b ≡ putBy r (m .first) (s .units) f
+      → c ≡ putBy r (m .last) (s .units) l → rooms a b c (m .from) (m .to) (m .low) (m .high) ≡ keptBy r m s (Line.Unit k f l)
+  kept-unit k f l a b c = go r
+    where
+      go : (r : Step) → a ≡ putBy r (m .loader) (s .units) k → b ≡ putBy r (m .first) (s .units) f → c ≡ putBy r (m .last) (s .units) l
+          → rooms a b c (m .from) (m .to) (m .low) (m .high) ≡ keptBy r m s (Line.Unit k f l)
+      go (No q) x y z = rooms-same x y z refl refl refl refl
+      go (On more) x y z = rooms-same x y z refl refl refl refl
+
+  pub kept-rule : (f t lo hi : ℕ) (a b c d : List ℕ) → a ≡ putBy r (m .from) (s .rules) f → b ≡ putBy r (m .to) (s .rules) t
+      → c ≡ putBy r (m .low) (s .rules) lo → d ≡ putBy r (m .high) (s .rules) hi
+      → rooms (m .loader) (m .first) (m .last) a b c d ≡ keptBy r m s (Line.Rule f t lo hi)
+  kept-rule f t lo hi a b c d = go r
+    where
+      go : (r : Step) → a ≡ putBy r (m .from) (s .rules) f → b ≡ putBy r (m .to) (s .rules) t → c ≡ putBy r (m .low) (s .rules) lo
+          → d ≡ putBy r (m .high) (s .rules) hi → rooms (m .loader) (m .first) (m .last) a b c d ≡ keptBy r m s (Line.Rule f t lo hi)
+      go (No q) w x y z = rooms-same refl refl refl w x y z
+      go (On more) w x y z = rooms-same refl refl refl w x y z
 
 -- ---- the chains
 
@@ -79,36 +85,3 @@ module _ (s : Sheet) (numbers heads nexts : List ℕ) (c : Chained s numbers hea
       go true true false t₁₀ = tt
       go true false t₈ t₁₀ = tt
       go false t₇ t₈ t₁₀ = tt
-
--- a unit more
-pub unit-chained : (s : Sheet) (numbers heads nexts heads′ nexts′ : List ℕ) (k : ℕ) → Chained s numbers heads nexts → s .units < maxUnits
-    → heads′ ≡ set heads (k % chains) (s .units + 1) → nexts′ ≡ set nexts (s .units) (getD heads (k % chains) 0)
-    → Chained (counted (s .span) (s .units + 1) (s .rules)) (set numbers (s .units) k) heads′ nexts′
-unit-chained s numbers heads nexts heads′ nexts′ k c h e f =
-    let n = s .units in
-    rw (e, f) (record {
-      few-slots = c .few-slots;
-      few-units = omega arith;
-      in-numbers = omega (arith, length-set numbers n k, c .in-numbers);
-      in-nexts = length-set nexts n (getD heads (k % chains) 0) ∙ c .in-nexts;
-      linked = linked-written numbers heads nexts n k (c .linked) (omega (arith, c .in-numbers)) (omega (arith, c .in-nexts));
-    })
-
--- ---- 5 and 7 of a unit
-
--- a span that holds a window is not 0
-pub window-span : (span most f l : ℕ) → rising 1 span most f l ≡ true → eqb span 0 ≡ false
-window-span span most f l e =
-    let first = and-left (within 1 span f) (within f most l) e in
-    let low = leb-true 1 f (and-left (leb 1 f) (leb f span) first) in
-    let high = leb-true f span (and-right (leb 1 f) (leb f span) first) in
-    ne-eqb span 0 (λ z. omega (arith, low, high, z))
-
--- so where there is no window, 5 is failed where the span is 0, and else 7
-pub no-window : (h : House) (span f l : ℕ) (fits : Step) → rising 1 span (lastPlace h span) f l ≡ false
-    → No (cond (eqb span 0) 5 7) ≡ cond (not (eqb span 0)) (cond (rising 1 span (lastPlace h span) f l) fits (No 7)) (No 5)
-no-window h span f l fits e = rw e (go (eqb span 0))
-  where
-    go : (z : Bool) → No (cond z 5 7) ≡ cond (not z) (No 7) (No 5)
-    go true = refl
-    go false = refl

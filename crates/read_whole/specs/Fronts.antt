@@ -3,7 +3,7 @@ use Prim.Native.Nat.{ℕ, _≤_}
 use mathlib.Core.List.{List}
 use lib.ListN.{length, take}
 use Rattle.sheet.specs.declared.Sheet.{Sheet}
-use Rattle.read_ask.specs.Reading.{ListRooms}
+use Rattle.read_questions.specs.Reading.{ListRooms}
 use Rattle.sheet.specs.Lists.{WrittenLists, writtenLists}
 use Rattle.plan_ask.specs.Asking.{Listed}
 

@@ -12,7 +12,7 @@ use Rattle.lists.specs.Members.{both}
 use Rattle.sheet.specs.Sheet.{Window, Rule, Sheet, SheetUnit, WrittenSheet, constraints, loaders}
 use Rattle.sheet.specs.Questions.{windowsOf, rulesOf, sheetOf, listsAgree, accepted, loadersFit}
 use Rattle.sheet.specs.declared.Sheet.{Sheet as Read}
-use Rattle.read_ask.specs.Reading.{ListRooms, read}
+use Rattle.read_questions.specs.Reading.{ListRooms, read}
 use Rattle.lists.specs.Lists.{onFront}
 use Rattle.read.specs.Rooms.{leaves}
 use Rattle.sheet.specs.Lists.{WrittenLists, writtenLists, givenBy, unitsOf, writtenBy, agree}

@@ -22,9 +22,10 @@ use Rattle.forms.specs.Decimal.{digits, spell}
 use Rattle.forms.specs.Lines.{TextLine, textLine}
 use Rattle.forms.specs.declared.House.{House}
 use Rattle.read_line.specs.Content.{Content, sheet, unit, rule}
-use Rattle.read_ask.specs.Reading.{contents, isSheet, hasSheet, spanIn, spanElse, unitOf, unitsIn, loadersIn, ruleOf, rulesIn}
-use Rattle.read_ask.specs.Reading.{lastPlace, questionsOf, lineQuestions}
-use Rattle.read_ask.specs.SpanLaws.{units-more, rules-more, hasSheet-same, spanIn-same}
+use Rattle.read_questions.specs.Reading.{contents, isSheet, hasSheet, spanIn, spanElse, unitOf, unitsIn, loadersIn, ruleOf, rulesIn}
+use Rattle.read_steps.specs.Steps.{lastPlace}
+use Rattle.read_questions.specs.Reading.{questionsOf, lineQuestions}
+use Rattle.read_questions.specs.SpanLaws.{units-more, rules-more, hasSheet-same, spanIn-same}
 use Rattle.sheet_texts.specs.SheetText.{unitNumbers, ruleNumbers}
 use Rattle.round_trip.specs.WrittenContents.{LowKept, Line, span-line, unit-line, rule-line}
 

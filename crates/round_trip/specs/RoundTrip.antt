@@ -32,8 +32,9 @@ use Rattle.sheet_texts.specs.SheetText.{unitNumbers, ruleNumbers, spanText, uni
 use Rattle.sheet_texts.specs.SheetTextLaws.{text-short, text-readable}
 use Rattle.write_ask.specs.HouseQuestions.{houseQuestions}
 use Rattle.write.specs.Writing.{sheetAsked, outgoing}
-use Rattle.read_ask.specs.Reading.{contents, hasSheet, lastPlace, sheetIn, lineQuestions, passQuestions, questions}
-use Rattle.read_ask.specs.Reading.{ListRooms, rooms, listsFit, reading, concluded}
+use Rattle.read_steps.specs.Steps.{lastPlace}
+use Rattle.read_questions.specs.Reading.{contents, hasSheet, sheetIn, lineQuestions, passQuestions, questions}
+use Rattle.read_questions.specs.Reading.{ListRooms, rooms, listsFit, reading, concluded}
 use Rattle.read.specs.Rooms.{sizesOf, leaves, roomsAfter}
 use Rattle.forms.specs.WrittenLines.{next-line, next-lines}
 use Rattle.round_trip.specs.WrittenContents.{LowKept, span-shown, unit-shown, rule-shown}

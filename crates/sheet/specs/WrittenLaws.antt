@@ -2,12 +2,12 @@
 -- numbers are those given; and what the units and rules of an accepted one are, place by place.
 -- Key idea: units are numbers and windows side by side, so the numbers of the units and their windows are the two lists again.
 use mathlib.Core.Path.{_≡_, refl, sym, ap, _∙_, subst}
-use mathlib.Core.List.{List, [], _∷_, map, List·Memᴰ·head, List·Memᴰ·tail}
+use mathlib.Core.List.{List, [], _∷_, map}
 use Prim.Native.Nat.{ℕ, zero, suc, _≤_, _<_}
 use native.Mathlib.Omega.{arith}
 use lib.Dec.{T}
 use lib.ListN.{length, getD, length-map, List·getD-map}
-use Rattle.lists.specs.Members.{In}
+use Rattle.lists.specs.Members.{in-at}
 use Rattle.sheet.specs.Sizes.{maxCount, maxLoader, carriedPlace}
 use Rattle.sheet.specs.Sheet.{Window, Rule, Sheet, SheetUnit, WrittenSheet, constraints, loaders, top, noWindow}
 use Rattle.sheet.specs.PlanLaws.{noRule}
@@ -113,11 +113,6 @@ pub record FitRule (span : ℕ) (r : Rule) : Type 0 where
   pub ordered : r .from ≤ r .to
   pub ends : r .to ≤ span
   pub counts : (r .low ≤ r .high) × (r .high ≤ maxCount)
-
-in-at : {A : Type 0} (d : A) (xs : List A) (k : ℕ) → k < length xs → In (getD xs k d) xs
-in-at d [] k h = absurd (omega arith)
-in-at d (x ∷ xs) zero h = List·Memᴰ·head refl
-in-at d (x ∷ xs) (suc k) h = List·Memᴰ·tail (in-at d xs k (omega arith))
 
 pub rule-fits : (s : Sheet) → T (accepted s) → (j : ℕ) → j < length (s .rules) → FitRule (s .span) (getD (s .rules) j noRule)
 rule-fits s ok j h =

@@ -6,12 +6,12 @@ use lib.ListN.{length}
 use Rattle.forms.specs.declared.House.{House}
 use Rattle.sheet.specs.Sheet.{Sheet}
 use Rattle.sheet.specs.Lists.{WrittenLists}
-use Rattle.plan_ask.specs.Questions.{Rooms, DecideRooms, SeatRooms}
+use Rattle.plan_rooms.specs.Rooms.{Rooms, DecideRooms, SeatRooms}
 use Rattle.plan_solve.specs.Planning.{Conclusion, Settled, DecideSettled, SeatSettled}
 use Rattle.plan_solve.specs.Reply as planning
-use Rattle.print.specs.Printing as print
-use Rattle.print.specs.Reply as printing
-use Rattle.read_ask.specs.Reading.{ListRooms, reading}
+use Rattle.print_answer.specs.Printing as print
+use Rattle.print_answer.specs.Reply as printing
+use Rattle.read_questions.specs.Reading.{ListRooms, reading}
 use Rattle.read.specs.Rooms.{sizesOf, roomsAfter}
 use Rattle.write.specs.Writing.{writing, pageAfter}
 use Rattle.tugrokt_replies.specs.Numbers.{readingOf, planningOf, seatingOf, printingOf, writingOf}

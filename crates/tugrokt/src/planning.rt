@@ -1,5 +1,5 @@
 ghost use Rattle.sheet.specs.Lists.{writtenLists, givenBy};
-ghost use Rattle.plan_ask.specs.Questions.{lent};
+ghost use Rattle.plan_rooms.specs.Rooms.{lent};
 ghost use Rattle.plan_solve.specs.Planning.{conclusion};
 ghost use Rattle.tugrokt.specs.Told.{PlanTold};
 use tugrokt_replies::planning::Planning;

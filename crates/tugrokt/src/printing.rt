@@ -1,5 +1,5 @@
 ghost use Rattle.sheet.specs.Lists.{writtenLists};
-ghost use Rattle.plan_ask.specs.Questions.{lent};
+ghost use Rattle.plan_rooms.specs.Rooms.{lent};
 ghost use Rattle.tugrokt.specs.Told.{PrintTold};
 use tugrokt_replies::printing::Printing;
 

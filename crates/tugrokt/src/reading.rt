@@ -1,4 +1,4 @@
-ghost use Rattle.read_ask.specs.Reading.{rooms};
+ghost use Rattle.read_questions.specs.Reading.{rooms};
 ghost use Rattle.tugrokt.specs.Told.{ReadTold};
 use forms::House;
 use tugrokt_replies::reading::Reading;

@@ -1,5 +1,5 @@
 ghost use Rattle.sheet.specs.Lists.{writtenLists, givenBy};
-ghost use Rattle.plan_ask.specs.Questions.{seatRooms, seatLent};
+ghost use Rattle.plan_rooms.specs.Rooms.{seatRooms, seatLent};
 ghost use Rattle.plan_solve.specs.Planning.{conclusionIn};
 ghost use Rattle.tugrokt.specs.Told.{SeatTold};
 use tugrokt_replies::seating::Seating;

@@ -1,7 +1,7 @@
 ghost use mathlib.Core.Path.{_≡_};
-ghost use Rattle.print.specs.Reply.{replyOf};
+ghost use Rattle.print_answer.specs.Reply.{replyOf};
 ghost use Rattle.tugrokt_replies.specs.Numbers.{printingOf};
-use print::Printed;
+use print_answer::Printed;
 
 // What printing replies: the length of the ring, and the place just past the answer, or the place that was given where the call was refused.
 #[repr(C)]

@@ -1,5 +1,5 @@
 ghost use mathlib.Core.Path.{_≡_};
-ghost use Rattle.read_ask.specs.Reading.{replyOf};
+ghost use Rattle.read_questions.specs.Reading.{replyOf};
 ghost use Rattle.tugrokt_replies.specs.Numbers.{readingOf};
 
 // What reading replies: the span and the numbers of units and rules of the sheet that was read.
@@ -13,18 +13,18 @@ pub struct Reading {
 }
 
 // The reply as numbers.
-pub fn numbers_of(reply: read_ask::Reading) -> Reading
+pub fn numbers_of(reply: read_questions::Reading) -> Reading
     ensures { λ r. ⌜ r ≡ readingOf (replyOf reply) ⌝ }
 {
     match reply {
-        read_ask::Reading::Refused(refusal) => Reading {
+        read_questions::Reading::Refused(refusal) => Reading {
             number: refusal.number,
             line: refusal.line,
             span: 0,
             units: 0,
             rules: 0,
         },
-        read_ask::Reading::Sheet(s) => Reading {
+        read_questions::Reading::Sheet(s) => Reading {
             number: 0,
             line: 0,
             span: s.span,

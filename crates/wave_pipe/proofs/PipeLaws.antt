@@ -8,7 +8,7 @@ use lib.ListN.{length, drop, length-append}
 use Rattle.questions.specs.Questions.{Verdict, no, allYes}
 use Rattle.sheet.specs.Sizes.{maxBytes}
 use Rattle.forms.specs.declared.House.{House}
-use Rattle.read_ask.specs.Reading.{sheetIn}
+use Rattle.read_questions.specs.Reading.{sheetIn}
 use Rattle.sheet_texts.specs.SheetText.{sheetText}
 use Rattle.print_bytes.specs.Writing.{withBytes}
 use Rattle.convert.specs.Converting.{Reply, sheet, refused, replyOf, bytesBy, replyBy, refusal, converted, converting}

@@ -4,7 +4,7 @@ use mathlib.Core.List.{List}
 use Prim.Native.Nat.{ℕ}
 use lib.ListN.{take}
 use Rattle.forms.specs.declared.House.{House}
-use Rattle.answer.specs.declared.Query.{Query}
+use Rattle.wave_words.specs.declared.Query.{Query}
 use Rattle.answer.specs.Answer.{AnswerTo, Answered}
 use Rattle.print_bytes.specs.Writing.{withBytes}
 use Rattle.convert.specs.Converting.{replyOf, converting, converted}

@@ -1,24 +1,21 @@
 // What the program does: it reads a sheet from standard input and writes to standard output what its word asks for, an answer or the sheet in the form of
 // the other house. The contracts of the C functions say nothing of the bytes that come and go; what is promised is what a word asks for, the answer to the
 // bytes that were read, and that all ends and does nothing undefined.
-mod fault;
-mod words;
-
 ghost use Prim.Native.Nat.{_≤_};
 ghost use lib.ListN.{length, take};
 ghost use Rattle.sheet.specs.Sizes.{maxBytes};
 ghost use Rattle.wave_pipe.specs.Input.{InputAnswered, InputConverted, placeOf, lineOf};
-use answer::Query;
 use convert::Converted;
-use fault::MAX_FAULT;
 use forms::House;
 use libc::STDERR_FILENO;
 use libc::STDIN_FILENO;
 use libc::STDOUT_FILENO;
 use print_page::MAX_PAGE;
 use sheet::Sheet;
-use words::Asked;
-use words::MAX_WORD;
+use wave_faults::MAX_FAULT;
+use wave_words::Asked;
+use wave_words::MAX_WORD;
+use wave_words::Query;
 use write_lines::MAX_TEXT;
 
 // One byte more than the longest text that is read, so that a longer text is known for one without its rest.
@@ -37,7 +34,7 @@ fn read_words() -> Asked {
     // A longer word comes as none, which asks for nothing.
     let mut word = [0u8; MAX_WORD];
     let n = os::arg(1, &mut word);
-    words::asked_by(&word[..n])
+    wave_words::asked_by(&word[..n])
 }
 
 // How many bytes were read, and whether a read failed on the way.
@@ -116,7 +113,7 @@ fn show_fault(number: usize, line: usize)
     requires { ⌜ line ≤ maxBytes ⌝ }
 {
     let mut words = [0u8; MAX_FAULT];
-    let end = fault::put_fault(&mut words, number, line);
+    let end = wave_faults::put_fault(&mut words, number, line);
     io::write_all(STDERR_FILENO, &words[..end]);
 }
 
@@ -151,11 +148,19 @@ fn convert_pipe(from: House, to: House) {
     }
 }
 
+// The words there are, on standard error.
+fn show_usage() {
+    io::write_all(
+        STDERR_FILENO,
+        b"usage: wave [plan|fits|partner|from-partner|to-partner] < SHEET\n",
+    );
+}
+
 pub fn run() {
     let asked = read_words();
     match asked {
         Asked::Answer(house, query) => answer_pipe(house, query),
         Asked::Convert(from, to) => convert_pipe(from, to),
-        Asked::Unknown => words::show_usage(),
+        Asked::Unknown => show_usage(),
     }
 }

@@ -6,14 +6,13 @@ use native.Mathlib.Omega.{arith}
 use denote.Ref.{now}
 use lib.ListN.{replicate}
 use Rattle.forms.specs.declared.House.{House}
-use Rattle.read_ask.specs.Reading.{ListRooms, rooms, roomsForAll, refused, read, reading, replyOf}
+use Rattle.read_questions.specs.Reading.{ListRooms, rooms, roomsForAll, refused, read, reading, replyOf}
 use Rattle.read.specs.Rooms.{sizesOf}
 use Rattle.sheet.specs.Sizes.{maxUnits, maxRules, maxBytes}
-use Rattle.answer.specs.declared.Query.{Query}
+use Rattle.wave_words.specs.declared.Query.{Query}
 use Rattle.print_bytes.specs.WritingLaws.{refused-short}
 use Rattle.read_whole.specs.WholeLaws.{refused-small, read-held}
 use Rattle.answer.specs.AnswerLaws.{refused-answer, read-answered}
-use borrow.Author.Needs.{needs}
 use Rattle.answer.proofs.answer.Statement.{statement}
 use Rattle.answer.proofs.answer.Tie as tie
 
@@ -43,6 +42,12 @@ house c = start c .args .house
 abbrev asked : tie.After-read → Query
 asked c = start c .args .query
 
+-- the lists as reading left them
+abbrev after : tie.After-read → ListRooms (List ℕ)
+after c =
+    let k = c .read .last .1 .1 in
+    rooms (k .0) (k .1 .0) (k .1 .1 .0) (k .1 .1 .1 .0) (k .1 .1 .1 .1 .0) (k .1 .1 .1 .1 .1 .0) (k .1 .1 .1 .1 .1 .1 .0)
+
 abbrev input : tie.After-read → List ℕ
 input c = now (start c .args .text)
 
@@ -69,7 +74,8 @@ put-refusal-requires c κs =
 answer-fronts-requires : tie.Need-answer-fronts-requires
 answer-fronts-requires c κs =
     let d = c .before .before .before .before .before .before .before .before .before in
-    read-held (house (sheet-call d)) (input (sheet-call d)) empty sizes _ (read-told d) _ (sheet-call d .read .ensures .1)
+    read-held (house (sheet-call d)) (input (sheet-call d)) empty sizes (d .reading2 .given .0 .0) (read-told d) (after (sheet-call d))
+    (sheet-call d .read .ensures .1)
 
 returns : tie.Need-returns
 returns c =
@@ -80,11 +86,19 @@ returns c =
 returns-2 : tie.Need-returns-2
 returns-2 c =
     let d = c .before .before .before .before .before .before .before .before .before .before in
-    read-answered (house (sheet-call d)) (input (sheet-call d)) empty sizes _ (read-told d) _ (sheet-call d .read .ensures .1)
+    read-answered (house (sheet-call d)) (input (sheet-call d)) empty sizes (d .reading2 .given .0 .0) (read-told d) (after (sheet-call d))
+    (sheet-call d .read .ensures .1)
     (asked (sheet-call d)) _ _ _ (c .answer-fronts .ensures)
 
 pub answer-spec : {M : Type 1} → statement M
-answer-spec = tie.close (tie.spec (λ c. search needs) (λ c. search needs) (λ c. search needs) (λ c. search needs) (λ c. search needs) (λ c. search needs)
-    (λ c. search needs) (λ c κs. search needs) (λ c. search needs) (λ c. omega (arith, small (c .before .before .before) .0))
-    (λ c. omega (arith, small (c .before .before .before .before) .1)) put-refusal-requires (λ c. search needs) (λ c. search needs) (λ c. search needs)
-    (λ c. search needs) (λ c. search needs) (λ c. search needs) (λ c. search needs) (λ c. search needs) answer-fronts-requires returns returns-2)
+answer-spec = tie.close (tie.spec (λ c. refl) (λ c. refl) (λ c. refl) (λ c. refl) (λ c. refl) (λ c. refl) (λ c. refl) (λ c κs. tt)
+    (λ c. c .match .keys1) (λ c. omega (arith, small (c .before .before .before) .0))
+    (λ c. omega (arith, small (c .before .before .before .before) .1)) put-refusal-requires (λ c. c .match .keys2)
+    (λ c. sym (sheet-call (c .before .before) .read .kept .1 .1 .0))
+    (λ c. sym (sheet-call (c .before .before .before) .read .kept .1 .1 .1 .0))
+    (λ c. sym (sheet-call (c .before .before .before .before) .read .kept .1 .1 .1 .1 .0))
+    (λ c. sym (sheet-call (c .before .before .before .before .before) .read .kept .1 .1 .1 .1 .1 .0))
+    (λ c. sym (sheet-call (c .before .before .before .before .before .before) .read .kept .1 .1 .1 .1 .1 .1 .0))
+    (λ c. sym (sheet-call (c .before .before .before .before .before .before .before) .read .kept .1 .1 .1 .1 .1 .1 .1 .0))
+    (λ c. sym (sheet-call (c .before .before .before .before .before .before .before .before) .read .kept .1 .1 .1 .1 .1 .1 .1 .1 .0))
+    answer-fronts-requires returns returns-2)

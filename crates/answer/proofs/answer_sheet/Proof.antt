@@ -4,9 +4,8 @@ use mathlib.Core.List.{List}
 use Prim.Native.Nat.{ℕ}
 use denote.Ref.{now}
 use Rattle.sheet.specs.Questions.{sheetOf}
-use Rattle.answer.specs.declared.Query.{Query}
+use Rattle.wave_words.specs.declared.Query.{Query}
 use Rattle.answer.specs.Answer.{AnswerToSheet, Answered}
-use borrow.Author.Needs.{needs}
 use Rattle.answer.proofs.answer_sheet.Statement.{statement}
 use Rattle.answer.proofs.answer_sheet.Tie as tie
 
@@ -32,4 +31,5 @@ returns-2 : tie.Need-returns-2
 returns-2 c = subst (AnswersTo (c .before .before .before .before) _ _) (sym (c .before .before .enum-told2 .given .1)) (c .fits-sheet .ensures _)
 
 pub answer-sheet-spec : {M : Type 1} → statement M
-answer-sheet-spec = tie.close (tie.spec (λ c. search needs) (λ c κs. search needs) (λ c. search needs) fits-sheet-requires returns returns-2)
+answer-sheet-spec = tie.close (tie.spec (λ c. c .match .keys1) (λ c κs. start (c .before .before .before) .pre)
+    (λ c. c .match .keys2) fits-sheet-requires returns returns-2)

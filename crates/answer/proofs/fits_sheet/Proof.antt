@@ -11,16 +11,15 @@ use lib.ListN.{length, take, length-replicate}
 use lib.Seq.{length-take-le}
 use lib.IntN.{ℤ, pos}
 use Rattle.sheet.specs.Sizes.{maxCells, boundariesOf}
-use Rattle.network.specs.Table.{finished, stopped}
+use Rattle.network_pass.specs.Pass.{finished, stopped}
 use Rattle.sheet.specs.Sheet.{isRing}
 use Rattle.sheet.specs.Lists.{Lists, listed, given}
 use Rattle.plan_ask.specs.AskingLaws.{span-bound}
-use Rattle.plan_solve.specs.Planning.{passed}
+use Rattle.plan_steps.specs.Closing.{passed}
 use Rattle.plan_solve.specs.Reply.{fitReply}
-use Rattle.print.specs.OwnLaws.{ownRooms, own-solvable, cells-few, Front}
-use Rattle.answer.specs.declared.Query.the-variants.{Fits}
+use Rattle.print_solved.specs.OwnLaws.{ownRooms, own-solvable, cells-few, Front}
+use Rattle.wave_words.specs.declared.Query.the-variants.{Fits}
 use Rattle.answer.specs.SheetLaws.{own-decides, own-fillable, decide-fits, decide-none, fits-asks, fits-is, fit-answered, ring-answered}
-use borrow.Author.Needs.{needs}
 use Rattle.answer.proofs.fits_sheet.Statement.{statement}
 use Rattle.answer.proofs.fits_sheet.Tie as tie
 
@@ -120,7 +119,8 @@ returns-2 c ks =
     ring-answered Fits ks (given (lists (where-ring told))) _ _ _ _ (f .0) (f .1) (c .before .put-ring .ensures)
 
 pub fits-sheet-spec : {M : Type 1} → statement M
-fits-sheet-spec = tie.close (tie.spec (λ c. search needs) (λ c. search needs) decide-requires boundaries-requires mul-cells (λ c. search needs)
-    (λ c. fits-found (c .before) .2 .long) (λ c. sym (length-take-le _ _ (fits-found (c .before .before) .2 .long))) put-fits-requires (λ c. search needs)
-    (λ c. search needs) (λ c. ring-found (c .before .before) .2) (λ c. sym (length-take-le _ _ (ring-found (c .before .before .before) .2)))
+fits-sheet-spec = tie.close (tie.spec (λ c. refl) (λ c. refl) decide-requires boundaries-requires mul-cells (λ c. c .match .keys1)
+    (λ c. fits-found (c .before) .2 .long) (λ c. sym (length-take-le _ _ (fits-found (c .before .before) .2 .long))) put-fits-requires (λ c. c .match .keys2)
+    (λ c. sym (where-ring (c .before .before) .decide .kept .1 .1 .1 .1 .1 .1 .1 .0)) (λ c. ring-found (c .before .before) .2)
+    (λ c. sym (length-take-le _ _ (ring-found (c .before .before .before) .2)))
     put-ring-requires returns returns-2)

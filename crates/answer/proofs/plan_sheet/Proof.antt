@@ -1,6 +1,6 @@
 -- The sheet is planned in arrays of the call's own; how that ended decides what is written.
 -- Key idea: every need past the call of solve goes back to that call (`where-plan`, `where-ring`), and what planning left there answers it.
-use mathlib.Core.Path.{_≡_, sym, ap, _∙_}
+use mathlib.Core.Path.{_≡_, refl, sym, ap, _∙_}
 use mathlib.Core.Bool.{true}
 use mathlib.Core.List.{List}
 use Prim.Native.Nat.{ℕ, _≤_}
@@ -10,19 +10,18 @@ use lib.Dec.{T}
 use lib.ListN.{length, take, length-replicate}
 use lib.Seq.{length-take-le}
 use lib.IntN.{ℤ, pos}
-use Rattle.network.specs.Table.{finished, stopped}
+use Rattle.network_pass.specs.Pass.{finished, stopped}
 use Rattle.sheet.specs.Sizes.{maxCells, boundariesOf}
 use Rattle.sheet.specs.Sheet.{isRing}
 use Rattle.sheet.specs.Lists.{Lists, listed, given}
-use Rattle.plan_ask.specs.Questions.{Rooms, lent}
+use Rattle.plan_rooms.specs.Rooms.{Rooms, lent}
 use Rattle.plan_ask.specs.Asking.{Solvable}
 use Rattle.plan_ask.specs.AskingLaws.{span-bound}
-use Rattle.plan_solve.specs.Planning.{passed}
+use Rattle.plan_steps.specs.Closing.{passed}
 use Rattle.plan_solve.specs.Reply.{fitReply}
-use Rattle.print.specs.OwnLaws.{ownRooms, own-solvable, cells-few, PlanFronts, plan-own}
-use Rattle.answer.specs.declared.Query.the-variants.{Plan}
+use Rattle.print_solved.specs.OwnLaws.{ownRooms, own-solvable, cells-few, PlanFronts, plan-own}
+use Rattle.wave_words.specs.declared.Query.the-variants.{Plan}
 use Rattle.answer.specs.SheetLaws.{own-fillable, plan-none, plan-asks, plan-is, fit-answered, ring-answered}
-use borrow.Author.Needs.{needs}
 use Rattle.answer.proofs.plan_sheet.Statement.{statement}
 use Rattle.answer.proofs.plan_sheet.Tie as tie
 
@@ -130,13 +129,14 @@ returns-2 c =
     ring-answered Plan _ (given (lists (where-ring told))) _ _ _ _ (f .0) (f .1) (c .before .put-ring .ensures)
 
 pub plan-sheet-spec : {M : Type 1} → statement M
-plan-sheet-spec = tie.close (tie.spec (λ c. search needs) (λ c. search needs) (λ c. search needs) (λ c. search needs) (λ c. search needs)
-    solve-requires boundaries-requires mul-cells (λ c. search needs)
+plan-sheet-spec = tie.close (tie.spec (λ c. refl) (λ c. refl) (λ c. refl) (λ c. refl) (λ c. refl) solve-requires boundaries-requires mul-cells
+    (λ c. c .match .keys1)
     (λ c. plan-found (c .before) .2 .seats .long) (λ c. sym (length-take-le _ _ (plan-found (c .before .before) .2 .seats .long)))
     (λ c. plan-found (c .before .before) .2 .firsts .long) (λ c. sym (length-take-le _ _ (plan-found (c .before .before .before) .2 .firsts .long)))
     (λ c. plan-found (c .before .before .before) .2 .lasts .long)
     (λ c. sym (length-take-le _ _ (plan-found (c .before .before .before .before) .2 .lasts .long)))
     (λ c. plan-found (c .before .before .before .before) .2 .closed .long)
-    (λ c. sym (length-take-le _ _ (plan-found (c .before .before .before .before .before) .2 .closed .long))) put-plan-requires (λ c. search needs)
-    (λ c. search needs) (λ c. ring-found (c .before .before) .2) (λ c. sym (length-take-le _ _ (ring-found (c .before .before .before) .2)))
+    (λ c. sym (length-take-le _ _ (plan-found (c .before .before .before .before .before) .2 .closed .long))) put-plan-requires (λ c. c .match .keys2)
+    (λ c. sym (where-ring (c .before .before) .solve .kept .1 .1 .1 .1 .1 .1 .1 .0)) (λ c. ring-found (c .before .before) .2)
+    (λ c. sym (length-take-le _ _ (ring-found (c .before .before .before) .2)))
     put-ring-requires returns returns-2)

@@ -3,7 +3,6 @@ use denote.Ref.{now}
 use Rattle.sheet.specs.Lists.{Lists, listed}
 use Rattle.plan_ask.specs.AskingLaws.{span-bound}
 use Rattle.answer.specs.SheetLaws.{ring-asked, ring-written}
-use borrow.Author.Needs.{needs}
 use Rattle.answer.proofs.put_ring.Statement.{statement}
 use Rattle.answer.proofs.put_ring.Tie as tie
 
@@ -31,4 +30,6 @@ returns c =
     ring-written (lists d) _ (c .before .boundaries .ensures) _ (p .0) _ (p .1) _ (d .fill-limits .ensures) _ _ _ (c .put-none .ensures)
 
 pub put-ring-spec : {M : Type 1} → statement M
-put-ring-spec = tie.close (tie.spec (λ c κs. search needs) boundaries-requires put-none-requires (λ c. search needs) returns)
+put-ring-spec = tie.close
+    (tie.spec (λ c κs. c .before .before .before .before .before .before .before .before .pre .0) boundaries-requires put-none-requires
+    (λ c. c .before .before .before .before .before .fill-limits .kept .1 .1 .1 .1 .1 .1 .1 .0) returns)

@@ -5,13 +5,12 @@ use Prim.Native.Nat.{ℕ}
 use native.Mathlib.Omega.{arith}
 use denote.Ref.{now}
 use lib.ListN.{replicate}
-use Rattle.read_ask.specs.Reading.{ListRooms, rooms, roomsForAll, refused, read, reading, replyOf}
+use Rattle.read_questions.specs.Reading.{ListRooms, rooms, roomsForAll, refused, read, reading, replyOf}
 use Rattle.read.specs.Rooms.{sizesOf}
 use Rattle.read_whole.specs.WholeLaws.{refused-small, read-held}
 use Rattle.sheet.specs.Sizes.{maxUnits, maxRules}
 use Rattle.print_bytes.specs.Writing.{withBytes}
 use Rattle.convert.specs.ConvertingLaws.{refused-converted, read-converted}
-use borrow.Author.Needs.{needs}
 use Rattle.convert.proofs.convert.Statement.{statement}
 use Rattle.convert.proofs.convert.Tie as tie
 
@@ -35,6 +34,12 @@ sheet-call c = c .before .before .before .before .before .before .before .before
 abbrev start : tie.After-read → tie.Start
 start c = c .before .before .before .before .before .before .before .before .before
 
+-- the lists as reading left them
+abbrev after : tie.After-read → ListRooms (List ℕ)
+after c =
+    let k = c .read .last .1 .1 in
+    rooms (k .0) (k .1 .0) (k .1 .1 .0) (k .1 .1 .1 .0) (k .1 .1 .1 .1 .0) (k .1 .1 .1 .1 .1 .0) (k .1 .1 .1 .1 .1 .1 .0)
+
 abbrev input : tie.After-read → List ℕ
 input c = now (start c .args .text)
 
@@ -57,7 +62,7 @@ convert-fronts-requires : tie.Need-convert-fronts-requires
 convert-fronts-requires c κs =
     let d = c .before .before .before .before .before .before .before .before .before in
     let p = sheet-call d in
-    read-held (start p .args .from) (input p) empty sizes _ (read-told d) _ (p .read .ensures .1)
+    read-held (start p .args .from) (input p) empty sizes (d .reading2 .given .0 .0) (read-told d) (after p) (p .read .ensures .1)
 
 returns : tie.Need-returns
 returns c =
@@ -72,10 +77,17 @@ returns-2 c =
     let d = c .before .before .before .before .before .before .before .before .before .before in
     let p = sheet-call d in
     let a = start p .args in
-    let told = read-converted (a .from) (a .to) (input p) empty sizes _ (read-told d) _ (p .read .ensures .1) in
+    let told = read-converted (a .from) (a .to) (input p) empty sizes (d .reading2 .given .0 .0) (read-told d) (after p) (p .read .ensures .1) in
     (c .convert-fronts .ensures .0 ∙ told .0, c .convert-fronts .ensures .1 ∙ ap (withBytes (now (a .page)) 0) (told .1))
 
 pub convert-spec : {M : Type 1} → statement M
-convert-spec = tie.close (tie.spec (λ c. search needs) (λ c. search needs) (λ c. search needs) (λ c. search needs) (λ c. search needs) (λ c. search needs)
-    (λ c. search needs) (λ c κs. search needs) (λ c. search needs) refuse-requires (λ c. search needs) (λ c. search needs) (λ c. search needs)
-    (λ c. search needs) (λ c. search needs) (λ c. search needs) (λ c. search needs) (λ c. search needs) convert-fronts-requires returns returns-2)
+convert-spec = tie.close (tie.spec (λ c. refl) (λ c. refl) (λ c. refl) (λ c. refl) (λ c. refl) (λ c. refl) (λ c. refl) (λ c κs. tt)
+    (λ c. c .match .keys1) refuse-requires (λ c. c .match .keys2)
+    (λ c. sym (sheet-call (c .before .before) .read .kept .1 .1 .0))
+    (λ c. sym (sheet-call (c .before .before .before) .read .kept .1 .1 .1 .0))
+    (λ c. sym (sheet-call (c .before .before .before .before) .read .kept .1 .1 .1 .1 .0))
+    (λ c. sym (sheet-call (c .before .before .before .before .before) .read .kept .1 .1 .1 .1 .1 .0))
+    (λ c. sym (sheet-call (c .before .before .before .before .before .before) .read .kept .1 .1 .1 .1 .1 .1 .0))
+    (λ c. sym (sheet-call (c .before .before .before .before .before .before .before) .read .kept .1 .1 .1 .1 .1 .1 .1 .0))
+    (λ c. sym (sheet-call (c .before .before .before .before .before .before .before .before) .read .kept .1 .1 .1 .1 .1 .1 .1 .1 .0))
+    convert-fronts-requires returns returns-2)

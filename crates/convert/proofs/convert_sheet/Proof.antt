@@ -3,7 +3,6 @@ use mathlib.Core.Path.{_≡_, ap, _∙_}
 use mathlib.Core.List.{List}
 use Prim.Native.Nat.{ℕ}
 use native.Mathlib.Omega.{arith}
-use borrow.Author.Needs.{needs}
 use denote.Ref.{now}
 use lib.ListN.{length}
 use Rattle.questions.specs.Questions.{verdictOf}
@@ -57,4 +56,4 @@ returns-2 c =
     (ap sheet past ∙ told .0, w .filled ∙ ap (withBytes (now (s .args .page)) 0) (told .1))
 
 pub convert-sheet-spec : {M : Type 1} → statement M
-convert-sheet-spec = tie.close (tie.spec (λ c κs. search needs) (λ c. search needs) refuse-requires (λ c. search needs) put-sheet-requires returns returns-2)
+convert-sheet-spec = tie.close (tie.spec (λ c κs. tt) (λ c. c .match .keys1) refuse-requires (λ c. c .match .keys2) put-sheet-requires returns returns-2)

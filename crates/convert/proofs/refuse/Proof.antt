@@ -2,7 +2,6 @@
 use mathlib.Core.Path.{_≡_, ap}
 use Prim.Native.Nat.{_≤_}
 use native.Mathlib.Omega.{arith}
-use borrow.Author.Needs.{needs}
 use lib.ListN.{length}
 use Rattle.print_bytes.specs.Writing.{refusedLine, maxRefusal}
 use Rattle.print_bytes.specs.WritingLaws.{refused-short}
@@ -24,4 +23,4 @@ returns c =
     (ap (refused (a .number) (a .line)) past, w .filled)
 
 pub refuse-spec : {M : Type 1} → statement M
-refuse-spec = tie.close (tie.spec (λ c. search needs) (λ c. search needs) put-refusal-requires returns)
+refuse-spec = tie.close (tie.spec (λ c. omega (arith, c .before .pre .0)) (λ c. omega (arith, c .before .pre .1)) put-refusal-requires returns)

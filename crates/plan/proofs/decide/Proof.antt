@@ -1,9 +1,9 @@
 -- The questions decide, or what deciding a sheet that passed them leaves.
-use borrow.Author.Needs.{needs}
-use mathlib.Core.Path.{_≡_, ap}
+use mathlib.Core.Path.{_≡_, refl, ap}
 use Rattle.questions.specs.Questions.{Verdict, allYes, verdictOf}
 use Rattle.sheet.specs.Lists.{WrittenLists, writtenLists, givenBy}
-use Rattle.plan_ask.specs.Questions.{DecideRooms, decideRooms, decideLent, refusalIn}
+use Rattle.plan_rooms.specs.Rooms.{DecideRooms, decideRooms, decideLent}
+use Rattle.plan_ask.specs.Questions.{refusalIn}
 use Rattle.plan_ask.specs.SolvableLaws.{asked-yes, asked-of}
 use Rattle.plan_solve.specs.Planning.{decided, WithRing, contradicted}
 use Rattle.plan_solve.specs.ConclusionLaws.{refused-settled, solved-settled}
@@ -54,6 +54,8 @@ returns-2 c =
     (decisionReply (c .decision-of .result)) (fitReply (r .decide .result)) (c .decision-of .ensures) _ (r .decide .ensures)
 
 pub decide-spec : {M : Type 1} → statement M
-decide-spec = tie.close (tie.spec (λ c κs. search needs) (λ c κs. search needs) (λ c. search needs) (λ c. search needs) decide-requires (λ c κs. search needs)
-    (λ c. search needs) (λ c. search needs) returns
-    (λ c. search needs) (λ c. search needs) returns-2)
+decide-spec = tie.close (tie.spec (λ c κs. tt) (λ c κs. tt) (λ c. c .match .keys1) (λ c. c .match .keys2) decide-requires (λ c κs. tt)
+    (λ c. refl) (λ c. refl) returns
+    (λ c. c .before .before .before .before .decide .kept .1 .1 .1 .1 .1 .1 .1 .0)
+    (λ c. c .before .before .before .before .decide .kept .1 .1 .1 .1 .1 .1 .1 .1 .0)
+    returns-2)

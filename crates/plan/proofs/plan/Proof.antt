@@ -1,9 +1,9 @@
 -- The questions decide, or what solving a sheet that passed them leaves.
-use borrow.Author.Needs.{needs}
-use mathlib.Core.Path.{_≡_, ap}
+use mathlib.Core.Path.{_≡_, refl, ap}
 use Rattle.questions.specs.Questions.{Verdict, allYes, verdictOf}
 use Rattle.sheet.specs.Lists.{WrittenLists, writtenLists, givenBy}
-use Rattle.plan_ask.specs.Questions.{Rooms, lent, planLent, refusalIn}
+use Rattle.plan_rooms.specs.Rooms.{Rooms, lent, planLent}
+use Rattle.plan_ask.specs.Questions.{refusalIn}
 use Rattle.plan_ask.specs.SolvableLaws.{asked-yes, asked-of}
 use Rattle.plan_solve.specs.Planning.{planned, WithRing, ringed}
 use Rattle.plan_solve.specs.ConclusionLaws.{refused-settled, solved-settled}
@@ -54,6 +54,11 @@ returns-2 c =
     (replyOf (c .answered .result)) (fitReply (r .solve .result)) (c .answered .ensures) _ (r .solve .ensures)
 
 pub plan-spec : {M : Type 1} → statement M
-plan-spec = tie.close (tie.spec (λ c κs. search needs) (λ c κs. search needs) (λ c. search needs) (λ c. search needs) solve-requires (λ c κs. search needs)
-    (λ c. search needs) (λ c. search needs) (λ c. search needs) (λ c. search needs) (λ c. search needs) returns
-    (λ c. search needs) (λ c. search needs) (λ c. search needs) (λ c. search needs) (λ c. search needs) returns-2)
+plan-spec = tie.close (tie.spec (λ c κs. tt) (λ c κs. tt) (λ c. c .match .keys1) (λ c. c .match .keys2) solve-requires (λ c κs. tt)
+    (λ c. refl) (λ c. refl) (λ c. refl) (λ c. refl) (λ c. refl) returns
+    (λ c. c .before .before .before .before .before .before .before .before .before .before .solve .kept .1 .1 .1 .1 .1 .1 .1 .0)
+    (λ c. c .before .before .before .before .before .before .before .before .before .before .solve .kept .1 .1 .1 .1 .1 .1 .1 .1 .0)
+    (λ c. c .before .before .before .before .before .before .before .before .before .before .solve .kept .1 .1 .1 .1 .1 .1 .1 .1 .1 .0)
+    (λ c. c .before .before .before .before .before .before .before .before .before .before .solve .kept .1 .1 .1 .1 .1 .1 .1 .1 .1 .1 .0)
+    (λ c. c .before .before .before .before .before .before .before .before .before .before .solve .kept .1 .1 .1 .1 .1 .1 .1 .1 .1 .1 .1 .0)
+    returns-2)

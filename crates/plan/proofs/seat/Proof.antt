@@ -1,9 +1,9 @@
 -- The questions decide, or what seating a sheet that passed them leaves.
-use borrow.Author.Needs.{needs}
-use mathlib.Core.Path.{_≡_, ap}
+use mathlib.Core.Path.{_≡_, refl, ap}
 use Rattle.questions.specs.Questions.{Verdict, allYes, verdictOf}
 use Rattle.sheet.specs.Lists.{WrittenLists, writtenLists, givenBy}
-use Rattle.plan_ask.specs.Questions.{SeatRooms, seatRooms, seatLent, refusalIn}
+use Rattle.plan_rooms.specs.Rooms.{SeatRooms, seatRooms, seatLent}
+use Rattle.plan_ask.specs.Questions.{refusalIn}
 use Rattle.plan_ask.specs.SolvableLaws.{asked-yes, asked-of}
 use Rattle.plan_solve.specs.Planning.{seated, SeatNone}
 use Rattle.plan_solve.specs.ConclusionLaws.{refused-settled, solved-settled}
@@ -54,6 +54,10 @@ returns-2 c =
     (seatReply (c .seat-answer .result)) (seatedReply (r .seat .result)) (c .seat-answer .ensures) _ (r .seat .ensures)
 
 pub seat-spec : {M : Type 1} → statement M
-seat-spec = tie.close (tie.spec (λ c κs. search needs) (λ c κs. search needs) (λ c. search needs) (λ c. search needs) seat-requires (λ c κs. search needs)
-    (λ c. search needs) (λ c. search needs) (λ c. search needs) (λ c. search needs) returns
-    (λ c. search needs) (λ c. search needs) (λ c. search needs) (λ c. search needs) returns-2)
+seat-spec = tie.close (tie.spec (λ c κs. tt) (λ c κs. tt) (λ c. c .match .keys1) (λ c. c .match .keys2) seat-requires (λ c κs. tt)
+    (λ c. refl) (λ c. refl) (λ c. refl) (λ c. refl) returns
+    (λ c. c .before .before .before .before .before .before .before .before .seat .kept .1 .1 .1 .1 .1 .1 .1 .0)
+    (λ c. c .before .before .before .before .before .before .before .before .seat .kept .1 .1 .1 .1 .1 .1 .1 .1 .0)
+    (λ c. c .before .before .before .before .before .before .before .before .seat .kept .1 .1 .1 .1 .1 .1 .1 .1 .1 .0)
+    (λ c. c .before .before .before .before .before .before .before .before .seat .kept .1 .1 .1 .1 .1 .1 .1 .1 .1 .1 .0)
+    returns-2)

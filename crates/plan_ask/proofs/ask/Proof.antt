@@ -7,7 +7,8 @@ use native.Mathlib.Omega.{arith}
 use lib.ListN.{length}
 use Rattle.questions.specs.Questions.{Verdict, no, allYes, andThen, verdictOf}
 use Rattle.sheet.specs.Lists.{WrittenLists, writtenLists, givenBy}
-use Rattle.plan_ask.specs.Questions.{lengthsFit, roomsFit, refusalBy}
+use Rattle.plan_rooms.specs.Rooms.{lengthsFit, roomsFit}
+use Rattle.plan_ask.specs.Questions.{refusalBy}
 use Rattle.plan_ask.specs.Asking.{Listed}
 use Rattle.plan_ask.specs.AskingLaws.{lists-read, span-bound, asks-rooms}
 use Rattle.plan_ask.specs.SolvableLaws.{lists-yes, refusal-then}

@@ -17,7 +17,7 @@ use Rattle.sheet.specs.Questions.{windowsFit, countsFit}
 use Rattle.sheet.specs.QuestionLaws.{Agree}
 use Rattle.sheet.specs.Lists.{Lists, WrittenLists, writtenLists, givenBy, agree, allAgree}
 use Rattle.plan_ask.specs.Questions.{listQuestions}
-use Rattle.plan_ask.specs.Asking.{allRising}
+use Rattle.plan_lists.specs.Rising.{allRising}
 use Rattle.plan_ask.specs.AskingLaws.{all-agree-read, lists-read, asks-span, asks-units, asks-rules, asks-windows, asks-stretches, asks-counts}
 use Rattle.plan_ask.proofs.ask_lists.Statement.{statement}
 use Rattle.plan_ask.proofs.ask_lists.Tie as tie

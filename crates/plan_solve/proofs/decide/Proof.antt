@@ -1,13 +1,13 @@
 -- The pass's outcome decides: where it stopped a ring is found, where it finished its table stands.
-use borrow.Author.Needs.{needs}
+use mathlib.Core.Path.{_∙_}
 use mathlib.Core.List.{List}
 use Prim.Native.Nat.{ℕ, _≤_}
 use lib.ListN.{length}
 use lib.IntN.{ℤ}
 use Rattle.sheet.specs.Sheet.{boundaries}
 use Rattle.sheet.specs.Lists.{Lists, listed, given}
-use Rattle.plan_ask.specs.Questions.{places}
-use Rattle.plan_ask.specs.RoomsLaws.{decide-hold}
+use Rattle.plan_rooms.specs.Rooms.{places}
+use Rattle.plan_rooms.specs.RoomsLaws.{decide-hold}
 use Rattle.plan_solve.specs.SolvingLaws.{limits-asked, ring-asked, ring-left, fits-left}
 use Rattle.plan_solve.proofs.decide.Statement.{statement}
 use Rattle.plan_solve.proofs.decide.Tie as tie
@@ -61,5 +61,7 @@ returns-2 c =
     fits-left (lists st) _ (st .pre) (room st) (holds st .0) (d .close-limits .result) (table d) (d .close-limits .ensures) (c .enum-told2 .given .1) (ring st)
 
 pub decide-spec : {M : Type 1} → statement M
-decide-spec = tie.close (tie.spec close-limits-requires (λ c. search needs) find-ring-requires (λ c. search needs)
-    (λ c. search needs) (λ c. search needs) returns (λ c. search needs) returns-2)
+decide-spec = tie.close (tie.spec close-limits-requires (λ c. c .match .keys1) find-ring-requires (λ c. c .match .keys2)
+    (λ c. let f = c .before .before .before in f .find-ring .kept .1 .1 .1 .1 .1 .1 .1 .0 ∙ f .before .before .before .before .before .before .close-limits .kept .1 .1 .1 .1 .1 .1 .1 .0)
+    (λ c. c .before .before .before .find-ring .kept .1 .1 .1 .1 .1 .1 .1 .1 .0) returns
+    (λ c. c .before .before .before .close-limits .kept .1 .1 .1 .1 .1 .1 .1 .0) returns-2)

@@ -1,18 +1,18 @@
 -- The pass's outcome decides: where it stopped nothing is seated, where it finished seats and windows are filled in by its table.
-use borrow.Author.Needs.{needs}
 use mathlib.Core.Path.{_≡_}
 use mathlib.Core.List.{List}
 use Prim.Native.Nat.{_≤_}
 use lib.ListN.{length}
 use lib.IntN.{ℤ}
-use Rattle.network.specs.Table.{finished}
+use Rattle.network_pass.specs.Pass.{finished}
 use Rattle.sheet.specs.Lists.{Lists, listed, given}
-use Rattle.plan_ask.specs.Questions.{seatLengths, places}
-use Rattle.plan_ask.specs.RoomsLaws.{SeatsHold, seat-hold}
+use Rattle.plan_rooms.specs.Rooms.{seatLengths, places}
+use Rattle.plan_rooms.specs.RoomsLaws.{SeatsHold, seat-hold}
+use Rattle.plan_rooms.specs.declared.Seats.{Seats}
 use Rattle.plan_ask.specs.AskingLaws.{span-bound}
-use Rattle.plan_ask.specs.declared.Seats.{Seats}
-use Rattle.plan_solve.specs.Planning.{passed, tableIn}
-use Rattle.plan_solve.specs.Filling.{Ready}
+use Rattle.plan_steps.specs.Closing.{passed}
+use Rattle.plan_steps.specs.Filling.{Ready}
+use Rattle.plan_solve.specs.Planning.{tableIn}
 use Rattle.plan_solve.specs.SolvingLaws.{limits-asked, seats-asked, ready, seats-left, none-seated, closed-table}
 use Rattle.plan_solve.proofs.seat.Statement.{statement}
 use Rattle.plan_solve.proofs.seat.Tie as tie
@@ -88,6 +88,11 @@ returns-2 c =
     (p .fill-plan .ensures (given (lists st)) (units-ready b))
 
 pub seat-spec : {M : Type 1} → statement M
-seat-spec = tie.close (tie.spec close-limits-requires (λ c. search needs) (λ c. search needs)
-    (λ c κs. let st = start (closed c) in span-bound (lists st) (st .pre .sheet)) fill-plan-requires (λ c. search needs) returns
-    (λ c. search needs) (λ c. search needs) (λ c. search needs) (λ c. search needs) returns-2)
+seat-spec = tie.close (tie.spec close-limits-requires (λ c. c .match .keys1) (λ c. c .match .keys2)
+    (λ c κs. let st = start (closed c) in span-bound (lists st) (st .pre .sheet)) fill-plan-requires
+    (λ c. c .before .before .before .close-limits .kept .1 .1 .1 .1 .1 .1 .1 .0) returns
+    (λ c. closed (c .before .before .before .before .before .before .before .before .before .before .before .before) .close-limits .kept .1 .1 .1 .1 .1 .1 .1 .0)
+    (λ c. c .before .before .before .before .before .before .fill-plan .kept .1 .1 .1 .1 .0)
+    (λ c. c .before .before .before .before .before .before .fill-plan .kept .1 .1 .1 .1 .1 .0)
+    (λ c. c .before .before .before .before .before .before .fill-plan .kept .1 .1 .1 .1 .1 .1 .0)
+    returns-2)

@@ -1,19 +1,19 @@
 -- Deciding says which it is: where the sheet fits, seats and windows are filled in by the table that deciding left.
-use borrow.Author.Needs.{needs}
 use mathlib.Core.Path.{_≡_, ap, subst}
 use mathlib.Core.List.{List}
 use Prim.Native.Nat.{ℕ, _≤_}
 use lib.ListN.{length}
 use lib.IntN.{ℤ}
-use Rattle.network.specs.Table.{finished}
+use Rattle.network_pass.specs.Pass.{finished}
 use Rattle.sheet.specs.Sheet.{boundaries}
 use Rattle.sheet.specs.Lists.{Lists, listed, given}
-use Rattle.plan_ask.specs.Questions.{decideRooms, seatLengths, places}
-use Rattle.plan_ask.specs.RoomsLaws.{SeatsHold, plan-holds, plan-decides}
+use Rattle.plan_rooms.specs.Rooms.{decideRooms, seatLengths, places}
+use Rattle.plan_rooms.specs.RoomsLaws.{SeatsHold, plan-holds, plan-decides}
+use Rattle.plan_rooms.specs.declared.Seats.{Seats}
 use Rattle.plan_ask.specs.AskingLaws.{span-bound}
-use Rattle.plan_ask.specs.declared.Seats.{Seats}
-use Rattle.plan_solve.specs.Planning.{passed, byPass, tableIn, DecideSettled}
-use Rattle.plan_solve.specs.Filling.{Ready}
+use Rattle.plan_steps.specs.Closing.{passed}
+use Rattle.plan_steps.specs.Filling.{Ready}
+use Rattle.plan_solve.specs.Planning.{byPass, tableIn, DecideSettled}
 use Rattle.plan_solve.specs.SolvingLaws.{seats-asked, ready, plan-left, decided-fits, decided-none}
 use Rattle.plan_solve.specs.Reply.{Reply, fitReply}
 use Rattle.plan_solve.proofs.solve.Statement.{statement}
@@ -109,6 +109,13 @@ returns-2 c =
     (p .fill-plan .ensures (given (lists st)) (units-ready b)) (ring st) (ringLeft d) (f .3)
 
 pub solve-spec : {M : Type 1} → statement M
-solve-spec = tie.close (tie.spec decide-requires (λ c. search needs) (λ c. search needs)
-    (λ c κs. let st = start (decided c) in span-bound (lists st) (st .pre .sheet)) fill-plan-requires (λ c. search needs) (λ c. search needs) returns
-    (λ c. search needs) (λ c. search needs) (λ c. search needs) (λ c. search needs) (λ c. search needs) returns-2)
+solve-spec = tie.close (tie.spec decide-requires (λ c. c .match .keys1) (λ c. c .match .keys2)
+    (λ c κs. let st = start (decided c) in span-bound (lists st) (st .pre .sheet)) fill-plan-requires
+    (λ c. c .before .before .before .before .before .before .decide .kept .1 .1 .1 .1 .1 .1 .1 .0)
+    (λ c. c .before .before .before .before .before .before .decide .kept .1 .1 .1 .1 .1 .1 .1 .1 .0) returns
+    (λ c. decided (c .before .before .before .before .before .before .before .before .before .before .before .before) .decide .kept .1 .1 .1 .1 .1 .1 .1 .0)
+    (λ c. c .before .before .before .before .before .before .fill-plan .kept .1 .1 .1 .1 .0)
+    (λ c. c .before .before .before .before .before .before .fill-plan .kept .1 .1 .1 .1 .1 .0)
+    (λ c. c .before .before .before .before .before .before .fill-plan .kept .1 .1 .1 .1 .1 .1 .0)
+    (λ c. decided
+    (c .before .before .before .before .before .before .before .before .before .before .before .before) .decide .kept .1 .1 .1 .1 .1 .1 .1 .1 .0) returns-2)

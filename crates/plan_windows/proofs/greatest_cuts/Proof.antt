@@ -10,7 +10,7 @@ use lib.IntN.{ℤ}
 use Rattle.sheet.specs.Sizes.{maxCells}
 use Rattle.network_cuts.specs.Decider.{CutNetwork}
 use Rattle.plan_windows.specs.Windows.{Admitted}
-use Rattle.plan_windows.proofs.MarkLaws.{square-most}
+use Rattle.plan_marks.specs.MarkLaws.{square-most}
 use Rattle.plan_windows.proofs.MirrorLaws.{network-mirrored, late-turned, turned-greatest, turned-units}
 use Rattle.plan_windows.proofs.greatest_cuts.Statement.{statement}
 use Rattle.plan_windows.proofs.greatest_cuts.Tie as tie

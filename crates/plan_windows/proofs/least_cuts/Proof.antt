@@ -6,8 +6,8 @@ use native.Mathlib.Omega.{arith}
 use borrow.Author.Needs.{needs}
 use lib.ListN.{length}
 use Rattle.sheet.specs.Sizes.{maxCells}
-use Rattle.plan_windows.proofs.CutWindowsLaws.{zeros}
-use Rattle.plan_windows.proofs.MarkLaws.{square-most, marks-known, cuts-read, cuts-least}
+use Rattle.plan_marks.specs.MarkLaws.{zeros, square-most}
+use Rattle.plan_windows.proofs.MarkedCutLaws.{marks-known, cuts-read, cuts-least}
 use Rattle.plan_windows.proofs.least_cuts.Statement.{statement}
 use Rattle.plan_windows.proofs.least_cuts.Tie as tie
 

@@ -10,7 +10,7 @@ use lib.IntN.{ℤ}
 use Rattle.sheet.specs.Sizes.{maxCells}
 use Rattle.network_cuts.specs.Decider.{CutNetwork}
 use Rattle.plan_windows.specs.Windows.{Admitted, AdmittedLate}
-use Rattle.plan_windows.proofs.MarkLaws.{square-most}
+use Rattle.plan_marks.specs.MarkLaws.{square-most}
 use Rattle.plan_windows.proofs.NarrowLaws.{windows-fit, units-of, network-of, admitted-of, admitted-late-of, earliest-room, latest-room}
 use Rattle.plan_windows.proofs.narrow.Statement.{statement}
 use Rattle.plan_windows.proofs.narrow.Tie as tie

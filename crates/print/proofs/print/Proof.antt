@@ -1,12 +1,12 @@
 -- The questions decide, or what is printed of the solved sheet does.
-use borrow.Author.Needs.{needs}
-use mathlib.Core.Path.{_≡_, ap}
+use mathlib.Core.Path.{_≡_, refl, ap}
 use denote.Ref.{now}
 use Rattle.questions.specs.Questions.{Verdict, allYes, verdictOf}
 use Rattle.sheet.specs.Lists.{WrittenLists, writtenLists}
-use Rattle.plan_ask.specs.Questions.{Rooms, lent, planLent, refusal}
+use Rattle.plan_rooms.specs.Rooms.{Rooms, lent, planLent}
+use Rattle.plan_ask.specs.Questions.{refusal}
 use Rattle.plan_ask.specs.SolvableLaws.{asked-yes, asked-lists, asked-of}
-use Rattle.print.specs.CallLaws.{refused-printed, solved-printed}
+use Rattle.print_answer.specs.PrintingLaws.{refused-printed, solved-printed}
 use Rattle.print.proofs.print.Statement.{statement}
 use Rattle.print.proofs.print.Tie as tie
 
@@ -58,8 +58,8 @@ returns-2 c =
     solved-printed (lists s) (before s) (now (s .args .page)) (s .args .at) (yes p) _ _ _ (printed .print-solved .ensures)
 
 pub print-spec : {M : Type 1} → statement M
-print-spec = tie.close (tie.spec (λ c κs. search needs) (λ c κs. search needs) (λ c. search needs) (λ c. search needs) print-solved-requires
-    (λ c. search needs) (λ c. search needs) (λ c. search needs) (λ c. search needs) (λ c. search needs) returns
+print-spec = tie.close (tie.spec (λ c κs. tt) (λ c κs. tt) (λ c. c .match .keys1) (λ c. c .match .keys2) print-solved-requires
+    (λ c. refl) (λ c. refl) (λ c. refl) (λ c. refl) (λ c. refl) returns
     (λ c. c .before .before .before .before .before .before .before .before .before .before .before .print-solved .kept .1 .1 .1 .1 .1 .1 .1 .1 .0)
     (λ c. c .before .before .before .before .before .before .before .before .before .before .before .print-solved .kept .1 .1 .1 .1 .1 .1 .1 .1 .1 .0)
     (λ c. c .before .before .before .before .before .before .before .before .before .before .before .print-solved .kept .1 .1 .1 .1 .1 .1 .1 .1 .1 .1 .0)

@@ -10,7 +10,7 @@ use denote.Ref.{now}
 use Rattle.integers.specs.Parts.{up, dn}
 use Rattle.network.specs.Network.{Weights}
 use Rattle.network.specs.Table.{entry}
-use Rattle.limits.specs.LentTableLaws.{place-inside}
+use Rattle.limit_places.specs.LentTableLaws.{place-inside}
 use Rattle.forms.specs.Words.{text}
 use Rattle.print_bytes.specs.Writing.{Room, Written, atMostLine, atLeastLine}
 use Rattle.pages.specs.Page.{stepLine}

@@ -4,7 +4,6 @@ use mathlib.Core.List.{List}
 use Prim.Native.Nat.{ℕ}
 use Rattle.forms.specs.declared.House.{House}
 use Rattle.read_form.specs.Grid.{grid, classes, Tables}
-use borrow.Author.Needs.{needs}
 use Rattle.read_ask.proofs.ask_text.Statement.{statement}
 use Rattle.read_ask.proofs.ask_text.Tie as tie
 
@@ -14,27 +13,37 @@ tables-of h j g k e f c = record { is-grid = f ∙ ap grid (sym e); is-classes =
 -- what our own arm hands on, and what the partner's does
 ours : tie.Need-pass-requires
 ours c κs =
-    let told = c .before .before .before .before .before .before in
-    let p = told .before .before .before .before .before .before .before .pre in (
-      tables-of _ _ _ _ (told .enum-told .given .1) (c .before .before .before .before .before .table .ensures)
+    let told = c .before .before .before .before .before .before .before .before .before .before in
+    let p = told .before .before .before .before .before .before .before .before .before .before .before .pre in (
+      tables-of _ _ _ _ (told .enum-told .given .1) (c .before .before .before .before .before .before .before .before .before .table .ensures)
           (told .before .before .class-table .ensures),
-      p .0,
-      p .1,
-      p .2,
+      p,
     )
 
 partners : tie.Need-pass-requires-2
 partners c κs =
-    let told = c .before .before .before .before .before .before in
-    let p = told .before .before .before .before .before .before .before .pre in (
-      tables-of _ _ _ _ (told .enum-told2 .given .1) (c .before .before .before .before .before .table3 .ensures)
+    let told = c .before .before .before .before .before .before .before .before .before .before in
+    let p = told .before .before .before .before .before .before .before .before .before .before .before .pre in (
+      tables-of _ _ _ _ (told .enum-told2 .given .1) (c .before .before .before .before .before .before .before .before .before .table3 .ensures)
           (told .before .before .class-table .ensures),
-      p .0,
-      p .1,
-      p .2,
+      p,
     )
 
 pub ask-text-spec : {M : Type 1} → statement M
-ask-text-spec = tie.close (tie.spec (λ c κs. search needs) (λ c. search needs) (λ c κs. search needs) ours (λ c. search needs) (λ c κs. search needs) partners
-    (λ c. search needs) (λ c. search needs) (λ c. search needs) (λ c. search needs) (λ c. search needs) (λ c. search needs) (λ c. search needs)
-    (λ c. search needs))
+ask-text-spec = tie.close (tie.spec (λ c κs. tt) (λ c. c .match .keys1) (λ c κs. tt) ours (λ c. c .match .keys2) (λ c κs. tt) partners
+    (λ c. c .before .before .before .before .before .before .before .before .before .before .before .before .before .before .pass .kept .1 .1 .1 .1 .0)
+    (λ c. c .before .before .before .before .before .before .before .before .before .before .before .before .before .before .pass .kept .1 .1 .1 .1 .1 .0)
+    (λ c. c .before .before .before .before .before .before .before .before .before .before .before .before .before .before .pass .kept .1 .1 .1 .1 .1 .1 .0)
+    (λ c. c .before .before .before .before .before .before .before .before .before .before .before .before .before .before .pass .kept .1 .1 .1 .1 .1 .1 .1 .0)
+    (λ c. c .before .before .before .before .before .before .before .before .before .before .before .before .before .before .pass .kept .1 .1 .1 .1 .1 .1 .1 .1 .0)
+    (λ c. c .before .before .before .before .before .before .before .before .before .before .before .before .before .before .pass .kept .1 .1 .1 .1 .1 .1 .1 .1 .1 .0)
+    (λ c. c .before .before .before .before .before .before .before .before .before .before .before .before .before .before .pass .kept .1 .1 .1 .1 .1 .1 .1 .1 .1 .1 .0)
+    (λ c. c .before .before .before .before .before .before .before .before .before .before .before .before .before .before .pass .ensures)
+    (λ c. c .before .before .before .before .before .before .before .before .before .before .before .before .before .before .pass2 .kept .1 .1 .1 .1 .0)
+    (λ c. c .before .before .before .before .before .before .before .before .before .before .before .before .before .before .pass2 .kept .1 .1 .1 .1 .1 .0)
+    (λ c. c .before .before .before .before .before .before .before .before .before .before .before .before .before .before .pass2 .kept .1 .1 .1 .1 .1 .1 .0)
+    (λ c. c .before .before .before .before .before .before .before .before .before .before .before .before .before .before .pass2 .kept .1 .1 .1 .1 .1 .1 .1 .0)
+    (λ c. c .before .before .before .before .before .before .before .before .before .before .before .before .before .before .pass2 .kept .1 .1 .1 .1 .1 .1 .1 .1 .0)
+    (λ c. c .before .before .before .before .before .before .before .before .before .before .before .before .before .before .pass2 .kept .1 .1 .1 .1 .1 .1 .1 .1 .1 .0)
+    (λ c. c .before .before .before .before .before .before .before .before .before .before .before .before .before .before .pass2 .kept .1 .1 .1 .1 .1 .1 .1 .1 .1 .1 .0)
+    (λ c. c .before .before .before .before .before .before .before .before .before .before .before .before .before .before .pass2 .ensures))

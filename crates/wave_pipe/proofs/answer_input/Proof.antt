@@ -7,12 +7,11 @@ use lib.ListN.{length, take}
 use lib.Seq.{length-take-le}
 use Rattle.sheet.specs.Sizes.{maxBytes}
 use Rattle.forms.specs.declared.House.{House}
-use Rattle.answer.specs.declared.Query.{Query}
+use Rattle.wave_words.specs.declared.Query.{Query}
 use Rattle.answer.specs.Answer.{AnswerTo, Answered}
 use Rattle.answer.specs.AnswerLaws.{answered-inside}
 use Rattle.answer.specs.FirstBytesLaws.{first-bytes-decide}
 use Rattle.wave_pipe.specs.Input.{InputAnswered}
-use borrow.Author.Needs.{needs}
 use Rattle.wave_pipe.proofs.answer_input.Statement.{statement}
 use Rattle.wave_pipe.proofs.answer_input.Tie as tie
 
@@ -34,4 +33,4 @@ returns : tie.Need-returns
 returns c = (front-answers _ _ _ _ _ _ _ (places c) (c .answer .ensures), answered-inside _ _ _ _ (c .answer .ensures))
 
 pub answer-input-spec : {M : Type 1} → statement M
-answer-input-spec = tie.close (tie.spec slice-aggregate-answer (λ c κs. search needs) returns)
+answer-input-spec = tie.close (tie.spec slice-aggregate-answer (λ c κs. tt) returns)

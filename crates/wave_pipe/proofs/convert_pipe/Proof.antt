@@ -1,5 +1,5 @@
 -- What was read lies within the buffer, and what was written within the page.
-use mathlib.Core.Path.{_≡_, sym, subst}
+use mathlib.Core.Path.{_≡_, refl, sym, subst}
 use Prim.Native.Nat.{_≤_}
 use lib.ListN.{length}
 use lib.Seq.{length-take-le}
@@ -18,12 +18,10 @@ line-small : (c : tie.After-convert-input) (r : Converted) → c .convert-input 
 line-small c r e = subst (λ x. lineOf x ≤ maxBytes) e (c .convert-input .ensures .1 .1)
 
 pub convert-pipe-spec : {M : Type 1} → statement M
-convert-pipe-spec = tie.close (tie.spec (λ c. search needs) (λ c κs. search needs) (λ c. search needs) (λ c κs. search needs) (λ c. search needs)
-    (λ c κs. search needs) (λ c. search needs)
+convert-pipe-spec = tie.close (tie.spec (λ c. refl) (λ c κs. tt) (λ c. refl) (λ c κs. tt) (λ c. tt) (λ c κs. search needs) (λ c. c .match .keys1)
     (λ c. place-inside (c .before .before .before) _ (c .before .converted .given .1))
-    (λ c. sym (length-take-le _ _ (place-inside (c .before .before .before .before) _ (c .before .before .converted .given .1)))) (λ c κs. search needs)
-    (λ c. search needs)
+    (λ c. sym (length-take-le _ _ (place-inside (c .before .before .before .before) _ (c .before .before .converted .given .1)))) (λ c κs. tt)
+    (λ c. c .match .keys2)
     (λ c. place-inside (c .before .before .before) _ (c .before .converted2 .given .1))
-    (λ c. sym (length-take-le _ _ (place-inside (c .before .before .before .before) _ (c .before .before .converted2 .given .1)))) (λ c κs. search needs)
-    (λ c κs. line-small (c .before .before .before .before .before) _ (c .before .before .before .converted2 .given .1)) (λ c. search needs)
-    (λ c. search needs))
+    (λ c. sym (length-take-le _ _ (place-inside (c .before .before .before .before) _ (c .before .before .converted2 .given .1)))) (λ c κs. tt)
+    (λ c κs. line-small (c .before .before .before .before .before) _ (c .before .before .before .converted2 .given .1)) (λ c. tt) (λ c. tt))

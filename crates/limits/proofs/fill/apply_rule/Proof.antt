@@ -9,10 +9,10 @@ use lib.IntN.{ℤ, pos, negℤ}
 use mir.Syntax.{w16}
 use mir.Val.{SFits, toZ, ofZ}
 use mir.Facts.{toZ-ofZ}
-use Rattle.limits.specs.declared.limit.Limit.{Limit}
-use Rattle.limits.specs.Tightened.{withBound}
+use Rattle.limit_value.specs.declared.Limit.{Limit}
+use Rattle.limit_value.specs.Tightened.{withBound}
 use Rattle.limits.specs.LimitTable.{tightenedAt}
-use Rattle.limits.specs.LentTableLaws.{place-inside}
+use Rattle.limit_places.specs.LentTableLaws.{place-inside}
 use Rattle.limits.proofs.fill.apply_rule.Statement.{statement}
 use Rattle.limits.proofs.fill.apply_rule.Tie as tie
 

@@ -12,8 +12,8 @@ use borrow.Author.Needs.{needs}
 use Rattle.network.specs.Table.{entry}
 use Rattle.network.specs.TableLaws.{row-inside}
 use Rattle.limits.specs.LimitTable.{withForward}
-use Rattle.limits.specs.LentTableLaws.{TableFilled, filled-is, place-inside}
-use Rattle.limits.proofs.Sweep.{swept-last}
+use Rattle.limit_places.specs.LentTableLaws.{TableFilled, filled-is, place-inside}
+use Rattle.limit_places.specs.Sweep.{swept-last}
 use Rattle.limits.proofs.Forward.{Put, put-first, put-more, put-row}
 use Rattle.limits.proofs.fill.fill_forward.Statement.{statement}
 use Rattle.limits.proofs.fill.fill_forward.Tie as tie

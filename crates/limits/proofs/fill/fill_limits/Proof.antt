@@ -9,10 +9,11 @@ use Rattle.sheet.specs.Sizes.{boundariesOf}
 use Rattle.sheet.specs.Sheet.{Window, Sheet, limit, boundaries}
 use Rattle.sheet.specs.Questions.{windowsOf, sheetOf}
 use Rattle.sheet.specs.QuestionLaws.{windowsOf-length}
-use Rattle.limits.specs.LimitTable.{insideWeights, withForward}
+use Rattle.limit_windows.specs.Inside.{insideWeights}
+use Rattle.limits.specs.LimitTable.{withForward}
 use Rattle.limits.specs.LimitTableLaws.{fillable-lists, fillable-windows, fillable-rule, accepted-span, boundaries-are}
-use Rattle.limits.specs.InsideLaws.{fit-ordered}
-use Rattle.limits.specs.LentTableLaws.{TableFilled, filled-is, is-filled, filled-over}
+use Rattle.limit_windows.specs.InsideLaws.{fit-ordered}
+use Rattle.limit_places.specs.LentTableLaws.{TableFilled, filled-is, is-filled, filled-over}
 use Rattle.limits.proofs.Rules.{ruled, unruled, ruledFrom, ruled-none, ruled-all, rule-line}
 use Rattle.limits.proofs.fill.fill_limits.Statement.{statement}
 use Rattle.limits.proofs.fill.fill_limits.Tie as tie

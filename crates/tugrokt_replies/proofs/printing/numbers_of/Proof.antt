@@ -2,8 +2,8 @@
 use borrow.Author.Needs.{needs}
 use mathlib.Core.Path.{_≡_, sym, ap}
 use Prim.Native.Nat.{ℕ}
-use Rattle.print.specs.Reply.{replyOf}
-use Rattle.print.specs.declared.Printed.{Printed}
+use Rattle.print_answer.specs.Reply.{replyOf}
+use Rattle.print_answer.specs.declared.Printed.{Printed}
 use Rattle.tugrokt_replies.specs.Numbers.{printingOf}
 use Rattle.tugrokt_replies.proofs.printing.numbers_of.Statement.{statement}
 use Rattle.tugrokt_replies.proofs.printing.numbers_of.Tie as tie

@@ -1,8 +1,8 @@
 -- Case by case: the reply is its variant, and so its numbers are the variant's.
 use borrow.Author.Needs.{needs}
 use mathlib.Core.Path.{_≡_, sym, ap}
-use Rattle.read_ask.specs.Reading.{replyOf}
-use Rattle.read_ask.specs.declared.Reading.{Reading}
+use Rattle.read_questions.specs.Reading.{replyOf}
+use Rattle.read_questions.specs.declared.Reading.{Reading}
 use Rattle.tugrokt_replies.specs.Numbers.{readingOf}
 use Rattle.tugrokt_replies.proofs.reading.numbers_of.Statement.{statement}
 use Rattle.tugrokt_replies.proofs.reading.numbers_of.Tie as tie

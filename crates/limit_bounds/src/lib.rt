@@ -1,0 +1,1 @@
+// How large the numbers of a pass over limits are: laws only.

@@ -1,0 +1,2 @@
+pub mod LentTableLaws
+pub mod Sweep

@@ -1,0 +1,5 @@
+pub mod Pass
+pub mod PassLaws
+pub mod PassFront
+pub mod PassBounds
+pub mod PassBoundLaws

@@ -1,0 +1,3 @@
+mod CommonCutLaws
+mod CutRowLaws
+mod CutWindowsLaws

@@ -1,0 +1,3 @@
+pub mod Reply
+pub mod Printing
+pub mod PrintingLaws

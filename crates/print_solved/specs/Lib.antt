@@ -1,0 +1,3 @@
+pub mod BytesLaws
+pub mod CallLaws
+pub mod OwnLaws

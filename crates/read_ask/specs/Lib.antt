@@ -1,6 +1,0 @@
-pub mod Reading
-pub mod Steps
-pub mod SpanLaws
-pub mod Samples
-pub mod AcceptedLaws
-pub mod RefusalLaws
