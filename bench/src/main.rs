@@ -18,9 +18,9 @@ use std::time::{Duration, Instant};
 
 use cases::Case;
 
-/// What is measured: from a text to lists, and from a partner's text to lists; from lists to a partner's text; the pass alone, over a copy of the sheet's limits; from lists to the rooms (table,
-/// seats, narrowed windows or ring); from lists to table or ring alone; from lists to table, seats and narrowed windows, and no ring; from
-/// lists to a page, so that `print` less `plan` is printing; from a text to a page.
+/// What is measured: from a text to lists, and from a partner's text to lists; from lists to a partner's text; the pass alone, over a copy of the sheet's
+/// limits; from lists to the rooms (table, seats, narrowed windows or ring); from lists to table or ring alone; from lists to table, seats and narrowed
+/// windows, and no ring; from lists to a page, so that `print` less `plan` is printing; from a text to a page.
 #[derive(Clone, Copy, PartialEq)]
 enum Job {
     Read,

@@ -135,7 +135,8 @@ fn the_promises_name_every_wrong_program() {
 
 #[test]
 fn what_counts_as_a_definition() {
-    let file = "abbrev pub small : ℕ\n  pub big : (n : ℕ) → ⊥\nunfoldable pub known : ℕ\npub record Whole (n : ℕ) : Type 0 where\nhidden : ℕ\npub fn read(\npub struct Slot(pub usize);\n";
+    let file = "abbrev pub small : ℕ\n  pub big : (n : ℕ) → ⊥\nunfoldable pub known : ℕ\npub record Whole (n : ℕ) : Type 0 where\n\
+        hidden : ℕ\npub fn read(\npub struct Slot(pub usize);\n";
     for name in ["small", "big", "known", "Whole", "read", "Slot"] {
         assert!(defines(file, name), "{name}");
     }

@@ -94,7 +94,8 @@ module _ {am : ℤ} {mid old : List ℤ} {w a : ℕ} {outcome : Outcome} {row : 
       ∙ listOf-at (relaxedAt am (take (e - b) (drop b mid)) part) (length part) j (pos 0) (omega (arith, part-length b (e - b) row fits))
       ∙ ap₂ (λ (x y : ℤ). minℤ x (am +ℤ y)) y (part-at b (e - b) mid (pos 0) j l)) in
       let q : b + (e - b) ≡ e = omega arith in
-      subst (λ (n : ℕ). Filled (relaxedAt am mid old) n old (back b (e - b) ys row)) q (filled-part (relaxedAt am mid old) b old row (v .form) (e - b) ys values)
+      subst (λ (n : ℕ). Filled (relaxedAt am mid old) n old (back b (e - b) ys row)) q
+      (filled-part (relaxedAt am mid old) b old row (v .form) (e - b) ys values)
 
   pub cols-long : length (back b (e - b) ys row) ≡ w
   cols-long = back-length b (e - b) ys row fits stretch-length ∙ v .long

@@ -154,14 +154,16 @@ module _ (n top : ℕ) (first last z : ℕ → ℕ) (P : Problem n top first las
         count-le n (seatedBy x′ b) (seatedBy x b)
             (λ i h t. let p = taken (x′ i) b t in let w = else i (not-j i (omega arith)) in in-inside (x i) (x i) 0 b (omega arith) (omega arith)),
         count-le n (seatedBy x b) (seatedBy x′ b)
-            (λ i h t. let p = taken (x i) b t in let w = else i (λ q. let r = ap x q in omega arith) in in-inside (x′ i) (x′ i) 0 b (omega arith) (omega arith)),
+            (λ i h t. let p = taken (x i) b t in let w = else i (λ q. let r = ap x q in omega arith) in
+            in-inside (x′ i) (x′ i) 0 b (omega arith) (omega arith)),
       )
 
       one-more : count n (seatedBy x′ s) ≡ suc (count n (seatedBy x s))
       one-more = omega (
         arith,
         count-lt n (seatedBy x s) (seatedBy x′ s) j hj (in-inside (x′ j) (x′ j) 0 s (omega arith) (omega arith)) (λ t. let p = taken (x j) s t in omega arith)
-            (λ i h t. let p = taken (x i) s t in let w = else i (λ q. let r = ap x q in omega arith) in in-inside (x′ i) (x′ i) 0 s (omega arith) (omega arith)),
+            (λ i h t. let p = taken (x i) s t in let w = else i (λ q. let r = ap x q in omega arith) in
+            in-inside (x′ i) (x′ i) 0 s (omega arith) (omega arith)),
         count-suc n (seatedBy x s) (seatedBy x′ s) j
             (λ i h ne t. let p = taken (x′ i) s t in let w = else i ne in in-inside (x i) (x i) 0 s (omega arith) (omega arith)),
       )

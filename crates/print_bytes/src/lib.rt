@@ -65,7 +65,7 @@ fn put_five_digits(page: &mut [u8], at: usize, n: u16) -> usize
     put_digit(page, last, n % 10)
 }
 
-fn put_number(page: &mut [u8], at: usize, n: u16) -> usize
+pub fn put_number(page: &mut [u8], at: usize, n: u16) -> usize
     requires { ⌜ Room (now page) at (digits n) ⌝ }
     ensures { λ r. ⌜ Written (now (page .entry)) at (digits n) (now (page .exit)) r ⌝ }
 {

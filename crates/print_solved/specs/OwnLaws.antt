@@ -28,7 +28,8 @@ use Rattle.pages.specs.PageBounds.{ring-read}
 use Rattle.pages.specs.Page.{Printable, tablePage, RingFits, nonePage, maxPage, maxRingPage}
 use Rattle.print_answer.specs.Printing.{holds, Asked, PrintingOf}
 use Rattle.lists.specs.Lists.{onFront}
-use Rattle.print_solved.specs.BytesLaws.{places-span, table-size, seats-size, firsts-size, lasts-size, plan-printable, plan-fits, ring-printable, ring-fits}
+use Rattle.print_solved.specs.BytesLaws.{places-span, table-size, seats-size, firsts-size, lasts-size}
+use Rattle.print_solved.specs.BytesLaws.{plan-printable, plan-fits, ring-printable, ring-fits}
 use Rattle.print_solved.specs.CallLaws.{plan-left, none-left, plan-printed, ring-printed}
 use Rattle.print_answer.specs.Reply as says
 

@@ -120,7 +120,8 @@ module _ (h : House) (t : List ℕ) (at n : ℕ) (s : Sheet) (m₀ m : ListRooms
               ∙ ap₂ (λ (us : List SheetUnit) (rs : List Rule).
               setAt (setAt m₀ 0 0 (columns (unitsIn (i .before)) (rulesIn (i .before)))) (s .units) (s .rules) (columns us rs)) (p .1 .units) (p .1 .rules)
               ∙ columns-more m₀ (unitsIn (i .before)) (unitOf is) (rulesIn (i .before)) (ruleOf is) (s .units) (s .rules) (c .units) (c .rules)
-              ∙ ap₂ (λ (us : List SheetUnit) (rs : List Rule). setAt m₀ 0 0 (columns us rs)) (sym (units-more (i .before) is)) (sym (rules-more (i .before) is));
+              ∙ ap₂ (λ (us : List SheetUnit) (rs : List Rule). setAt m₀ 0 0 (columns us rs)) (sym (units-more (i .before) is))
+              (sym (rules-more (i .before) is));
         }
 
   -- a line that starts before the last line feed

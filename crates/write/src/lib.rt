@@ -1,8 +1,10 @@
 ghost use mathlib.Core.Path.{_≡_};
+ghost use Prim.Native.Nat.{_+_, _≤_};
 ghost use lib.ListN.{length};
 ghost use Rattle.questions.specs.Questions.{firstNo, verdictOf};
 ghost use Rattle.sheet.specs.Lists.{writtenLists};
 ghost use Rattle.plan_ask.specs.Asking.{Listed};
+ghost use Rattle.sheet_texts.specs.SheetText.{maxText};
 ghost use Rattle.write.specs.Writing.{textOf, sheetAsked, pageAsked, concluded, leaves, writing, pageAfter};
 ghost use Rattle.write.specs.Writing as says;
 use forms::House;
@@ -39,8 +41,46 @@ fn ask(
     }
 }
 
-// The text is written into an array of the call's own. Where the lent page holds it, it is put there.
-fn write_text(
+// Straight onto a page that holds every text.
+fn write_in_place(
+    house: House,
+    span: usize,
+    loader: &[u16],
+    first: &[u16],
+    last: &[u16],
+    from: &[u16],
+    to: &[u16],
+    low: &[u16],
+    high: &[u16],
+    page: &mut [u8],
+    at: usize,
+) -> Writing
+    requires { ⌜ Listed (writtenLists span (now loader) (now first) (now last) (now from) (now to) (now low) (now high)) ⌝ }
+    requires { ⌜ at + maxText ≤ length (now page) ⌝ }
+    ensures { λ r.
+        let bytes = textOf house (writtenLists span (now (loader .entry)) (now (first .entry)) (now (last .entry)) (now (from .entry)) (now (to .entry))
+        (now (low .entry)) (now (high .entry))) in
+        let v = firstNo (pageAsked (length (now (page .entry))) at bytes) in
+        ⌜ (says.replyOf r ≡ concluded v at bytes) × (now (page .exit) ≡ leaves v (now (page .entry)) at bytes) ⌝ }
+{
+    let next = write_lines::put_sheet(
+        house,
+        page,
+        at,
+        span,
+        loader,
+        first,
+        last,
+        from,
+        to,
+        low,
+        high,
+    );
+    Writing::Text(next)
+}
+
+// A page that may be too short: the text is written into an array of the call's own and, where the page holds it, put there.
+fn write_copy(
     house: House,
     span: usize,
     loader: &[u16],
@@ -82,6 +122,58 @@ fn write_text(
             number: 15,
             line: 0,
         })
+    }
+}
+
+// The text, and question 15. Most pages hold every text, and are spared the array and the copy.
+fn write_text(
+    house: House,
+    span: usize,
+    loader: &[u16],
+    first: &[u16],
+    last: &[u16],
+    from: &[u16],
+    to: &[u16],
+    low: &[u16],
+    high: &[u16],
+    page: &mut [u8],
+    at: usize,
+) -> Writing
+    requires { ⌜ Listed (writtenLists span (now loader) (now first) (now last) (now from) (now to) (now low) (now high)) ⌝ }
+    ensures { λ r.
+        let bytes = textOf house (writtenLists span (now (loader .entry)) (now (first .entry)) (now (last .entry)) (now (from .entry)) (now (to .entry))
+        (now (low .entry)) (now (high .entry))) in
+        let v = firstNo (pageAsked (length (now (page .entry))) at bytes) in
+        ⌜ (says.replyOf r ≡ concluded v at bytes) × (now (page .exit) ≡ leaves v (now (page .entry)) at bytes) ⌝ }
+{
+    if print_writer::holds(page.len(), at, MAX_TEXT) {
+        write_in_place(
+            house,
+            span,
+            loader,
+            first,
+            last,
+            from,
+            to,
+            low,
+            high,
+            page,
+            at,
+        )
+    } else {
+        write_copy(
+            house,
+            span,
+            loader,
+            first,
+            last,
+            from,
+            to,
+            low,
+            high,
+            page,
+            at,
+        )
     }
 }
 

@@ -59,5 +59,5 @@ returns c =
     filled-all (relaxedAt (st .args .am) mid row₀) (length row₀) row₀ (l .row) (fill-end inv (omega arith)) (omega arith)
 
 pub relax-row-spec : {M : Type 1} → statement M
-relax-row-spec = tie.close (tie.spec Inv-loop μ-loop (λ c. (refl, fill-start)) (λ c. omega arith) (λ c. omega arith) (λ c. omega arith) (λ c. omega arith) add-lesser
-    (λ c κs. tt) (λ c. omega arith) (λ c. omega arith) (λ c. omega arith) (λ c. omega arith) loop-again (λ c. omega arith) returns)
+relax-row-spec = tie.close (tie.spec Inv-loop μ-loop (λ c. (refl, fill-start)) (λ c. omega arith) (λ c. omega arith) (λ c. omega arith) (λ c. omega arith)
+    add-lesser (λ c κs. tt) (λ c. omega arith) (λ c. omega arith) (λ c. omega arith) (λ c. omega arith) loop-again (λ c. omega arith) returns)

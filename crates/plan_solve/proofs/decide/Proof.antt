@@ -62,6 +62,7 @@ returns-2 c =
 
 pub decide-spec : {M : Type 1} → statement M
 decide-spec = tie.close (tie.spec close-limits-requires (λ c. c .match .keys1) find-ring-requires (λ c. c .match .keys2)
-    (λ c. let f = c .before .before .before in f .find-ring .kept .1 .1 .1 .1 .1 .1 .1 .0 ∙ f .before .before .before .before .before .before .close-limits .kept .1 .1 .1 .1 .1 .1 .1 .0)
+    (λ c. let f = c .before .before .before in f .find-ring .kept .1 .1 .1 .1 .1 .1 .1 .0
+    ∙ f .before .before .before .before .before .before .close-limits .kept .1 .1 .1 .1 .1 .1 .1 .0)
     (λ c. c .before .before .before .find-ring .kept .1 .1 .1 .1 .1 .1 .1 .1 .0) returns
     (λ c. c .before .before .before .close-limits .kept .1 .1 .1 .1 .1 .1 .1 .0) returns-2)

@@ -91,7 +91,8 @@ pub seat-spec : {M : Type 1} → statement M
 seat-spec = tie.close (tie.spec close-limits-requires (λ c. c .match .keys1) (λ c. c .match .keys2)
     (λ c κs. let st = start (closed c) in span-bound (lists st) (st .pre .sheet)) fill-plan-requires
     (λ c. c .before .before .before .close-limits .kept .1 .1 .1 .1 .1 .1 .1 .0) returns
-    (λ c. closed (c .before .before .before .before .before .before .before .before .before .before .before .before) .close-limits .kept .1 .1 .1 .1 .1 .1 .1 .0)
+    (λ c. closed (c .before .before .before .before .before .before .before .before .before .before .before .before)
+    .close-limits .kept .1 .1 .1 .1 .1 .1 .1 .0)
     (λ c. c .before .before .before .before .before .before .fill-plan .kept .1 .1 .1 .1 .0)
     (λ c. c .before .before .before .before .before .before .fill-plan .kept .1 .1 .1 .1 .1 .0)
     (λ c. c .before .before .before .before .before .before .fill-plan .kept .1 .1 .1 .1 .1 .1 .0)

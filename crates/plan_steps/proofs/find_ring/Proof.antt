@@ -67,4 +67,5 @@ pub find-ring-spec : {M : Type 1} → statement M
 find-ring-spec = tie.close (tie.spec
     (λ c κs. let st = c .before .before .before .before .before .before .before in span-bound (lists st) (st .pre .0 .ok)) (λ c κs. start (c .before) .pre .0)
     negative-cycle-requires mul-clear clear-requires
-    (λ c. c .before .clear .kept .1 .0 ∙ c .before .before .before .before .before .before .before .before .before .fill-limits .kept .1 .1 .1 .1 .1 .1 .1 .0) (λ c. c .before .before .before .before .before .negative-cycle .kept .1 .1 .0) returns)
+    (λ c. c .before .clear .kept .1 .0 ∙ c .before .before .before .before .before .before .before .before .before .fill-limits .kept .1 .1 .1 .1 .1 .1 .1 .0)
+    (λ c. c .before .before .before .before .before .negative-cycle .kept .1 .1 .0) returns)

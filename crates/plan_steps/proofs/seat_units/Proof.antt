@@ -25,4 +25,5 @@ returns c s R =
     (row-of s (a .w) (a .first .now) (a .last .now) (a .table .now) R (a .w - 0) (omega arith))
 
 pub seat-units-spec : {M : Type 1} → statement M
-seat-units-spec = tie.close (tie.spec (λ c. omega arith) (λ c. omega arith) part-seat-end seat-requires (λ c. c .before .before .seat .kept .1 .1 .1 .0) returns)
+seat-units-spec = tie.close (tie.spec (λ c. omega arith) (λ c. omega arith) part-seat-end seat-requires
+    (λ c. c .before .before .seat .kept .1 .1 .1 .0) returns)

@@ -29,21 +29,28 @@ partners c κs =
       p,
     )
 
+-- from where every array is given back to the call of the pass
+abbrev our-pass : tie.After-slice-known14 → tie.After-pass
+our-pass c = c .before .before .before .before .before .before .before .before .before .before .before .before .before .before
+
+abbrev partner-pass : tie.After-slice-known21 → tie.After-pass2
+partner-pass c = c .before .before .before .before .before .before .before .before .before .before .before .before .before .before
+
 pub ask-text-spec : {M : Type 1} → statement M
 ask-text-spec = tie.close (tie.spec (λ c κs. tt) (λ c. c .match .keys1) (λ c κs. tt) ours (λ c. c .match .keys2) (λ c κs. tt) partners
-    (λ c. c .before .before .before .before .before .before .before .before .before .before .before .before .before .before .pass .kept .1 .1 .1 .1 .0)
-    (λ c. c .before .before .before .before .before .before .before .before .before .before .before .before .before .before .pass .kept .1 .1 .1 .1 .1 .0)
-    (λ c. c .before .before .before .before .before .before .before .before .before .before .before .before .before .before .pass .kept .1 .1 .1 .1 .1 .1 .0)
-    (λ c. c .before .before .before .before .before .before .before .before .before .before .before .before .before .before .pass .kept .1 .1 .1 .1 .1 .1 .1 .0)
-    (λ c. c .before .before .before .before .before .before .before .before .before .before .before .before .before .before .pass .kept .1 .1 .1 .1 .1 .1 .1 .1 .0)
-    (λ c. c .before .before .before .before .before .before .before .before .before .before .before .before .before .before .pass .kept .1 .1 .1 .1 .1 .1 .1 .1 .1 .0)
-    (λ c. c .before .before .before .before .before .before .before .before .before .before .before .before .before .before .pass .kept .1 .1 .1 .1 .1 .1 .1 .1 .1 .1 .0)
-    (λ c. c .before .before .before .before .before .before .before .before .before .before .before .before .before .before .pass .ensures)
-    (λ c. c .before .before .before .before .before .before .before .before .before .before .before .before .before .before .pass2 .kept .1 .1 .1 .1 .0)
-    (λ c. c .before .before .before .before .before .before .before .before .before .before .before .before .before .before .pass2 .kept .1 .1 .1 .1 .1 .0)
-    (λ c. c .before .before .before .before .before .before .before .before .before .before .before .before .before .before .pass2 .kept .1 .1 .1 .1 .1 .1 .0)
-    (λ c. c .before .before .before .before .before .before .before .before .before .before .before .before .before .before .pass2 .kept .1 .1 .1 .1 .1 .1 .1 .0)
-    (λ c. c .before .before .before .before .before .before .before .before .before .before .before .before .before .before .pass2 .kept .1 .1 .1 .1 .1 .1 .1 .1 .0)
-    (λ c. c .before .before .before .before .before .before .before .before .before .before .before .before .before .before .pass2 .kept .1 .1 .1 .1 .1 .1 .1 .1 .1 .0)
-    (λ c. c .before .before .before .before .before .before .before .before .before .before .before .before .before .before .pass2 .kept .1 .1 .1 .1 .1 .1 .1 .1 .1 .1 .0)
-    (λ c. c .before .before .before .before .before .before .before .before .before .before .before .before .before .before .pass2 .ensures))
+    (λ c. our-pass c .pass .kept .1 .1 .1 .1 .0)
+    (λ c. our-pass c .pass .kept .1 .1 .1 .1 .1 .0)
+    (λ c. our-pass c .pass .kept .1 .1 .1 .1 .1 .1 .0)
+    (λ c. our-pass c .pass .kept .1 .1 .1 .1 .1 .1 .1 .0)
+    (λ c. our-pass c .pass .kept .1 .1 .1 .1 .1 .1 .1 .1 .0)
+    (λ c. our-pass c .pass .kept .1 .1 .1 .1 .1 .1 .1 .1 .1 .0)
+    (λ c. our-pass c .pass .kept .1 .1 .1 .1 .1 .1 .1 .1 .1 .1 .0)
+    (λ c. our-pass c .pass .ensures)
+    (λ c. partner-pass c .pass2 .kept .1 .1 .1 .1 .0)
+    (λ c. partner-pass c .pass2 .kept .1 .1 .1 .1 .1 .0)
+    (λ c. partner-pass c .pass2 .kept .1 .1 .1 .1 .1 .1 .0)
+    (λ c. partner-pass c .pass2 .kept .1 .1 .1 .1 .1 .1 .1 .0)
+    (λ c. partner-pass c .pass2 .kept .1 .1 .1 .1 .1 .1 .1 .1 .0)
+    (λ c. partner-pass c .pass2 .kept .1 .1 .1 .1 .1 .1 .1 .1 .1 .0)
+    (λ c. partner-pass c .pass2 .kept .1 .1 .1 .1 .1 .1 .1 .1 .1 .1 .0)
+    (λ c. partner-pass c .pass2 .ensures))

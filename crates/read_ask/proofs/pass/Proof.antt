@@ -23,14 +23,14 @@ use Rattle.read_ask.proofs.pass.Statement.{statement}
 use Rattle.read_ask.proofs.pass.Tie as tie
 
 abbrev Inv-loop : tie.InvT-loop
-Inv-loop house text grid table numbers₀ firsts₀ lasts₀ froms₀ tos₀ lows₀ highs₀ whole heads₀ nexts₀ s₀ at₀ n₀ numbers firsts lasts froms tos lows highs heads nexts s
-    at n =
+Inv-loop house text grid table numbers₀ firsts₀ lasts₀ froms₀ tos₀ lows₀ highs₀ whole heads₀ nexts₀ s₀ at₀ n₀
+    numbers firsts lasts froms tos lows highs heads nexts s at n =
     Asking house text at n s (rooms numbers₀ firsts₀ lasts₀ froms₀ tos₀ lows₀ highs₀) (rooms numbers firsts lasts froms tos lows highs)
     × Chained s numbers heads nexts
 
 abbrev μ-loop : tie.MeasureT-loop
-μ-loop house text grid table numbers₀ firsts₀ lasts₀ froms₀ tos₀ lows₀ highs₀ whole heads₀ nexts₀ s₀ at₀ n₀ numbers firsts lasts froms tos lows highs heads nexts s
-    at n =
+μ-loop house text grid table numbers₀ firsts₀ lasts₀ froms₀ tos₀ lows₀ highs₀ whole heads₀ nexts₀ s₀ at₀ n₀
+    numbers firsts lasts froms tos lows highs heads nexts s at n =
     whole - at
 
 -- the places: past the line's step, the step, the line that was found, the turn it is made in, the loop's head and the function's start

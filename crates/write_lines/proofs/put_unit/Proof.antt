@@ -1,10 +1,9 @@
 -- Whose sheet it is decides which form is written.
-use mathlib.Core.Path.{refl, sym, subst}
+use mathlib.Core.Path.{sym, subst}
 use mathlib.Core.List.{List}
 use Prim.Native.Nat.{ℕ}
 use borrow.Author.Needs.{needs}
 use denote.Ref.{now}
-use Rattle.forms.specs.Words.{text}
 use Rattle.forms.specs.declared.House.{House}
 use Rattle.print_bytes.specs.Writing.{Room, Written}
 use Rattle.sheet_texts.specs.SheetText.{unitText}
@@ -16,41 +15,37 @@ use Rattle.write_lines.proofs.put_unit.Tie as tie
 abbrev line : tie.Start → House → List ℕ
 line c house = let a = c .args in unitText house (unitWith (a .loader) (a .first) (a .last))
 
-put-three-numbers-requires : tie.Need-put-three-numbers-requires
-unfolding unitText text
-put-three-numbers-requires c κs =
-    let s = c .before .before .before .before .before .before .before .before in
-    subst (λ house. Room (now (s .args .page)) (s .args .at) (line s house)) (c .before .before .before .before .before .enum-told .given .1)
-    (s .pre .1)
+put-own-unit-requires : tie.Need-put-own-unit-requires
+unfolding unitText
+put-own-unit-requires c κs =
+    let s = c .before .before .before .before in
+    subst (λ house. Room (now (s .args .page)) (s .args .at) (line s house)) (c .before .enum-told .given .1) (s .pre .1)
 
-put-three-numbers-requires-2 : tie.Need-put-three-numbers-requires-2
-unfolding unitText text
-put-three-numbers-requires-2 c κs =
-    let s = c .before .before .before .before .before .before .before .before .before in
-    rw (c .before .hours .ensures)
-    (subst (λ house. Room (now (s .args .page)) (s .args .at) (line s house)) (c .before .before .before .before .before .before .enum-told2 .given .1)
-    (s .pre .1))
+put-job-requires : tie.Need-put-job-requires
+unfolding unitText
+put-job-requires c κs =
+    let s = c .before .before .before .before .before in
+    rw (c .hours .ensures)
+    (subst (λ house. Room (now (s .args .page)) (s .args .at) (line s house)) (c .before .before .enum-told2 .given .1) (s .pre .1))
 
 returns : tie.Need-returns
-unfolding unitText text
+unfolding unitText
 returns c =
-    let s = c .before .before .before .before .before .before .before .before .before .before .before in
-    let put = c .before .before .put-three-numbers in
+    let s = c .before .before .before .before .before .before .before in
+    let put = c .before .before .put-own-unit in
     subst (λ house. Written (now (s .args .page)) (s .args .at) (line s house) (put .last .0) (put .result))
-    (sym (c .before .before .before .before .before .before .before .before .enum-told .given .1))
+    (sym (c .before .before .before .before .enum-told .given .1))
     (put .ensures)
 
 returns-2 : tie.Need-returns-2
-unfolding unitText text
+unfolding unitText
 returns-2 c =
-    let s = c .before .before .before .before .before .before .before .before .before .before .before .before in
-    let put = c .before .before .put-three-numbers2 in
+    let s = c .before .before .before .before .before .before .before .before in
+    let put = c .before .before .put-job in
     subst (λ house. Written (now (s .args .page)) (s .args .at) (line s house) (put .last .0) (put .result))
-    (sym (c .before .before .before .before .before .before .before .before .before .enum-told2 .given .1))
-    (rw (c .before .before .before .before .hours .ensures) at (put .ensures))
+    (sym (c .before .before .before .before .before .enum-told2 .given .1))
+    (rw (c .before .before .before .hours .ensures) at (put .ensures))
 
 pub put-unit-spec : {M : Type 1} → statement M
-unfolding text
-put-unit-spec = tie.close (tie.spec (λ c. search needs) (λ c. refl) (λ c. refl) (λ c. refl) (λ c. refl) put-three-numbers-requires
-    (λ c. search needs) (λ c. refl) (λ c. refl) (λ c. refl) (λ c κs. search needs) (λ c. refl) put-three-numbers-requires-2
+put-unit-spec = tie.close (tie.spec (λ c. search needs) put-own-unit-requires (λ c. search needs) (λ c κs. search needs) put-job-requires
     (λ c. search needs) returns (λ c. search needs) returns-2)
