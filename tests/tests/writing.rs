@@ -186,6 +186,22 @@ fn pages_that_do_not_hold_the_text() {
     assert!(tally.count(TEXT) > 0 && tally.refused_by(15) > 0);
 }
 
+/// Pages about as long as the longest text, from which on a text is written in place: every byte behind it and before its place stays.
+#[test]
+fn pages_that_just_hold_every_text() {
+    let mut tally = Tally::new("writing onto pages about as long as the longest text", 0);
+    for (case, house) in cases::all().iter().flat_map(|case| House::BOTH.map(|house| (case, house))) {
+        let lists = Lists::from(&case.sheet.kept_by(house));
+        for length in tugrokt::MAX_TEXT - 2..=tugrokt::MAX_TEXT + 20 {
+            for place in [0, 1, 2, 17, 18, tugrokt::MAX_TEXT - 1, length, usize::MAX - tugrokt::MAX_TEXT, usize::MAX] {
+                hold(&mut tally, house, &lists, length, place);
+            }
+        }
+    }
+    tally.report();
+    assert!(tally.count(TEXT) > 0 && tally.refused_by(15) > 0);
+}
+
 /// The longest texts: exactly as long as is said, and a page of that length holds them, from its front on.
 #[test]
 fn the_longest_texts() {
