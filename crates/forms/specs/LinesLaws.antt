@@ -6,10 +6,10 @@ use mathlib.Core.Path.{_≡_, refl, sym, ap, ap₂, _∙_}
 use mathlib.Core.Bool.{Bool, true, false, not, cond, true≢false}
 use mathlib.Core.List.{List, [], _∷_, map}
 use native.Mathlib.Omega.{arith}
-use lib.ListN.{length, getD, take, drop, length-drop, drop-of-length-le}
+use lib.ListN.{length, getD, take, drop, drop-of-length-le}
 use lib.Seq.{drop-cons, drop-drop}
-use lib.Dec.{eqb, ltb, leb·suc-suc}
-use borrow.Author.Tests.{eqb-true, lt-ltb, le-ltb, ltb-true, ltb-false}
+use lib.Dec.{eqb, ltb}
+use borrow.Author.Tests.{eqb-true, lt-ltb, le-ltb, ltb-false}
 use Rattle.lists.specs.Lists.{joined, every}
 use Rattle.forms.specs.Words.{lineFeed}
 use Rattle.forms.specs.Lines.{TextLine, textLine, inFront, lines, spelt, firstLine, hasFeed, pastLine, wholeLines}
@@ -63,15 +63,6 @@ lines-cons b (c ∷ t) = go (eqb b lineFeed) (lines-cons c t)
     go true h = refl
     go false h = ap (inFront b) h
 
-first-short : (t : List ℕ) → length (firstLine t) ≤ length t
-unfolding firstLine
-first-short [] = omega arith
-first-short (b ∷ t) = go (eqb b lineFeed) (first-short t)
-  where
-    go : (e : Bool) → length (firstLine t) ≤ length t → length (cond e [] (b ∷ firstLine t)) ≤ suc (length t)
-    go true h = omega arith
-    go false h = omega arith
-
 take-first : (t : List ℕ) → take (length (firstLine t)) t ≡ firstLine t
 unfolding firstLine
 take-first [] = refl
@@ -80,15 +71,6 @@ take-first (b ∷ t) = go (eqb b lineFeed) (take-first t)
     go : (e : Bool) → take (length (firstLine t)) t ≡ firstLine t → take (length (cond e [] (b ∷ firstLine t))) (b ∷ t) ≡ cond e [] (b ∷ firstLine t)
     go true h = refl
     go false h = ap (λ (m : List ℕ). b ∷ m) h
-
-feed-test : (t : List ℕ) → ltb (length (firstLine t)) (length t) ≡ hasFeed t
-unfolding firstLine hasFeed
-feed-test [] = refl
-feed-test (b ∷ t) = go (eqb b lineFeed) (feed-test t)
-  where
-    go : (e : Bool) → ltb (length (firstLine t)) (length t) ≡ hasFeed t → ltb (length (cond e [] (b ∷ firstLine t))) (suc (length t)) ≡ cond e true (hasFeed t)
-    go true h = lt-ltb zero (suc (length t)) (omega arith)
-    go false h = leb·suc-suc (suc (length (firstLine t))) (length t) ∙ h
 
 drop-first : (t : List ℕ) → drop (suc (length (firstLine t))) t ≡ pastLine t
 unfolding firstLine pastLine
@@ -106,23 +88,10 @@ abbrev pub lineEnd : List ℕ → ℕ → ℕ
 lineEnd t at = at + length (firstLine (drop at t))
 
 module _ (t : List ℕ) (at : ℕ) where
-  pub end-within : at ≤ length t → lineEnd t at ≤ length t
-  end-within h = omega (arith, first-short (drop at t), length-drop at t)
-
   pub line-part : (end : ℕ) → end ≡ lineEnd t at → take (end - at) (drop at t) ≡ firstLine (drop at t)
   line-part end e =
       let k : end - at ≡ length (firstLine (drop at t)) = omega arith in
       ap (λ (n : ℕ). take n (drop at t)) k ∙ take-first (drop at t)
-
-  shift : (n : ℕ) → at ≤ length t → ltb (at + n) (length t) ≡ ltb n (length (drop at t))
-  shift n h = go (ltb n (length (drop at t))) refl
-    where
-      go : (b : Bool) → ltb n (length (drop at t)) ≡ b → ltb (at + n) (length t) ≡ b
-      go true e = lt-ltb (at + n) (length t) (omega (arith, ltb-true n (length (drop at t)) e, length-drop at t))
-      go false e = le-ltb (at + n) (length t) (omega (arith, ltb-false n (length (drop at t)) e, length-drop at t))
-
-  pub line-ended : (end : ℕ) → at ≤ length t → end ≡ lineEnd t at → ltb end (length t) ≡ hasFeed (drop at t)
-  line-ended end h e = ap (λ (n : ℕ). ltb n (length t)) e ∙ shift (length (firstLine (drop at t))) h ∙ feed-test (drop at t)
 
   -- the lines from a place on: the one that starts there, and those past its end
   pub lines-at : (next : ℕ) → at < length t → next ≡ lineEnd t at + 1 →

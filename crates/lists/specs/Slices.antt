@@ -1,11 +1,12 @@
--- A part of a list, and the list with a part replaced, as a lent part comes back.
+-- A part of a list, and the list with a part replaced, as a lent part comes back or by one store after another.
 -- Key idea: the list is what stands before the part, the part, and what stands behind it; a place is in one of the three.
 use mathlib.Core.Path.{_≡_, sym, ap, _∙_}
-use mathlib.Core.List.{List, _++_}
-use Prim.Native.Nat.{ℕ, _+_, _≤_, _<_}
+use mathlib.Core.List.{List, [], _∷_, _++_}
+use Prim.Native.Nat.{ℕ, suc, _+_, _≤_, _<_}
 use native.Mathlib.Omega.{arith}
-use lib.ListN.{length, getD, take, drop, length-take, length-drop, length-append, take-append-drop, List·getD-append}
-use lib.Seq.{getD-take, getD-drop, getD-append-add}
+use native.Mathlib.Nat.{add-zero}
+use lib.ListN.{length, getD, set, take, drop, length-take, length-drop, length-append, take-append-drop, List·getD-append}
+use lib.Seq.{sets, getD-take, getD-drop, getD-append-add}
 use Rattle.lists.specs.Values.{front-length, front-past, front-part}
 
 pub part-at : {A : Type 0} (i k : ℕ) (t : List A) (d : A) (j : ℕ) → j < k → getD (take k (drop i t)) j d ≡ getD t (i + j) d
@@ -41,3 +42,10 @@ module _ {A : Type 0} (i k : ℕ) (ys t : List A) (fits : i + k ≤ length t) (l
       ap (λ (m : ℕ). getD (back i k ys t) (m + j) d) (sym n)
       ∙ getD-append-add (take i t) (ys ++ drop k (drop i t)) j d
       ∙ List·getD-append ys (drop k (drop i t)) d j (omega arith)
+
+-- what is stored from a place on goes on where its first part ends
+pub sets-append : {A : Type 0} (xs ys t : List A) (i : ℕ) → sets t i (xs ++ ys) ≡ sets (sets t i xs) (i + length xs) ys
+sets-append [] ys t i = ap (λ (k : ℕ). sets t k ys) (sym (add-zero i))
+sets-append (x ∷ xs) ys t i =
+    let e : suc i + length xs ≡ i + suc (length xs) = omega arith in
+    sets-append xs ys (set t i x) (suc i) ∙ ap (λ (k : ℕ). sets (sets (set t i x) (suc i) xs) k ys) e

@@ -13,7 +13,7 @@ use lib.IntN.{negℤ}
 use borrow.Author.Tests.{ne-eqb, leb-false}
 use Rattle.lists.specs.Members.{left, right}
 use Rattle.lists.specs.Values.{listOf-is, values-same}
-use Rattle.lists.specs.Lists.{run, fromTo, every, howMany, oneIf, joined}
+use Rattle.lists.specs.Lists.{run, fromTo, howMany, oneIf, joined}
 use Rattle.integers.specs.Parts.{up}
 use Rattle.network.specs.Network.{Weights}
 use Rattle.forms.specs.Words.{lineFeed, text}

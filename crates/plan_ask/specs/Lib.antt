@@ -1,4 +1,5 @@
 pub mod Questions
 pub mod Asking
 pub mod AskingLaws
+pub mod ListedLaws
 pub mod SolvableLaws

@@ -4,13 +4,10 @@ use mathlib.Core.Path.{_≡_, refl, sym, ap, subst}
 use mathlib.Core.Bool.{Bool}
 use mathlib.Core.List.{List}
 use Prim.Native.Nat.{ℕ}
-use lib.Dec.{T}
 use lib.IntN.{ℤ}
 use Rattle.questions.specs.Questions.{Verdict, no, allYes}
 use Rattle.sheet.specs.Lists.{WrittenLists, givenBy}
 use Rattle.plan_ask.specs.Questions.{refusalBy}
-use Rattle.plan_ask.specs.Asking.{Listed}
-use Rattle.plan_ask.specs.SolvableLaws.{yes-asked}
 use Rattle.plan_steps.specs.Closing.{passed}
 use Rattle.plan_solve.specs.Planning.{Conclusion, byPass, concluding, conclusionBy, SettledBy}
 use Rattle.plan_solve.specs.Reply as says
@@ -20,9 +17,6 @@ module _ (l : WrittenLists) (rooms : Bool) where
   pub concludes : (v : Verdict) → refusalBy l rooms ≡ v → conclusionBy l rooms ≡ concluding v (passed (givenBy l))
   unfolding conclusionBy
   concludes v e = ap (λ (x : Verdict). concluding x (passed (givenBy l))) e
-
-  pub concludes-solvable : Listed l → T rooms → conclusionBy l rooms ≡ byPass (passed (givenBy l))
-  concludes-solvable y fit = concludes allYes (yes-asked l rooms y fit)
 
   -- and whatever it leaves in them
   module _ {R : Type 0} (planned : List ℤ → R → R) (None : R → says.Reply → R → Type 0) (before : R) where

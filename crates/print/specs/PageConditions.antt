@@ -17,7 +17,7 @@ use Rattle.sheet.specs.Sheet.{Sheet, boundaries, lawful, printedPlan}
 use Rattle.sheet.specs.Lists.{WrittenLists, givenBy}
 use Rattle.plan_rooms.specs.Rooms.{Rooms, planLent, roomsFit}
 use Rattle.plan_ask.specs.Questions.{refusal}
-use Rattle.plan_ask.specs.AskingLaws.{lists-read, units-length}
+use Rattle.plan_ask.specs.ListedLaws.{as-many-units}
 use Rattle.plan_ask.specs.Asking.{Listed}
 use Rattle.plan_ask.specs.SolvableLaws.{asked-lists}
 use Rattle.plan_solve.specs.Planning.{conclusion, Settled}
@@ -72,7 +72,7 @@ module _ (l : WrittenLists) (before : Rooms) (page : List ℕ) (at : ℕ) (reply
   passes = asked-lists l (roomsFit s (planLent before))
 
   as-many : refusal l before ≡ allYes → length ks ≡ n
-  as-many y = passes y .as-many ∙ sym (units-length (l .constraints) (lists-read (l .constraints) (passes y .lists)))
+  as-many y = as-many-units l (passes y)
 
   way : Way
   unfolding planBytes ringBytes

@@ -6,11 +6,11 @@ use mathlib.Core.Path.{_≡_, refl, sym, ap, ap₂, _∙_, subst}
 use mathlib.Core.List.{List, [], _∷_, _++_, map, append-assoc, append-nil}
 use Prim.Native.Nat.{ℕ, suc, _+_, _-_, _/_, _%_, _≤_, _<_}
 use native.Mathlib.Omega.{arith}
-use native.Mathlib.Nat.{add-zero, add-suc, suc-add}
 use native.Mathlib.Numerals.{add-one}
 use lib.ListN.{length, set, take, drop, replicate, length-append, length-set, length-replicate}
 use lib.Seq.{sets, length-sets, sets-eq, length-take-le, take-at, drop-at}
 use Rattle.lists.specs.Lists.{run, joined}
+use Rattle.lists.specs.Slices.{sets-append}
 use Rattle.forms.specs.Form.{Piece, word, number, written}
 use Rattle.forms.specs.Decimal.{digits, formLine}
 use Rattle.forms.specs.DecimalLaws.{digits-last, line-short}
@@ -19,12 +19,6 @@ use Rattle.forms.specs.Words.{lineFeed, text}
 use Rattle.print_bytes.specs.Writing.{withBytes, Room, Written, refusedLine, maxRefusal}
 
 -- ---- writing one thing after another
-sets-append : (page : List ℕ) (at : ℕ) (xs ys : List ℕ) → sets (sets page at xs) (at + length xs) ys ≡ sets page at (xs ++ ys)
-sets-append page at [] ys = ap (λ k. sets page k ys) (add-zero at)
-sets-append page at (x ∷ xs) ys =
-    ap (λ k. sets (sets page at (x ∷ xs)) k ys) (add-suc at (length xs) ∙ sym (suc-add at (length xs)))
-    ∙ sets-append _ (suc at) xs ys
-
 pub bytes-set : (page : List ℕ) (at : ℕ) (bytes : List ℕ) → Room page at bytes → withBytes page at bytes ≡ sets page at bytes
 unfolding withBytes
 bytes-set page at bytes h = sym (sets-eq bytes page at (h .fits))
@@ -55,7 +49,7 @@ module _ {page₀ : List ℕ} {at₀ : ℕ} {whole page : List ℕ} {at : ℕ} w
   pending-after {piece} {rest} {page′} {at′} l w =
       let e : page′ ≡ sets page at piece = w .filled ∙ bytes-set page at piece (pending-room l) in
       record {
-        same = ap₂ (λ p k. sets p k (joined rest)) e (w .moved) ∙ sets-append page at piece (joined rest) ∙ l .same;
+        same = ap₂ (λ p k. sets p k (joined rest)) e (w .moved) ∙ sym (sets-append piece (joined rest) page at) ∙ l .same;
         place = omega (arith, l .place, w .moved, length-append piece (joined rest));
         kept = ap length e ∙ length-sets page at piece ∙ l .kept;
         fits = l .fits;

@@ -1,7 +1,7 @@
 -- Reading a number digit by digit.
 -- Key idea: before a line feed every digit has a byte behind it (`more-follows`), so the digits from a place on are known one by one up to the first byte
 -- that is none. A number of up to four such digits without a needless zero is plain (`few-read`), and every other is not (`zero-read`, `long-read`).
-use Prim.Native.Nat.{ℕ, suc, _+_, _-_, _≤_, _<_}
+use Prim.Native.Nat.{ℕ, suc, _+_, _≤_, _<_}
 use mathlib.Core.Path.{_≡_, refl, sym, ap, subst, _∙_}
 use mathlib.Core.Bool.{Bool, true, false, _&&_, _||_, not, cond, and-false}
 use mathlib.Core.List.{List, [], _∷_, _++_, append-nil, append-assoc}
@@ -10,7 +10,7 @@ use native.Mathlib.Decide.{decLe}
 use native.Mathlib.Numerals.{add-one}
 use lib.ListN.{length, getD, drop, drop-of-length-le}
 use lib.Seq.{drop-cons}
-use lib.Dec.{eqb, leb, T}
+use lib.Dec.{eqb, leb}
 use borrow.Author.Tests.{ne-eqb, le-leb, lt-leb, leb-true}
 use Rattle.lists.specs.Members.{and-left, and-right, false-not-true}
 use Rattle.forms.specs.Words.{lineFeed}

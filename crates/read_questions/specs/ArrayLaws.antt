@@ -1,12 +1,13 @@
 -- The seven arrays that keep a sheet's numbers: what stands at their fronts, and that they keep their lengths.
 -- Key idea: each array is numbers of units, or of rules, set one after the other from its front on; what holds of one such column holds of all seven.
-use Prim.Native.Nat.{ℕ, suc, _+_, _≤_}
+use Prim.Native.Nat.{ℕ, _≤_}
 use mathlib.Core.Path.{_≡_, refl, sym, ap, _∙_}
-use mathlib.Core.List.{List, [], _∷_, _++_, map, map-append}
+use mathlib.Core.List.{List, _++_, map, map-append}
 use native.Mathlib.Omega.{arith}
-use native.Mathlib.Nat.{zero-add, add-zero}
-use lib.ListN.{length, take, set, length-map}
+use native.Mathlib.Nat.{zero-add}
+use lib.ListN.{length, take, length-map}
 use lib.Seq.{sets, sets-eq, length-sets, take-at}
+use Rattle.lists.specs.Slices.{sets-append}
 use Rattle.sheet.specs.Sheet.{SheetUnit, Rule}
 use Rattle.read_questions.specs.Reading.{ListRooms, rooms}
 use Rattle.read_questions.specs.Steps.{Holds, columns, setAt}
@@ -23,13 +24,6 @@ pub column-front : {A : Type 0} (f : A → ℕ) (array : List ℕ) (xs : List A)
 column-front f array xs n e h =
     let l = length-map xs f in
     ap (take n) (sets-eq (map f xs) array 0 (omega arith)) ∙ take-at (map f xs) _ n (l ∙ sym e)
-
--- numbers set one after the other go on where the first of them end
-sets-append : (xs ys array : List ℕ) (i : ℕ) → sets array i (xs ++ ys) ≡ sets (sets array i xs) (i + length xs) ys
-sets-append [] ys array i = ap (λ (k : ℕ). sets array k ys) (sym (add-zero i))
-sets-append (x ∷ xs) ys array i =
-    let e : suc i + length xs ≡ i + suc (length xs) = omega arith in
-    sets-append xs ys (set array i x) (suc i) ∙ ap (λ (k : ℕ). sets (sets (set array i x) (suc i) xs) k ys) e
 
 -- a number of each unit or rule at the front of an array, and then those of more past them
 column-more : {A : Type 0} (f : A → ℕ) (array : List ℕ) (old new : List A) (at : ℕ) → at ≡ length old

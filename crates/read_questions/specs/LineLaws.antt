@@ -11,14 +11,14 @@ use lib.ListN.{length, length-append}
 use lib.Dec.{eqb, leb, ltb}
 use borrow.Author.Tests.{ne-eqb, le-leb, leb-true, ltb-true}
 use Rattle.lists.specs.Lists.{every}
-use Rattle.questions.specs.Questions.{Question, ask, Verdict, no, firstNo}
+use Rattle.questions.specs.Questions.{Question, Verdict, no, firstNo}
 use Rattle.sheet.specs.Sizes.{maxSlots, maxUnits, maxRules}
 use Rattle.sheet.specs.Questions.{isSpan, rising, isStretch, isCount, isNew}
 use Rattle.sheet.specs.declared.Sheet.{Sheet}
 use Rattle.forms.specs.declared.House.{House}
 use Rattle.forms.specs.Form.{printable, plain}
 use Rattle.lists.specs.Members.{and-left}
-use Rattle.forms.specs.Lines.{TextLine, lines}
+use Rattle.forms.specs.Lines.{TextLine}
 use Rattle.read_line.specs.Content.{Content, note, sheet, unit, rule, other, contentOf, bracketsMatch, numbersIn}
 use Rattle.read_line.specs.Line.{valuesOf, said, lineOf}
 use Rattle.read_line.specs.declared.Line.{Line}

@@ -1,6 +1,6 @@
 -- The laws that a unit's step rests on.
 -- Key idea: a unit puts its loader number in front of its chain; and a span that holds a window is not 0, so that 5 need be asked only where 7 fails.
-use Prim.Native.Nat.{ℕ, suc, _+_, _%_, _≤_, _<_}
+use Prim.Native.Nat.{ℕ, _+_, _%_, _<_}
 use mathlib.Core.Path.{_≡_, refl, _∙_}
 use mathlib.Core.Bool.{Bool, true, false, not, cond}
 use mathlib.Core.List.{List}

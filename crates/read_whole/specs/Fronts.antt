@@ -1,9 +1,10 @@
 -- The sheet at the front of the lists that reading was lent, and what a call that goes on with it is to know of it. Definitions only.
-use Prim.Native.Nat.{ℕ, _≤_}
+use Prim.Native.Nat.{ℕ}
 use mathlib.Core.List.{List}
-use lib.ListN.{length, take}
+use lib.ListN.{take}
 use Rattle.sheet.specs.declared.Sheet.{Sheet}
 use Rattle.read_questions.specs.Reading.{ListRooms}
+use Rattle.read_questions.specs.Steps.{Holds}
 use Rattle.sheet.specs.Lists.{WrittenLists, writtenLists}
 use Rattle.plan_ask.specs.Asking.{Listed}
 
@@ -15,11 +16,5 @@ fronts s m =
 
 -- the lists hold a sheet that planning accepts
 pub record Held (s : Sheet) (m : ListRooms (List ℕ)) : Type 0 where
-  pub in-loader : s .units ≤ length (m .loader)
-  pub in-first : s .units ≤ length (m .first)
-  pub in-last : s .units ≤ length (m .last)
-  pub in-from : s .rules ≤ length (m .from)
-  pub in-to : s .rules ≤ length (m .to)
-  pub in-low : s .rules ≤ length (m .low)
-  pub in-high : s .rules ≤ length (m .high)
+  pub long : Holds (s .units) (s .rules) m
   pub passes : Listed (fronts s m)

@@ -106,12 +106,14 @@ module _ (w : WrittenSheet) (t : Read) (span : t .span ≡ w .span) (units : t .
 
   pub held : T (accepted (constraints w)) → T (loadersFit (loaders w)) → Held t left
   held ok fit = record {
-    in-loader = front-fits (λ u. u .loader) (w .units) (t .units) units (m .loader);
-    in-first = front-fits (λ v. v .first) (constraints w .units) (t .units) windows (m .first);
-    in-last = front-fits (λ v. v .last) (constraints w .units) (t .units) windows (m .last);
-    in-from = front-fits (λ r. r .from) (w .rules) (t .rules) rules (m .from);
-    in-to = front-fits (λ r. r .to) (w .rules) (t .rules) rules (m .to);
-    in-low = front-fits (λ r. r .low) (w .rules) (t .rules) rules (m .low);
-    in-high = front-fits (λ r. r .high) (w .rules) (t .rules) rules (m .high);
+    long = record {
+      in-loader = front-fits (λ u. u .loader) (w .units) (t .units) units (m .loader);
+      in-first = front-fits (λ v. v .first) (constraints w .units) (t .units) windows (m .first);
+      in-last = front-fits (λ v. v .last) (constraints w .units) (t .units) windows (m .last);
+      in-from = front-fits (λ r. r .from) (w .rules) (t .rules) rules (m .from);
+      in-to = front-fits (λ r. r .to) (w .rules) (t .rules) rules (m .to);
+      in-low = front-fits (λ r. r .low) (w .rules) (t .rules) rules (m .low);
+      in-high = front-fits (λ r. r .high) (w .rules) (t .rules) rules (m .high);
+    };
     passes = subst Listed (sym fronts-are) (passes-back w ok fit);
   }

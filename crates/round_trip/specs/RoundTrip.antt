@@ -25,7 +25,7 @@ use Rattle.forms.specs.Lines.{TextLine, textLine, lines}
 use Rattle.forms.specs.declared.House.{House}
 use Rattle.forms.specs.declared.House.the-variants.{Ours, Partner}
 use Rattle.plan_ask.specs.Asking.{Listed}
-use Rattle.plan_ask.specs.AskingLaws.{lists-read, units-length}
+use Rattle.plan_ask.specs.ListedLaws.{listed-agree, as-many-units, written-accepted, written-new}
 use Rattle.plan_ask.specs.Questions.{listQuestions}
 use Rattle.plan_ask.specs.SolvableLaws.{lists-yes}
 use Rattle.sheet_texts.specs.SheetText.{unitNumbers, ruleNumbers, spanText, unitText, ruleText, unitTexts, ruleTexts, sheetText}
@@ -177,13 +177,13 @@ module _ (h : House) (l : WrittenLists) (asked : firstNo (outgoing h l true) ≡
   listed = lists-yes l (every-yes (listQuestions l) (yes-front (listQuestions l) (houseQuestions h (givenBy l)) all))
 
   as-many : length (l .loader) ≡ length (givenBy l .units)
-  as-many = listed .as-many ∙ sym (units-length (l .constraints) (lists-read (l .constraints) (listed .lists)))
+  as-many = as-many-units l listed
 
   ok : T (accepted (constraints (writtenBy l)))
-  ok = subst (λ (s : Sheet). T (accepted s)) (sym (written-constraints l as-many)) (listed .sheet)
+  ok = written-accepted l listed
 
   fit : T (loadersFit (loaders (writtenBy l)))
-  fit = subst (λ ks. T (loadersFit ks)) (sym (written-loaders l as-many)) (listed .loaders)
+  fit = written-new l listed
 
   house : AllYes (houseQuestions h (constraints (writtenBy l)))
   house =
@@ -208,7 +208,7 @@ module _ (h : House) (l : WrittenLists) (asked : firstNo (outgoing h l true) ≡
   same-lists m long =
       let back = there-and-back (sizesOf m) long in
       let k = l .constraints in
-      let a = lists-read k (listed .lists) in
+      let a = listed-agree l listed in
       let ws = windows-lists (k .first) (k .last) (a .windows) in
       let rs = rules-lists (k .from) (k .to) (k .low) (k .high) (a .stretches) (a .lows) (a .highs) in
       let units = ap (λ (s : Sheet). s .units) (written-constraints l as-many) in

@@ -1,22 +1,22 @@
 -- The lists of a call whose questions are answered yes: their stretches have ends in order, their text is of its three parts and is no longer than maxText.
 -- Key idea: what an accepted sheet's units and rules are, place by place, is what the lists hold there.
-use mathlib.Core.Path.{_≡_, refl, sym, ap, subst, _∙_}
+use mathlib.Core.Path.{_≡_, refl, ap, subst, _∙_}
 use mathlib.Core.List.{List, [], _∷_, map}
 use Prim.Native.Nat.{ℕ, suc, _+_, _≤_, _<_}
 use native.Mathlib.Omega.{arith}
 use native.Mathlib.Numerals.{add-one}
-use lib.Dec.{T}
 use lib.ListN.{length, getD, drop, drop-of-length-le}
 use lib.Seq.{drop-cons}
 use Rattle.lists.specs.Lists.{joined}
 use Rattle.forms.specs.declared.House.{House}
-use Rattle.sheet.specs.Sheet.{Window, Sheet, constraints, loaders, top}
-use Rattle.sheet.specs.Questions.{windowsOf, rulesOf, sheetOf, accepted, loadersFit}
+use Rattle.sheet.specs.Sheet.{Window, constraints, top}
+use Rattle.sheet.specs.Questions.{windowsOf, rulesOf, sheetOf}
 use Rattle.sheet.specs.QuestionLaws.{Agree, windowsOf-at, rulesOf-length, rulesOf-at, accepted-sized, accepted-valid}
 use Rattle.sheet.specs.Lists.{WrittenLists, givenBy, unitsOf, writtenBy}
-use Rattle.sheet.specs.WrittenLaws.{FitRule, rule-fits, written-constraints, written-loaders}
+use Rattle.sheet.specs.WrittenLaws.{FitRule, rule-fits}
 use Rattle.plan_ask.specs.Asking.{Listed}
-use Rattle.plan_ask.specs.AskingLaws.{lists-read, units-length}
+use Rattle.plan_ask.specs.AskingLaws.{units-length}
+use Rattle.plan_ask.specs.ListedLaws.{listed-agree, written-accepted, written-new}
 use Rattle.sheet_texts.specs.SheetText.{spanText, unitTexts, ruleTexts, sheetText, maxText}
 use Rattle.sheet_texts.specs.SheetTextLaws.{text-short}
 use Rattle.print_bytes.specs.Writing.{Written}
@@ -39,19 +39,16 @@ module _ {A : Type 0} (f : A → List ℕ) (d : A) (xs : List A) {page₀ : List
 -- ---- the lists of a call
 
 module _ (l : WrittenLists) (y : Listed l) where
-  pub listed-agree : let k = l .constraints in Agree (k .first) (k .last) (k .from) (k .to) (k .low) (k .high)
-  listed-agree = lists-read (l .constraints) (y .lists)
-
-  as-many : length (l .loader) ≡ length (givenBy l .units)
-  as-many = y .as-many ∙ sym (units-length (l .constraints) listed-agree)
+  agree : let k = l .constraints in Agree (k .first) (k .last) (k .from) (k .to) (k .low) (k .high)
+  agree = listed-agree l y
 
   pub listed-units : Stretches (l .constraints .first) (l .constraints .last)
   unfolding sheetOf top
   listed-units = let k = l .constraints in record {
-    paired = listed-agree .windows;
+    paired = agree .windows;
     each = λ j h.
-        let e = accepted-valid (givenBy l) (y .sheet) .windows j (omega (arith, units-length k listed-agree)) in
-        let at = windowsOf-at (k .first) (k .last) (listed-agree .windows) j h in
+        let e = accepted-valid (givenBy l) (y .sheet) .windows j (omega (arith, units-length k agree)) in
+        let at = windowsOf-at (k .first) (k .last) (agree .windows) j h in
         record {
           ordered = subst (λ (w : Window). w .first ≤ w .last) at (e .1);
           most = omega (arith, subst (λ (w : Window). w .last ≤ top (givenBy l)) at (e .2), accepted-sized (givenBy l) (y .sheet) .slots .1);
@@ -60,7 +57,7 @@ module _ (l : WrittenLists) (y : Listed l) where
 
   pub listed-rules : Stretches (l .constraints .from) (l .constraints .to)
   unfolding sheetOf
-  listed-rules = let k = l .constraints in let a = listed-agree in record {
+  listed-rules = let k = l .constraints in let a = agree in record {
     paired = a .stretches;
     each = λ j h.
         let n = rulesOf-length (k .from) (k .to) (k .low) (k .high) (a .stretches) (a .lows) (a .highs) in
@@ -70,9 +67,7 @@ module _ (l : WrittenLists) (y : Listed l) where
   }
 
   pub listed-short : (h : House) → length (sheetText h (writtenBy l)) ≤ maxText
-  listed-short h =
-      text-short h (writtenBy l) (subst (λ (s : Sheet). T (accepted s)) (sym (written-constraints l as-many)) (y .sheet))
-      (subst (λ ks. T (loadersFit ks)) (sym (written-loaders l as-many)) (y .loaders))
+  listed-short h = text-short h (writtenBy l) (written-accepted l y) (written-new l y)
 
 pub text-parts : (h : House) (l : WrittenLists) → let k = l .constraints in
     sheetText h (writtenBy l) ≡ joined (spanText h (k .span) ∷ unitTexts h (unitsOf (l .loader) (windowsOf (k .first) (k .last)))

@@ -9,11 +9,11 @@ abbrev start : tie.After-shared-slice-known7 → tie.Start
 start c = c .before .before .before .before .before .before .before
 
 pub convert-fronts-spec : {M : Type 1} → statement M
-convert-fronts-spec = tie.close (tie.spec (λ c. sym (length-take-le _ _ (start (c .before) .pre .in-loader)))
-    (λ c. sym (length-take-le _ _ (start (c .before .before) .pre .in-first)))
-    (λ c. sym (length-take-le _ _ (start (c .before .before .before) .pre .in-last)))
-    (λ c. sym (length-take-le _ _ (start (c .before .before .before .before) .pre .in-from)))
-    (λ c. sym (length-take-le _ _ (start (c .before .before .before .before .before) .pre .in-to)))
-    (λ c. sym (length-take-le _ _ (start (c .before .before .before .before .before .before) .pre .in-low)))
-    (λ c. sym (length-take-le _ _ (start (c .before .before .before .before .before .before .before) .pre .in-high)))
+convert-fronts-spec = tie.close (tie.spec (λ c. sym (length-take-le _ _ (start (c .before) .pre .long .in-loader)))
+    (λ c. sym (length-take-le _ _ (start (c .before .before) .pre .long .in-first)))
+    (λ c. sym (length-take-le _ _ (start (c .before .before .before) .pre .long .in-last)))
+    (λ c. sym (length-take-le _ _ (start (c .before .before .before .before) .pre .long .in-from)))
+    (λ c. sym (length-take-le _ _ (start (c .before .before .before .before .before) .pre .long .in-to)))
+    (λ c. sym (length-take-le _ _ (start (c .before .before .before .before .before .before) .pre .long .in-low)))
+    (λ c. sym (length-take-le _ _ (start (c .before .before .before .before .before .before .before) .pre .long .in-high)))
     (λ c κs. start (c .before .before .before .before .before .before .before .before) .pre .passes) (λ c. c .convert-sheet .ensures))

@@ -12,7 +12,6 @@ use Rattle.read_questions.specs.Steps.{Holds, passReply, Kept, KeptNumbers}
 use Rattle.read.specs.Rooms.{sizesOf}
 use Rattle.read_questions.specs.declared.Reading.{Reading}
 use Rattle.read.proofs.ReadingLaws.{answer-long, answer-no, answer-rooms, answer-read, rooms-kept, rooms-hold, arrays-hold, rooms-filled}
-use borrow.Author.Needs.{needs}
 use Rattle.read.proofs.read.Statement.{statement}
 use Rattle.read.proofs.read.Tie as tie
 

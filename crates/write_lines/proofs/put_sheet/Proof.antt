@@ -6,9 +6,10 @@ use denote.Ref.{now}
 use Rattle.sheet.specs.Questions.{windowsOf, rulesOf}
 use Rattle.sheet.specs.Lists.{WrittenLists, writtenLists, unitsOf, writtenBy}
 use Rattle.plan_ask.specs.AskingLaws.{span-bound}
+use Rattle.plan_ask.specs.ListedLaws.{listed-agree}
 use Rattle.sheet_texts.specs.SheetText.{spanText, unitTexts, ruleTexts, sheetText}
 use Rattle.print_bytes.specs.WritingLaws.{Pending, pending-whole, pending-room, pending-after, pending-nothing}
-use Rattle.write_lines.specs.LinesLaws.{listed-agree, listed-units, listed-rules, text-parts}
+use Rattle.write_lines.specs.LinesLaws.{listed-units, listed-rules, text-parts}
 use Rattle.write_lines.proofs.put_sheet.Statement.{statement}
 use Rattle.write_lines.proofs.put_sheet.Tie as tie
 
