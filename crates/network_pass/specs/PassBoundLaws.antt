@@ -3,7 +3,7 @@
 -- minus the entry back. Where b is not done, the last step into b came from a boundary below it and went forward, so it cost at least 0: the entry is
 -- a weight itself, or no less than an entry into a boundary that is done.
 use mathlib.Core.Path.{_≡_, refl, ap, _∙_, subst}
-use mathlib.Core.Logic.{inl, inr, ⊎-elim}
+use mathlib.Core.Logic.{_⊎_, inl, inr, ⊎-elim}
 use mathlib.Core.List.{List}
 use Prim.Native.Nat.{ℕ, suc, _+_, _-_, _≤_, _<_}
 use native.Mathlib.Omega.{arith}

@@ -1,14 +1,15 @@
 -- The questions as the code asks them are the questions of docs/RULES.md.
 -- Key idea: a test of each unit or rule that looks at two numbers of it is a test of two lists, place by place.
-use mathlib.Core.Path.{_≡_, refl, ap, ap₂}
+use mathlib.Core.Path.{_≡_, refl, sym, ap, ap₂, subst}
 use mathlib.Core.Bool.{Bool, _&&_}
 use mathlib.Core.List.{List, [], _∷_}
 use Prim.Native.Nat.{ℕ, _≤_}
 use native.Mathlib.Omega.{arith}
 use lib.Dec.{T, leb, eqb, eqb→eq}
 use lib.ListN.{length}
+use borrow.Author.Tests.{eq-eqb}
 use Rattle.lists.specs.Lists.{every}
-use Rattle.lists.specs.Members.{left, right}
+use Rattle.lists.specs.Members.{both, left, right}
 use Rattle.sheet.specs.Sizes.{maxSlots, maxUnits, maxRules, maxCount, carriedPlace, boundariesOf}
 use Rattle.sheet.specs.Sheet.{Window, top}
 use Rattle.sheet.specs.Questions.{windowsOf, rulesOf, sheetOf, isSpan, rising, spanFits, unitsFit, rulesFit, windowsFit, stretchesFit, countsFit, accepted}
@@ -53,6 +54,9 @@ module _ (l : WrittenLists) where
   all-agree-read h =
       let others = agree (l .constraints) in
       (eqb→eq (length (l .loader)) (length (l .constraints .first)) (left as-many others h), right as-many others h)
+
+  pub read-all-agree : length (l .loader) ≡ length (l .constraints .first) → T (agree (l .constraints)) → T (allAgree l)
+  read-all-agree e = both as-many (agree (l .constraints)) (subst T (sym (eq-eqb (length (l .loader)) (length (l .constraints .first)) e)) tt)
 
 module _ (l : Lists) where
   pub lists-read : T (agree l) → Agree (l .first) (l .last) (l .from) (l .to) (l .low) (l .high)

@@ -1,9 +1,10 @@
--- A call that is not refused has lists that make an accepted sheet, loader numbers that fit and rooms that are long enough, whatever rooms it asks for.
--- Key idea: where no question is the first no every answer is yes; and the lists' verdict goes on to that of the rooms.
+-- A call is not refused exactly when its lists make a sheet that is accepted, its loader numbers fit and its rooms are long enough, whatever rooms it asks for.
+-- Key idea: no question is the first no exactly when every answer is yes; and the lists' verdict goes on to that of the rooms.
 use mathlib.Core.Path.{_≡_, sym, ap, _∙_}
-use mathlib.Core.Bool.{Bool, cond}
+use mathlib.Core.Bool.{Bool, true, cond}
 use mathlib.Core.List.{List, [], _∷_, _++_}
-use Rattle.lists.specs.Members.{left, right, every-both}
+use lib.Dec.{T}
+use Rattle.lists.specs.Members.{both, left, right, every-both}
 use Rattle.questions.specs.Questions.{Question, ask, Verdict, no, allYes, firstNo, andThen, AllYes}
 use Rattle.questions.specs.FirstNoLaws.{first-then, yes-every, every-yes, yes-front, yes-back, yes-at}
 use Rattle.sheet.specs.Sheet.{Sheet}
@@ -11,7 +12,7 @@ use Rattle.sheet.specs.Questions.{loadersFit, slotQuestions, countQuestions, ac
 use Rattle.sheet.specs.Lists.{WrittenLists, givenBy, allAgree}
 use Rattle.plan_ask.specs.Questions.{listQuestions, questions, refusalBy, refusalIn}
 use Rattle.plan_ask.specs.Asking.{Listed, Solvable}
-use Rattle.plan_ask.specs.AskingLaws.{all-agree-read}
+use Rattle.plan_ask.specs.AskingLaws.{all-agree-read, read-all-agree}
 use Rattle.plan_rooms.specs.declared.Lengths.{Lengths}
 
 module _ (l : WrittenLists) where
@@ -36,6 +37,13 @@ module _ (l : WrittenLists) where
         loaders = left (loadersFit (l .loader)) _ rest;
       }
 
+  yes-lists : Listed l → AllYes (listQuestions l)
+  unfolding accepted
+  yes-lists y =
+      both (allAgree l) _ (read-all-agree l (y .as-many) (y .lists))
+      (every-both (λ q. q .yes) (slotQuestions s) (new ∷ countQuestions s) (yes-front (slotQuestions s) (countQuestions s) (y .sheet))
+      (both (loadersFit (l .loader)) _ (y .loaders) (yes-back (slotQuestions s) (countQuestions s) (y .sheet))))
+
   module _ (rooms : Bool) where
     abbrev last : List Question
     last = ask 12 0 rooms ∷ []
@@ -54,6 +62,10 @@ module _ (l : WrittenLists) where
     asked-yes e =
         let y = asked-lists e in
         record { lists = y .lists; sheet = y .sheet; rooms = yes-at last (yes-back (listQuestions l) last (yes-every (questions l rooms) e)) 0 tt }
+
+    pub yes-asked : Listed l → T rooms → refusalBy l rooms ≡ allYes
+    unfolding refusalBy
+    yes-asked y fit = every-yes (questions l rooms) (every-both (λ q. q .yes) (listQuestions l) last (yes-lists y) (both rooms true fit tt))
 
 -- the questions' verdict, asked of these lengths, is that of the rooms whose lengths they are
 pub asked-of : (l : WrittenLists) (asked rooms : Lengths) (told v : Verdict) → told ≡ refusalIn l asked → asked ≡ rooms → told ≡ v → refusalIn l rooms ≡ v

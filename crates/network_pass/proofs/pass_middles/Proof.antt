@@ -1,7 +1,7 @@
 -- Where the middles do not all finish, the half-done table is cleared, and past the table the loops changed nothing.
 use Prim.Native.Nat.{ℕ, _-_}
 use native.Mathlib.Omega.{arith}
-use mathlib.Core.Path.{subst}
+use mathlib.Core.Path.{_≡_, subst}
 use Rattle.network_pass.specs.Pass.{passFrom, Ran}
 use Rattle.network_pass.proofs.PassSteps.{after-finished, after-cleared}
 use borrow.Author.Needs.{needs}

@@ -1,7 +1,7 @@
 -- The measure is twice the bytes that are left, and one more for the list reader, which calls the item reader at its own place.
 -- The list reader's invariant: what stands past the list is the same, read from here on as from its start. An item that was read leads further on
 -- (`item-went`).
-use Prim.Native.Nat.{ℕ, _+_, _-_, _*_, _≤_}
+use Prim.Native.Nat.{ℕ, _+_, _-_, _*_, _≤_, _<_}
 use mathlib.Core.Path.{_≡_, refl, sym, ap, _∙_}
 use native.Mathlib.Omega.{arith}
 use lib.ListN.{length, drop}
