@@ -1,5 +1,5 @@
 -- How many of the places below n pass a test, and the laws that make a count behave as the size of a set.
-use mathlib.Core.Path.{_≡_, refl, sym, subst}
+use mathlib.Core.Path.{_≡_, refl, sym, ap, _∙_, subst}
 use mathlib.Core.Logic.{_⊎_, ⊎-elim, _≢_}
 use mathlib.Core.Bool.{Bool, true, false}
 use mathlib.Core.List.{List, [], _∷_}
@@ -9,7 +9,7 @@ use native.Mathlib.Nat.{eq-or-lt-of-le, le-of-suc-le-suc}
 use native.Mathlib.Decide.{ℕ-discrete}
 use lib.Dec.{T}
 use lib.ListN.{length, getD}
-use Rattle.lists.specs.Lists.{oneIf, howMany}
+use Rattle.lists.specs.Lists.{run, oneIf, howMany}
 
 unfoldable pub count : ℕ → (ℕ → Bool) → ℕ
 count zero t = 0
@@ -114,6 +114,15 @@ pub howMany-count : {A : Type 0} (t : A → Bool) (d : A) (xs : List A) → howM
 unfolding count
 howMany-count t d [] = refl
 howMany-count t d (x ∷ xs) = omega (arith, howMany-count t d xs, count-front (length xs) (λ j. t (getD (x ∷ xs) j d)))
+
+-- a count of numbers from a on, by a test that is the same place by place
+pub run-count : (t u : ℕ → Bool) (a k : ℕ) → ((j : ℕ) → j < k → t (a + j) ≡ u j) → howMany t (run a k) ≡ count k u
+unfolding count
+run-count t u a zero f = refl
+run-count t u a (suc k) f =
+    let first : a ≡ a + 0 = omega arith in
+    let rest = run-count t (λ j. u (suc j)) (suc a) k (λ j h. let e : suc a + j ≡ a + suc j = omega arith in ap t e ∙ f (suc j) (omega arith)) in
+    omega (arith, ap oneIf (ap t first ∙ f 0 (omega arith)), rest, count-front k u)
 
 -- no more are counted than there are
 pub howMany-most : {A : Type 0} (t : A → Bool) (xs : List A) → howMany t xs ≤ length xs

@@ -49,9 +49,13 @@ pub greatest-in : (x : ℕ) (xs : List ℕ) → In x xs → In (greatest xs) xs
 greatest-in x [] h = absurd (List·Memᴰ·not-nil h)
 greatest-in x (y ∷ ys) h = ⊎-elim (λ e. List·Memᴰ·head e) (λ m. List·Memᴰ·tail m) (largest-in y ys)
 
+pub greatest-below : (g : ℕ) (xs : List ℕ) → ((x : ℕ) → In x xs → x ≤ g) → greatest xs ≤ g
+greatest-below g [] f = omega arith
+greatest-below g (y ∷ ys) f = f (greatest (y ∷ ys)) (greatest-in y (y ∷ ys) (List·Memᴰ·head refl))
+
 -- the number that is attained and bounds all is the greatest
 pub greatest-is : (g : ℕ) (xs : List ℕ) → In g xs → ((x : ℕ) → In x xs → x ≤ g) → greatest xs ≡ g
-greatest-is g xs h f = omega (arith, greatest-ge g xs h, f (greatest xs) (greatest-in g xs h))
+greatest-is g xs h f = omega (arith, greatest-ge g xs h, greatest-below g xs f)
 
 pub least-le : (x : ℕ) (xs : List ℕ) → In x xs → least xs ≤ x
 least-le x [] h = absurd (List·Memᴰ·not-nil h)

@@ -22,8 +22,8 @@ use Rattle.sheet.specs.Sheet.{Sheet, Rule, top, noWindow, countIn, inWindows, o
 use Rattle.sheet.specs.PlanLaws.{seated-inWindows}
 use Rattle.sheet.specs.LimitLaws.{countIn-split, limit-fwd, limit-back, atMost-rule, atLeast-rule, atMost-n, atLeast-windows}
 use Rattle.sheet.specs.PotentialLaws.{Valid}
-use Rattle.plans.specs.Seating.{at, inside, seatedBy, Problem, Complete, seatsOf}
-use Rattle.plans.specs.SeatingLaws.{seats-size, seats-complete}
+use Rattle.plans.specs.Seating.{at, inside, seatedBy, Problem, Complete, seatsOf, looksOf}
+use Rattle.plans.specs.SeatingLaws.{PlacedBy, lastPlaces, seats-size, seats-complete, looks-are}
 use Rattle.plans.specs.FairLaws.{firsts, lasts, fair-make}
 
 -- first and last are the sheet's windows, and c counts how far the potential has risen since boundary 0
@@ -167,6 +167,12 @@ module _ (s : Sheet) (ok : Valid s) (z : Potential) (f : Feasible (top s) (limit
   pub seats-count : (b : ℕ) → b ≤ top s → countIn 1 b (seatsOf (length (s .units)) (top s) first last c) ≡ c b
   unfolding n plan
   seats-count = by-end
+
+  -- each slot is looked for as far as its last unit, by places that are those of the order
+  pub seats-looked : (place : ℕ → ℕ) → PlacedBy (length (s .units)) last place
+      → looksOf (length (s .units)) (top s) first last c ≡ lastPlaces place (length (s .units)) (top s) (seatsOf (length (s .units)) (top s) first last c)
+  unfolding n
+  seats-looked = looks-are n (top s) first last c problem
 
 -- a lawful and fair plan whose count in each stretch is the potential's rise
 pub feasible-lawful : (s : Sheet) → Valid s → (z : Potential) → Feasible (top s) (limit s) z

@@ -6,4 +6,5 @@ pub mod FairLaws
 pub mod FeasibleLaws
 pub mod CountLaws
 pub mod PrintedLaws
+pub mod LookedLaws
 pub mod DistinctLaws

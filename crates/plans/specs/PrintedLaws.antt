@@ -105,7 +105,7 @@ module _ (s : Sheet) (D : Weights) (S : Solved s D) where
   -- the plan seated from row 0
   module _ (first last c : ℕ → ℕ) (opens : (j : ℕ) → j < length (s .units) → first j ≡ firsts s j)
       (closes : (j : ℕ) → j < length (s .units) → last j ≡ lasts s j) (row : (b : ℕ) → b ≤ top s → c b ≡ up (D 0 b)) where
-    rises : Rises s (D 0) first last c
+    pub rises : Rises s (D 0) first last c
     rises = record {
       opens = opens;
       closes = closes;

@@ -4,7 +4,7 @@
 use mathlib.Core.Path.{_≡_}
 use mathlib.Core.Bool.{Bool, _&&_, _||_, cond}
 use mathlib.Core.List.{List, [], _∷_}
-use Prim.Native.Nat.{ℕ, zero, suc, _-_, _≤_, _<_}
+use Prim.Native.Nat.{ℕ, zero, suc, _+_, _-_, _≤_, _<_}
 use lib.Dec.{ltb, leb, eqb}
 use lib.ListN.{length, getD, set, replicate}
 use Rattle.lists.specs.Counts.{count}
@@ -63,6 +63,27 @@ seatSlots first z order b (suc m) plan =
 -- the whole plan: the units in order, and every slot up to the top boundary
 unfoldable pub seatsOf : ℕ → Boundary → (ℕ → Slot) → (ℕ → Slot) → (Boundary → ℕ) → List Slot
 seatsOf n top first last z = seatSlots first z (byRank last n n (replicate n 0)) 0 top (replicate n 0)
+
+-- ---- how many units it looks at
+
+-- slot s, until it has its k units: it passes those that are seated or not open
+unfoldable pub looks : (ℕ → Slot) → Slot → List ℕ → ℕ → List Slot → ℕ
+looks first s [] k plan = 0
+looks first s (u ∷ us) zero plan = 0
+looks first s (u ∷ us) (suc k) plan =
+    suc (cond (freeOpen (at plan) first s u) (looks first s us k (set plan u s)) (looks first s us (suc k) plan))
+
+-- the m slots after boundary b, each from the front of the order
+unfoldable pub looksSlots : (ℕ → Slot) → (Boundary → ℕ) → List ℕ → Boundary → ℕ → List Slot → ℕ
+looksSlots first z order b zero plan = 0
+looksSlots first z order b (suc m) plan =
+    let s = slotAfter b in
+    let k = z (slotEnd s) - z b in
+    looks first s order k plan + looksSlots first z order (slotEnd s) m (seatSlot first s order k plan)
+
+-- all slots
+unfoldable pub looksOf : ℕ → Boundary → (ℕ → Slot) → (ℕ → Slot) → (Boundary → ℕ) → ℕ
+looksOf n top first last z = looksSlots first z (byRank last n n (replicate n 0)) 0 top (replicate n 0)
 
 -- ---- when it succeeds
 

@@ -2,10 +2,10 @@
 -- Key idea: while slot s is filled and k units have seats, the free units that close by slot b number at most z b - k, for every b. A seat for the unit that
 -- closes first keeps this: if it closes by b, one free unit fewer does; if it closes after b, every open unit that closes by b is seated already, and the
 -- others' windows lie inside the slots s+1 to b. At b = s nobody is late. And the windows that open after s leave a free unit open while slot s has seats.
-use mathlib.Core.Path.{_≡_, refl, sym, ap, _∙_, subst}
-use mathlib.Core.Logic.{inl, inr, ⊎-elim, _≢_}
+use mathlib.Core.Path.{_≡_, refl, sym, ap, ap₂, _∙_, subst}
+use mathlib.Core.Logic.{_⊎_, inl, inr, ⊎-elim, _≢_}
 use mathlib.Core.Bool.{Bool, true, false, _&&_, cond}
-use mathlib.Core.List.{List, []}
+use mathlib.Core.List.{List, [], map}
 use Prim.Native.Nat.{ℕ, zero, suc, _+_, _-_, _≤_, _<_}
 use native.Mathlib.Omega.{arith}
 use native.Mathlib.Nat.{eq-or-lt-of-le}
@@ -13,9 +13,12 @@ use native.Mathlib.Decide.{ℕ-discrete, decLe}
 use lib.Dec.{T, ltb, leb, eqb, leb→le, le→leb, ltb→lt, lt→ltb, eqb→eq, eqb-refl}
 use lib.ListN.{length, set, replicate, drop, drop-of-length-le, length-set, length-replicate, getD-replicate}
 use lib.Seq.{getD-set-same, getD-set-other, drop-cons}
-use Rattle.lists.specs.Members.{both, left, right}
+use Rattle.lists.specs.Lists.{run, keep, sumOf, greatest}
+use Rattle.lists.specs.Members.{In, both, left, right, in-map, map-in, in-keep, keep-in, in-run, run-in}
+use Rattle.lists.specs.Extremes.{greatest-ge, greatest-below}
 use Rattle.lists.specs.Counts.{count, count-le, count-or, count-lt, count-suc, count-find, count-none, count-all, count-empty}
-use Rattle.plans.specs.Seating.{at, Before, InOrder, freeOpen, seatSlot, seatSlots, inside, seatedBy, Problem, Complete, byRank, seatsOf}
+use Rattle.plans.specs.Seating.{at, Before, InOrder, freeOpen, seatSlot, seatSlots, looks, looksSlots, inside, seatedBy, Problem, Complete, byRank}
+use Rattle.plans.specs.Seating.{seatsOf, looksOf}
 use Rattle.plans.specs.OrderLaws.{before-apart, byRank-inOrder}
 
 -- ---- the tests, read and made
@@ -49,6 +52,20 @@ record SeatsSoFar (n top : ℕ) (first last z x : ℕ → ℕ) (k s : ℕ) : Typ
   here : count n (seatedBy x s) ≡ k
   fairFree : (i j : ℕ) → i < n → j < n → 0 < x i → x j ≡ 0 → first j ≤ x i → Before last i j
   fairLate : (i j : ℕ) → i < n → j < n → 0 < x i → x i < x j → first j ≤ x i → Before last i j
+
+-- ---- places in the order, and the last of each slot
+abbrev pub PlacedBy : ℕ → (ℕ → ℕ) → (ℕ → ℕ) → Type 0
+PlacedBy n last place = (p : ℕ) → p < n → place (at (byRank last n n (replicate n 0)) p) ≡ suc p
+
+-- the places of the units that have slot t in the plan x, and the last of them; for all slots, its sum
+abbrev placesAt : (ℕ → ℕ) → ℕ → List ℕ → ℕ → List ℕ
+placesAt place n x t = map place (keep (λ j. eqb (at x j) t) (run 0 n))
+
+abbrev lastAt : (ℕ → ℕ) → ℕ → List ℕ → ℕ → ℕ
+lastAt place n x t = greatest (placesAt place n x t)
+
+abbrev pub lastPlaces : (ℕ → ℕ) → ℕ → ℕ → List ℕ → ℕ
+lastPlaces place n top x = sumOf (map (lastAt place n x) (run 1 top))
 
 module _ (n top : ℕ) (first last z : ℕ → ℕ) (P : Problem n top first last z) where
   start : (x : ℕ → ℕ) → ((j : ℕ) → j < n → x j ≡ 0) → SeatsSoFar n top first last z x 0 1
@@ -224,6 +241,18 @@ module _ (n top : ℕ) (first last z : ℕ → ℕ) (P : Problem n top first las
     apart : (p q : ℕ) → p < q → q < n → at order p ≢ at order q
     apart p q h hq = before-apart last (at order p) (at order q) (O .sorted p q h hq)
 
+    -- what slot s leaves and looks at from place p of the order on, where r seats are left
+    record Filled (s p r : ℕ) (plan after : List ℕ) (l : ℕ) : Type 0 where
+      sofar : PlanSoFar (z s) s after
+      -- who has a seat keeps it
+      kept : (j : ℕ) → (at after j ≡ at plan j) ⊎ ((at plan j ≡ 0) × (at after j ≡ s))
+      -- with no seat left nothing is looked at; else the last look is at a unit that gets this slot
+      none : r ≡ 0 → l ≡ 0
+      inside : p + l ≤ n
+      final : 0 < r → (0 < l) × (at after (at order (p + l - 1)) ≡ s)
+      -- and the units behind it are as they were
+      behind : (q : ℕ) → p + l ≤ q → q < n → at after (at order q) ≡ at plan (at order q)
+
     module _ (s : ℕ) (hs : 1 ≤ s) (ht : s ≤ top) where
       -- no unit in the first p places of the order is free and open
       abbrev Passed : ℕ → List ℕ → Type 0
@@ -278,47 +307,190 @@ module _ (n top : ℕ) (first last z : ℕ → ℕ) (P : Problem n top first las
             absurd (f (a .0) (a .1) (rw (a .2) (le-free (at plan (j .0)) (first (j .0)) s (j .2) (j .3))))
       ]
 
-      -- r seats are left, and m places of the order
+      untouched : (p r : ℕ) (plan : List ℕ) → r ≡ 0 → p ≤ n → PlanSoFar (z s) s plan → Filled s p r plan plan 0
+      untouched p r plan e h F = record {
+        sofar = F;
+        kept = λ j. inl refl;
+        none = λ _. refl;
+        inside = omega arith;
+        final = λ l. absurd (omega arith);
+        behind = λ q _ _. refl;
+      }
+
+      -- the unit at place p is passed, or it is seated
+      past : (p r : ℕ) (plan after : List ℕ) (l : ℕ) → Filled s (suc p) (suc r) plan after l → Filled s p (suc r) plan after (suc l)
+      past p r plan after l G = record {
+        sofar = G .sofar;
+        kept = G .kept;
+        none = λ e. absurd (omega arith);
+        inside = omega (arith, G .inside);
+        final = λ _.
+            let f = G .final (omega arith) in
+            let same : p + suc l - 1 ≡ suc p + l - 1 = omega arith in
+            (omega arith, rw same (f .1));
+        behind = λ q h. G .behind q (omega arith);
+      }
+
+      module _ (p k : ℕ) (hp : p < n) (plan : List ℕ) (F : PlanSoFar k s plan) (f : Passed p plan) (o : T (freeOpen (at plan) first s (at order p))) where
+        here-new : (j : ℕ) → at (set plan (at order p) s) j ≡ 0 → j ≢ at order p
+        here-new j e q = omega (arith, ap (at (set plan (at order p) s)) q, here-now p k hp plan F f o)
+
+        taken-here : (r : ℕ) (after : List ℕ) (l : ℕ) → Filled s (suc p) r (set plan (at order p) s) after l → Filled s p (suc r) plan after (suc l)
+        taken-here r after l G = record {
+          sofar = G .sofar;
+          kept = kept;
+          none = λ e. absurd (omega arith);
+          inside = omega (arith, G .inside);
+          final = λ _. (omega arith, last-here (ℕ-discrete r 0));
+          behind = λ q h hq. G .behind q (omega arith) hq ∙ else-same p k hp plan F f o (at order q) (λ e. apart p q (omega arith) hq (sym e));
+        }
+          where
+            free : at plan (at order p) ≡ 0
+            free = free-le (at plan (at order p)) (first (at order p)) s o .0
+
+            kept : (j : ℕ) → (at after j ≡ at plan j) ⊎ ((at plan j ≡ 0) × (at after j ≡ s))
+            kept j = elim (ℕ-discrete j (at order p)) [
+              | yes e ↦ inr (ap (at plan) e ∙ free, ⊎-elim (λ q. q ∙ ap (at (set plan (at order p) s)) e ∙ here-now p k hp plan F f o) (λ q. q .1) (G .kept j))
+              | no ne ↦
+                  let w = else-same p k hp plan F f o j ne in
+                  ⊎-elim (λ q. inl (q ∙ w)) (λ q. inr (sym w ∙ q .0, q .1)) (G .kept j)
+            ]
+
+            last-here : Dec (r ≡ 0) → at after (at order (p + suc l - 1)) ≡ s
+            last-here (yes e) =
+                let same : p + suc l - 1 ≡ p = omega (arith, G .none e) in
+                rw same (⊎-elim (λ q. q ∙ here-now p k hp plan F f o) (λ q. q .1) (G .kept (at order p)))
+            last-here (no g) =
+                let same : p + suc l - 1 ≡ suc p + l - 1 = omega arith in
+                rw same (G .final (omega arith) .1)
+
+      -- m places of the order are left
       slot-filled : (m p k r : ℕ) (plan : List ℕ) → p + m ≡ n → k + r ≡ z s → z (s - 1) ≤ k → Passed p plan → PlanSoFar k s plan
-          → PlanSoFar (z s) s (seatSlot first s (drop p order) r plan)
-      unfolding seatSlot
+          → Filled s p r plan (seatSlot first s (drop p order) r plan) (looks first s (drop p order) r plan)
+      unfolding seatSlot looks
       slot-filled zero p k r plan e c before f F =
           let none : drop p order ≡ [] = drop-of-length-le order {i = p} (omega (arith, O .size)) in
           let q : p ≡ n = omega arith in
           let full = none-left k plan F before (omega arith) (rw (sym q) f) in
-          rw none (rw (sym full) F)
+          rw none (untouched p r plan (omega arith) (omega arith) (rw (sym full) F))
       slot-filled (suc m) p k zero plan e c before f F =
           let full : k ≡ z s = omega arith in
-          rw (drop-cons order p 0 (omega (arith, O .size))) (rw (sym full) F)
+          rw (drop-cons order p 0 (omega (arith, O .size))) (untouched p 0 plan refl (omega arith) (rw (sym full) F))
       slot-filled (suc m) p k (suc r) plan e c before f F =
           let u = at order p in
           rw (drop-cons order p 0 (omega (arith, O .size))) (go (freeOpen (at plan) first s u) refl (slot-filled m (suc p)))
         where
           go : (t : Bool) → freeOpen (at plan) first s (at order p) ≡ t
               → ((k r : ℕ) (plan : List ℕ) → suc p + m ≡ n → k + r ≡ z s → z (s - 1) ≤ k → Passed (suc p) plan → PlanSoFar k s plan
-              → PlanSoFar (z s) s (seatSlot first s (drop (suc p) order) r plan))
-              → PlanSoFar (z s) s (cond t (seatSlot first s (drop (suc p) order) r (set plan (at order p) s))
-              (seatSlot first s (drop (suc p) order) (suc r) plan))
+              → Filled s (suc p) r plan (seatSlot first s (drop (suc p) order) r plan) (looks first s (drop (suc p) order) r plan))
+              → Filled s p (suc r) plan
+              (cond t (seatSlot first s (drop (suc p) order) r (set plan (at order p) s)) (seatSlot first s (drop (suc p) order) (suc r) plan))
+              (suc (cond t (looks first s (drop (suc p) order) r (set plan (at order p) s)) (looks first s (drop (suc p) order) (suc r) plan)))
           go true q ih =
               let o : T (freeOpen (at plan) first s (at order p)) = subst T (sym q) tt in
-              ih (suc k) r (set plan (at order p) s) (omega arith) (omega arith) (omega arith) (passed-seat p k (omega arith) plan F f o)
-              (seat-filled p k (omega arith) plan F f o (omega arith) before)
-          go false q ih = ih k (suc r) plan (omega arith) c before (passed-suc p plan f (λ t. subst T q t)) F
+              taken-here p k (omega arith) plan F f o r _ _
+              (ih (suc k) r (set plan (at order p) s) (omega arith) (omega arith) (omega arith) (passed-seat p k (omega arith) plan F f o)
+              (seat-filled p k (omega arith) plan F f o (omega arith) before))
+          go false q ih = past p r plan _ _ (ih k (suc r) plan (omega arith) c before (passed-suc p plan f (λ t. subst T q t)) F)
 
     -- ---- slot after slot
-    slots-filled : (m b : ℕ) (plan : List ℕ) → b + m ≡ top → PlanSoFar (z b) (suc b) plan → PlanSoFar (z top) (suc top) (seatSlots first z order b m plan)
-    unfolding seatSlots
-    slots-filled zero b plan e F = let q : b ≡ top = omega arith in subst (λ (t : ℕ). PlanSoFar (z t) (suc t) plan) q F
-    slots-filled (suc m) b plan e F =
+
+    -- the slot after boundary b
+    next-filled : (b : ℕ) (plan : List ℕ) (h : suc b ≤ top) → PlanSoFar (z b) (suc b) plan
+        → let k = z (suc b) - z b in
+        Filled (suc b) 0 k plan (seatSlot first (suc b) order k plan) (looks first (suc b) order k plan)
+    next-filled b plan h F =
         let same = ap z (let p : suc b - 1 ≡ b = omega arith in p) in
-        let full = slot-filled (suc b) (omega arith) (omega arith) n 0 (z b) (z (suc b) - z b) plan (omega arith)
-        (omega (arith, P .rising b (suc b) (omega arith) (omega arith))) (omega arith) (λ q hq. absurd (omega arith)) F in
+        slot-filled (suc b) (omega arith) h n 0 (z b) (z (suc b) - z b) plan (omega arith)
+        (omega (arith, P .rising b (suc b) (omega arith) h)) (omega arith) (λ q hq. absurd (omega arith)) F
+
+    -- the slots after boundary b are for units that are free
+    abbrev Later : ℕ → List ℕ → List ℕ → Type 0
+    Later b plan x = (j : ℕ) → (at x j ≡ at plan j) ⊎ ((at plan j ≡ 0) × (b < at x j))
+
+    later : (b : ℕ) (plan next x : List ℕ) → ((j : ℕ) → (at next j ≡ at plan j) ⊎ ((at plan j ≡ 0) × (at next j ≡ suc b))) → Later (suc b) next x → Later b plan x
+    later b plan next x here rest j =
+        ⊎-elim (λ same. ⊎-elim (λ q. inl (q ∙ same)) (λ q. inr (sym same ∙ q .0, omega (arith, q .1))) (rest j))
+        (λ new. inr (new .0, ⊎-elim (λ q. omega (arith, q, new .1)) (λ q. omega (arith, q .1)) (rest j))) (here j)
+
+    slots-filled : (m b : ℕ) (plan : List ℕ) → b + m ≡ top → PlanSoFar (z b) (suc b) plan
+        → let x = seatSlots first z order b m plan in PlanSoFar (z top) (suc top) x × Later b plan x
+    unfolding seatSlots
+    slots-filled zero b plan e F = let q : b ≡ top = omega arith in (subst (λ (t : ℕ). PlanSoFar (z t) (suc t) plan) q F, λ j. inl refl)
+    slots-filled (suc m) b plan e F =
         let next = seatSlot first (suc b) order (z (suc b) - z b) plan in
-        slots-filled m (suc b) next (omega arith) (full .0, advance (at next) (suc b) (full .1))
+        let full = next-filled b plan (omega arith) F in
+        let rest = slots-filled m (suc b) next (omega arith) (full .sofar .0, advance (at next) (suc b) (full .sofar .1)) in
+        (rest .0, later b plan next (seatSlots first z order (suc b) m next) (full .kept) (rest .1))
+
+    abbrev Free : List ℕ → Type 0
+    Free plan = PlanSoFar (z 0) 1 plan × ((j : ℕ) → j < n → at plan j ≤ 0)
+
+    all-free : Free (replicate n 0)
+    all-free =
+        let zeros : (j : ℕ) → j < n → at (replicate n 0) j ≡ 0 = (λ j h. getD-replicate n j 0 0 h) in
+        ((length-replicate n 0, rw (P .starts) (start (at (replicate n 0)) zeros)), λ j h. omega (arith, zeros j h))
 
     all-filled : PlanSoFar (z top) (suc top) (seatSlots first z order 0 top (replicate n 0))
-    all-filled = slots-filled top 0 (replicate n 0) (omega arith)
-        (length-replicate n 0, rw (P .starts) (start (at (replicate n 0)) (λ j h. getD-replicate n j 0 0 h)))
+    all-filled = slots-filled top 0 (replicate n 0) (omega arith) (all-free .0) .0
+
+    -- ---- the looks, where every unit has its place in the order
+    module _ (place : ℕ → ℕ) (placed : (p : ℕ) → p < n → place (at order p) ≡ suc p) where
+      module _ (b k : ℕ) (plan next x : List ℕ) (l : ℕ) (G : Filled (suc b) 0 k plan next l)
+          (early : (j : ℕ) → j < n → at plan j ≤ b) (rest : Later (suc b) next x) where
+        not-behind : (p : ℕ) → p < n → at x (at order p) ≡ suc b → p < l
+        not-behind p h e = elim (decLe l p) [
+          | no g ↦ omega arith
+          | yes g ↦
+              let w = G .behind p (omega arith) h in
+              let o = early (at order p) (O .units p h) in
+              absurd (⊎-elim (λ q. omega (arith, w, o, q, e)) (λ q. omega (arith, q .1, e)) (rest (at order p)))
+        ]
+
+        abbrev has : ℕ → Bool
+        has j = eqb (at x j) (suc b)
+
+        none-after : (y : ℕ) → In y (placesAt place n x (suc b)) → y ≤ l
+        none-after y m =
+            let j = in-map place y (keep has (run 0 n)) m in
+            let here = in-keep has (j .0) (run 0 n) (j .1) in
+            let a = O .all (j .0) (omega (arith, in-run (j .0) 0 n (here .0) .1)) in
+            let seat = ap (at x) (a .2) ∙ eqb→eq (at x (j .0)) (suc b) (here .1) in
+            omega (arith, j .2, ap place (a .2), placed (a .0) (a .1), not-behind (a .0) (a .1) seat)
+
+        last-there : 0 < l → l ≤ lastAt place n x (suc b)
+        last-there h =
+            let p : ℕ = l - 1 in
+            let hp : p < n = omega (arith, G .inside) in
+            let u = at order p in
+            let more : 0 < k = elim (ℕ-discrete k 0) [ yes e ↦ absurd (omega (arith, G .none e)) | no g ↦ omega arith ] in
+            let front : p ≡ 0 + l - 1 = omega arith in
+            let seat : at next u ≡ suc b = rw front (G .final more .1) in
+            let now : at x u ≡ suc b = ⊎-elim (λ q. q ∙ seat) (λ q. absurd (omega (arith, q .0, seat))) (rest u) in
+            let m = keep-in has u (run 0 n) (run-in u 0 n (omega arith) (omega (arith, O .units p hp))) (rw now (eqb-refl (suc b))) in
+            omega (arith, placed p hp, greatest-ge (place u) (placesAt place n x (suc b)) (map-in place u (keep has (run 0 n)) m))
+
+        last-look : lastAt place n x (suc b) ≡ l
+        last-look = elim (ℕ-discrete l 0) [
+          | yes e ↦ omega (arith, greatest-below l (placesAt place n x (suc b)) none-after)
+          | no g ↦ omega (arith, greatest-below l (placesAt place n x (suc b)) none-after, last-there (omega arith))
+        ]
+
+      slots-looked : (m b : ℕ) (plan : List ℕ) → b + m ≡ top → PlanSoFar (z b) (suc b) plan → ((j : ℕ) → j < n → at plan j ≤ b)
+          → sumOf (map (lastAt place n (seatSlots first z order b m plan)) (run (suc b) m)) ≡ looksSlots first z order b m plan
+      unfolding seatSlots looksSlots
+      slots-looked zero b plan e F early = refl
+      slots-looked (suc m) b plan e F early =
+          let k = z (suc b) - z b in
+          let next = seatSlot first (suc b) order k plan in
+          let full = next-filled b plan (omega arith) F in
+          let F′ : PlanSoFar (z (suc b)) (suc (suc b)) next = (full .sofar .0, advance (at next) (suc b) (full .sofar .1)) in
+          let rest = slots-filled m (suc b) next (omega arith) F′ .1 in
+          let early′ : (j : ℕ) → j < n → at next j ≤ suc b =
+          (λ j h. let o = early j h in ⊎-elim (λ q. omega (arith, q)) (λ q. omega (arith, q .1)) (full .kept j)) in
+          ap₂ (λ (a c : ℕ). a + c)
+          (last-look b k plan next (seatSlots first z order (suc b) m next) (looks first (suc b) order k plan) full early rest)
+          (slots-looked m (suc b) next (omega arith) F′ early′)
 
   in-order : InOrder n last (byRank last n n (replicate n 0))
   in-order = byRank-inOrder last n (replicate n 0) (length-replicate n 0)
@@ -330,3 +502,11 @@ module _ (n top : ℕ) (first last z : ℕ → ℕ) (P : Problem n top first las
   pub seats-complete : Complete n top first last z (at (seatsOf n top first last z))
   unfolding seatsOf
   seats-complete = finish (at (seatsOf n top first last z)) (all-filled (byRank last n n (replicate n 0)) in-order .1)
+
+  -- each slot is looked for as far as its last unit
+  pub looks-are : (place : ℕ → ℕ) → PlacedBy n last place → looksOf n top first last z ≡ lastPlaces place n top (seatsOf n top first last z)
+  unfolding seatsOf looksOf
+  looks-are place placed =
+      let order = byRank last n n (replicate n 0) in
+      let free = all-free order in-order in
+      sym (slots-looked order in-order place placed top 0 (replicate n 0) (omega arith) (free .0) (free .1))

@@ -8,7 +8,7 @@ use lib.Dec.{leb, ltb, eqb}
 use lib.ListN.{length, getD}
 use lib.IntN.{ℤ, pos, negℤ}
 use Rattle.slots.specs.Slots.{Slot, Boundary, slotAfter, slotBefore}
-use Rattle.lists.specs.Lists.{run, fromTo, within, every, keep, howMany, joined, smallest, largest, least, greatest}
+use Rattle.lists.specs.Lists.{run, fromTo, within, every, keep, howMany, joined, sumOf, smallest, largest, least, greatest}
 use Rattle.network.specs.Network.{around, isNegativeCycle}
 use Rattle.sheet.specs.Sizes.{topOf}
 
@@ -124,15 +124,20 @@ soonest s plan = every (λ t. eqb (countIn 1 t plan) (greatestIn s 1 t)) (fromTo
 abbrev pub noWindow : Window
 noWindow = record { first = 0; last = 0 }
 
--- If unit j sits in a later slot than unit i, and j's window was already open in i's slot,
--- then i's window closes earlier than j's, or at the same slot with i the earlier line.
+-- the order of seats: unit i's window closes earlier than unit j's, or at the same slot with i the earlier line
+abbrev pub comesBefore : Sheet → ℕ → ℕ → Bool
+comesBefore s i j =
+    let wi = getD (s .units) i noWindow in
+    let wj = getD (s .units) j noWindow in
+    ltb (wi .last) (wj .last) || (eqb (wi .last) (wj .last) && ltb i j)
+
+-- If unit j sits in a later slot than unit i, and j's window was already open in i's slot, then i comes before j.
 abbrev pub seatFair : Sheet → List Slot → ℕ → ℕ → Bool
 seatFair s plan i j =
-    let wi = getD (s .units) i noWindow in
     let wj = getD (s .units) j noWindow in
     let xi = getD plan i 0 in
     let xj = getD plan j 0 in
-    not (ltb xi xj && leb (wj .first) xi) || (ltb (wi .last) (wj .last) || (eqb (wi .last) (wj .last) && ltb i j))
+    not (ltb xi xj && leb (wj .first) xi) || comesBefore s i j
 
 -- the seat property
 unfoldable pub fair : Sheet → List Slot → Bool
@@ -148,6 +153,20 @@ headOr d (x ∷ xs) = x
 -- the one that there is, where some plan is lawful
 unfoldable pub printedPlan : Sheet → List Slot
 printedPlan s = headOr [] (printedPlans s)
+
+-- ---- how far seating looks
+
+-- the place of unit j, from 1, among all units in the order of seats
+abbrev pub placeOf : Sheet → ℕ → ℕ
+placeOf s j = suc (howMany (λ i. comesBefore s i j) (unitPlaces s))
+
+-- the place of the last unit in that order that the plan has in slot t; 0 where it has none there
+abbrev pub lastPlace : Sheet → List Slot → Slot → ℕ
+lastPlace s plan t = greatest (map (placeOf s) (keep (λ j. eqb (getD plan j 0) t) (unitPlaces s)))
+
+-- how many units seating looks at: the sum of these places over all slots of the printed plan, the carried place included
+unfoldable pub looked : Sheet → ℕ
+looked s = sumOf (map (lastPlace s (printedPlan s)) (fromTo 1 (slotBefore (top s))))
 
 -- ---- the limits of steps
 
