@@ -1,5 +1,6 @@
 -- The lists that seating takes, as the sheet and the finished table that they come from, and what it leaves. Definitions only.
 use mathlib.Core.Path.{_≡_}
+use mathlib.Core.Bool.{Bool}
 use mathlib.Core.List.{List}
 use Prim.Native.Nat.{ℕ, suc, _-_, _≤_, _<_}
 use lib.ListN.{length, getD, replicate}
@@ -13,7 +14,7 @@ use Rattle.sheet.specs.Sizes.{maxUnits}
 use Rattle.sheet.specs.Sheet.{Sheet, top}
 use Rattle.sheet.specs.Questions.{windowsOf}
 use Rattle.sheet.specs.Solved.{Solved}
-use Rattle.plans.specs.Seating.{at, byRank, seatSlots}
+use Rattle.plans.specs.Seating.{at, byRank, freeOpen, seatSlots, looksSlots}
 
 -- the number of seats by boundary b
 abbrev pub countAt : List ℤ → Boundary → ℕ
@@ -40,9 +41,9 @@ seatOrder last order = byRank (at last) (length last) (length last) order
 abbrev pub lastSlot : List ℤ → Slot
 lastSlot counts = slotBefore (length counts - 1)
 
--- the units at the first k places of the order have seats
-abbrev pub Skipped : ℕ → List ℕ → List ℕ → Type 0
-Skipped k order plan = (k ≤ length order) × ((p : ℕ) → p < k → 0 < at plan (at order p))
+-- the unit at a place of the order is free and open at slot s
+abbrev pub openAt : List ℕ → Slot → List ℕ → List ℕ → ℕ → Bool
+openAt first s order plan p = freeOpen (at plan) (at first) s (at order p)
 
 -- all slots take their units in order, in a plan where some may have seats already
 abbrev pub seatsInto : List ℕ → List ℤ → List ℕ → List ℕ → List ℕ
@@ -55,6 +56,17 @@ seatsBy first counts order = seatsInto first counts order (replicate (length fir
 -- the whole plan
 unfoldable pub seatsFrom : List ℕ → List ℕ → List ℤ → List ℕ
 seatsFrom first last counts = seatsBy first counts (seatOrder last (replicate (length first) 0))
+
+-- ---- and how many units they look at
+
+abbrev pub looksInto : List ℕ → List ℤ → List ℕ → List ℕ → ℕ
+looksInto first counts order plan = looksSlots (at first) (countAt counts) order 0 (lastSlot counts) plan
+
+abbrev pub looksBy : List ℕ → List ℤ → List ℕ → ℕ
+looksBy first counts order = looksInto first counts order (replicate (length first) 0)
+
+unfoldable pub looksFrom : List ℕ → List ℕ → List ℤ → ℕ
+looksFrom first last counts = looksBy first counts (seatOrder last (replicate (length first) 0))
 
 -- the lists are the units of s, and row 0 of its finished table D
 pub record RowOf (s : Sheet) (D : Weights) (first last : List ℕ) (counts : List ℤ) : Type 0 where

@@ -1,13 +1,12 @@
 -- The units in order, a room of zeros, and then slot after slot.
-use mathlib.Core.Path.{_≡_, ap, _∙_}
+use mathlib.Core.Path.{_≡_, ap, ap₂, _∙_}
 use mathlib.Core.List.{List}
 use Prim.Native.Nat.{ℕ}
 use native.Mathlib.Omega.{arith}
 use lib.ListN.{length, replicate}
 use Rattle.plans.specs.Seating.{at}
 use Rattle.plans.specs.OrderLaws.{byRank-inOrder}
-use Rattle.plan_seats.specs.Seats.{countAt, lastSlot, seatOrder}
-use Rattle.plan_seats.proofs.SlotLaws.{slots-from}
+use Rattle.plan_seats.specs.Seats.{seatOrder, seatsInto, looksInto}
 use borrow.Author.Needs.{needs}
 use Rattle.plan_seats.proofs.seat_in_order.Statement.{statement}
 use Rattle.plan_seats.proofs.seat_in_order.Tie as tie
@@ -34,6 +33,7 @@ seat-slots-requires c κs =
         λ j h.
             let same = ap (λ (xs : List ℕ). at xs j) (ordered .ensures) in
             omega (arith, units j (omega (arith, h, size, p .0 .lists, p .1 .0)), same, plan, p .1 .1, p .0 .lists),
+        omega (arith, size, p .1 .0, p .0 .units),
       ),
       (p .0 .slots .0, p .0 .slots .1, p .0 .rising),
     )
@@ -43,14 +43,13 @@ returns c =
     let freed = c .before .before .before .before .before .before .before in
     let sorted = freed .before .before .before .before in
     let st = sorted .before .before .before .before .before .before in
-    let ordered = sorted .order-units in
-    let cleared = freed .free-all in
     let first = st .args .first .now in
-    let counts = st .args .counts .now in (
-      ordered .ensures,
-      slots-from (at first) (countAt counts) (ordered .last .1 .0) (lastSlot counts) (seatOrder (st .args .last .now) (st .args .order .now)) (cleared .last .0)
-          (replicate (length first) 0) (c .before .before .seat-slots .last .1 .1 .1 .0) (ordered .ensures)
-          (cleared .ensures ∙ ap (λ (k : ℕ). replicate k 0) (st .pre .1 .1)) (c .before .before .seat-slots .ensures),
+    let counts = st .args .counts .now in
+    let ordered = sorted .order-units .ensures in
+    let cleared = freed .free-all .ensures ∙ ap (λ (k : ℕ). replicate k 0) (st .pre .1 .1) in
+    let called = c .before .before .seat-slots .ensures in (
+      ordered,
+      (called .0 ∙ ap₂ (seatsInto first counts) ordered cleared, called .1 ∙ ap₂ (looksInto first counts) ordered cleared),
     )
 
 pub seat-in-order-spec : {M : Type 1} → statement M

@@ -1,83 +1,96 @@
--- What is left to do from place p of the order on gives the whole answer.
-use mathlib.Core.Path.{_≡_, refl, sym, ap, _∙_}
-use mathlib.Core.Logic.{⊎-elim}
-use mathlib.Core.Bool.{true, false}
+-- What is left to do from the next place of the order on gives the whole answer.
+use mathlib.Core.Path.{_≡_, refl, sym, ap, _∙_, subst}
+use mathlib.Core.Bool.{true}
 use mathlib.Core.List.{List}
-use Prim.Native.Nat.{ℕ, _+_, _-_, _≤_, _<_}
+use Prim.Native.Nat.{ℕ, suc, _+_, _-_, _≤_, _<_}
 use native.Mathlib.Omega.{arith}
-use lib.ListN.{length, drop, length-set}
-use Rattle.plans.specs.Seating.{at, seatSlot}
-use Rattle.plan_seats.proofs.SlotLaws.{seat-none, seat-end, seat-step}
+use lib.ListN.{length, set, length-set}
+use Rattle.plans.specs.Seating.{at, freeOpen}
+use Rattle.plan_seats.proofs.SlotLaws.{Search, Done, search-start, found, taken, slot-full, all-seen}
 use Rattle.plan_seats.proofs.seat_slot.Statement.{statement}
 use Rattle.plan_seats.proofs.seat_slot.Tie as tie
 
 abbrev Inv-loop : tie.InvT-loop
-Inv-loop first order slot count plan₀ left₀ p₀ p-end plan left p =
-    (p ≤ length order) × (p-end ≡ length order) × (length plan ≡ length plan₀)
-    × (seatSlot (at first) slot (drop p order) left plan ≡ seatSlot (at first) slot order count plan₀)
+Inv-loop first order slot count plan₀ looked₀ counter₀ plan looked counter =
+    (counter ≤ count) × (looked ≤ length order) × (length plan ≡ length plan₀) × Search (at first) slot order count plan₀ looked (count - counter) plan
 
 abbrev μ-loop : tie.MeasureT-loop
-μ-loop first order slot count plan₀ left₀ p₀ p-end plan left p = length order - p
+μ-loop first order slot count plan₀ looked₀ counter₀ plan looked counter = count - counter
+
+-- the call's arguments, and the search as it stands at the next place
+abbrev start : tie.At-loop Inv-loop μ-loop → tie.Start Inv-loop μ-loop
+start c = c .before .before .before .before
+
+module _ (c : tie.After-next-open Inv-loop μ-loop) where
+  abbrev l : tie.At-loop Inv-loop μ-loop
+  l = c .before .before .before
+
+  next : let a = start l .args in
+      let first = at (a .first .now) in
+      let order = a .order .now in
+      let plan = l .loop .plan in
+      let r = c .next-open .result in
+      (r ≤ length order) × (r < length order → freeOpen (at plan) first (a .slot) (at order r) ≡ true)
+      × Search first (a .slot) order (a .count) (a .plan .now) r (suc (a .count - (l .loop .counter + 1))) plan
+  next =
+      let a = start l .args in
+      let left : a .count - l .loop .counter ≡ suc (a .count - (l .loop .counter + 1)) = omega arith in
+      found (at (a .first .now)) (a .slot) (a .order .now) (a .count) (a .plan .now) (l .loop .looked) _ (c .next-open .result) (l .loop .plan)
+      (l .loop .inv .1) (c .next-open .ensures) (rw (sym left) (l .loop .inv .3))
+
+  unit-inside : c .next-open .result < length (start l .args .order .now) → at (start l .args .order .now) (c .next-open .result) < length (l .loop .plan)
+  unit-inside h = omega (arith, l .loop .inv .2, start l .pre .1 (c .next-open .result) h)
+
+-- the place is not the end of the order
+here : (c : tie.Else1 Inv-loop μ-loop) → c .before .next-open .result < length (start (l (c .before)) .args .order .now)
+here c = let b = next (c .before) .0 in let ne = c .if1 .left in omega arith
+
+loop-holds : tie.Need-loop-holds Inv-loop μ-loop
+loop-holds c =
+    let a = c .before .before .before .args in
+    let all : a .count - 0 ≡ a .count = omega arith in
+    (omega arith, omega arith, refl, rw all (search-start (at (a .first .now)) (a .slot) (a .order .now) (a .count) (a .plan .now)))
+
+next-open-requires : tie.Need-next-open-requires Inv-loop μ-loop
+next-open-requires c κs =
+    let l = c .before .before in
+    let p = start l .pre in
+    (omega (arith, p .0, l .loop .inv .2), λ j h. omega (arith, p .1 j h, l .loop .inv .2), l .loop .inv .1)
 
 returns : tie.Need-returns Inv-loop μ-loop
 returns c =
-    let a = c .before .before .before .before .before .before .args in
-    let l = c .before .before .loop in
-    sym (ap (λ (k : ℕ). seatSlot (at (a .first .now)) (a .slot) (drop (l .p) (a .order .now)) k (l .plan)) (c .if1 .taken)
-    ∙ seat-none (at (a .first .now)) (a .slot) (drop (l .p) (a .order .now)) (l .plan)) ∙ l .inv .3
-
-unit-inside : (c : tie.Else1 Inv-loop μ-loop)
-    → at (c .before .before .before .before .before .before .args .order .now) (c .before .before .loop .p) < length (c .before .before .loop .plan)
-unit-inside c =
-    let st = c .before .before .before .before .before .before in
-    let l = c .before .before .loop in
-    omega (arith, l .inv .2, st .pre .1 (l .p) (omega arith))
-
-sub-left : tie.Need-sub-left Inv-loop μ-loop
-sub-left c =
-    let h = c .before .before .before .before .before .if1 .left in
-    omega arith
+    let n = next (c .before) in
+    let a = start (l (c .before)) .args in
+    all-seen (at (a .first .now)) (a .slot) (a .order .now) (a .count) (a .plan .now) (c .before .next-open .result) _ (l (c .before) .loop .plan)
+    (omega (arith, c .if1 .taken)) (n .2)
 
 loop-again : tie.Need-loop-again Inv-loop μ-loop
 loop-again c =
-    let turn = c .before .before .before .before .before .before .before in
-    let st = turn .before .before .before .before in
-    let l = turn .loop in
-    let e = c .before .is-open .ensures in
-    let first = at (st .args .first .now) in
-    let slot = st .args .slot in
-    let order = st .args .order .now in
-    let u = at order (l .p) in
-    let left = c .before .before .before .before .before .if1 .left in
-    let rest = drop (l .p + 1) order in
-    ⊎-elim
-    (λ w. (
+    let e = c .before in
+    let n = next (e .before) in
+    let a = start (l (e .before)) .args in
+    let plan = l (e .before) .loop .plan in
+    let r = e .before .next-open .result in
+    let u = at (a .order .now) r in
+    let left = a .count - (l (e .before) .loop .counter + 1) in
+    let one : suc r ≡ r + 1 = omega arith in (
       omega arith,
-      refl,
-      ap length (w .1) ∙ length-set (l .plan) u slot ∙ l .inv .2,
-      ap (λ (k : ℕ). seatSlot first slot rest k (c .if2 .plan)) (w .2) ∙ ap (λ (xs : List ℕ). seatSlot first slot rest (l .left - 1) xs) (w .1)
-          ∙ sym (seat-step first slot order (l .p) (l .left) (l .plan) (omega arith) (omega arith) true (sym e ∙ w .0 .taken)) ∙ l .inv .3,
-    ))
-    (λ w. (
-      omega arith,
-      refl,
-      ap length (w .1) ∙ l .inv .2,
-      ap (λ (k : ℕ). seatSlot first slot rest k (c .if2 .plan)) (w .2) ∙ ap (λ (xs : List ℕ). seatSlot first slot rest (l .left) xs) (w .1)
-          ∙ sym (seat-step first slot order (l .p) (l .left) (l .plan) (omega arith) (omega arith) false (sym e ∙ w .0 .left)) ∙ l .inv .3,
-    ))
-    (c .if2 .came)
+      omega (arith, here e),
+      length-set plan u (a .slot) ∙ l (e .before) .loop .inv .2,
+      subst (λ (p : ℕ). Search (at (a .first .now)) (a .slot) (a .order .now) (a .count) (a .plan .now) p left (set plan u (a .slot))) one
+          (taken (at (a .first .now)) (a .slot) (a .order .now) (a .count) (a .plan .now) r left plan (here e) (n .1 (here e)) (n .2)),
+    )
 
 returns-2 : tie.Need-returns-2 Inv-loop μ-loop
 returns-2 c =
-    let a = c .before .before .before .before .before .args in
-    let l = c .before .loop in
-    sym (seat-end (at (a .first .now)) (a .slot) (a .order .now) (l .p) (l .left) (l .plan) (omega arith)) ∙ l .inv .3
+    let l = c .before in
+    let a = start l .args in
+    let none : a .count - l .loop .counter ≡ 0 = omega arith in
+    slot-full (at (a .first .now)) (a .slot) (a .order .now) (a .count) (a .plan .now) (l .loop .looked) (l .loop .plan) (rw (sym none) (l .loop .inv .3))
 
 pub seat-slot-spec : {M : Type 1} → statement M
-seat-slot-spec = tie.close (tie.spec Inv-loop μ-loop (λ c. (omega arith, refl, refl, refl)) (λ c. omega arith) returns (λ c. omega arith)
-    (λ c. omega arith) (λ c. omega (arith, c .shared-slice-known3 .given (c .before .before .before .loop .p)))
-    (λ c. omega (arith, unit-inside (c .before))) (λ c. omega (arith, unit-inside (c .before .before)))
-    (λ c. omega (arith, unit-inside (c .before .before))) (λ c. omega (arith, unit-inside (c .before .before .before))) (λ c κs. tt)
-    (λ c. omega (arith, unit-inside (c .before .before .before .before .before)))
-    (λ c. omega (arith, unit-inside (c .before .before .before .before .before))) sub-left (λ c. omega arith) (λ c. omega arith) loop-again
-    (λ c. omega arith) returns-2)
+seat-slot-spec = tie.close (tie.spec Inv-loop μ-loop loop-holds next-open-requires (λ c. l (c .before) .loop .inv .2) returns
+    (λ c. omega (arith, here c)) (λ c. omega (arith, here (c .before)))
+    (λ c. omega (arith, c .shared-slice-known3 .given (c .before .before .next-open .result)))
+    (λ c. omega (arith, unit-inside (c .before .before) (here (c .before)))) (λ c. omega (arith, unit-inside (c .before .before) (here (c .before))))
+    (λ c. omega (arith, here (c .before))) (λ c. omega arith) (λ c. omega arith) loop-again (λ c. c .before .loop .inv .2) returns-2)
