@@ -9,7 +9,7 @@ use lib.IntN.{ℤ}
 use Rattle.network_pass.specs.Pass.{Passed, finished, stopped}
 use Rattle.network.specs.Table.{cleared}
 use Rattle.questions.specs.Questions.{Verdict, no, allYes}
-use Rattle.sheet.specs.Sheet.{Sheet, printedPlan, earliestSlots, latestSlots, isRing}
+use Rattle.sheet.specs.Sheet.{Sheet, printedPlan, looked, earliestSlots, latestSlots, isRing}
 use Rattle.sheet.specs.Lists.{WrittenLists, givenBy}
 use Rattle.slots.specs.Slots.{Slot}
 use Rattle.lists.specs.Lists.{onFront}
@@ -127,3 +127,9 @@ SeatNone s before reply after = (reply ≡ says.none 0) × (after ≡ unseated s
 
 abbrev pub SeatSettled : Conclusion → Sheet → SeatRooms → says.Reply → SeatRooms → Type 0
 SeatSettled v s before reply after = SettledBy (seated s) (SeatNone s) v before reply after
+
+-- how many units seating looked at: what the sheet's definition says by a plan, and none where nothing is seated
+abbrev pub lookedBy : Conclusion → Sheet → ℕ
+lookedBy (refuse q n) s = 0
+lookedBy (plan t) s = looked s
+lookedBy none s = 0

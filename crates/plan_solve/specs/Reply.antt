@@ -1,6 +1,5 @@
 -- What a call replies, case by case of the enums that the code answers with: the rules' number and line of a refusal, that there is a plan, or none with the
 -- length of the ring that was written. Promises speak of these. Definitions only.
-use mathlib.Core.Bool.{Bool, true, false}
 use Prim.Native.Nat.{ℕ}
 use Rattle.questions.specs.Questions.{Verdict, no, allYes}
 use Rattle.plan_solve.specs.declared.Answer.{Answer}
@@ -9,6 +8,8 @@ use Rattle.plan_solve.specs.declared.Decision.{Decision}
 use Rattle.plan_solve.specs.declared.Decision.the-variants as decision
 use Rattle.plan_solve.specs.declared.SeatAnswer.{SeatAnswer}
 use Rattle.plan_solve.specs.declared.SeatAnswer.the-variants as seats
+use Rattle.plan_solve.specs.declared.Seated.{Seated}
+use Rattle.plan_solve.specs.declared.Seated.the-variants as seated
 use Rattle.plan_solve.specs.declared.Fit.{Fit}
 use Rattle.plan_solve.specs.declared.Fit.the-variants as fit
 
@@ -32,7 +33,7 @@ decisionReply (decision.None k) = none k
 -- seating, which writes no ring
 abbrev pub seatReply : SeatAnswer → Reply
 seatReply (seats.Refused f) = refused (f .number) (f .line)
-seatReply seats.Plan = plan
+seatReply (seats.Plan k) = plan
 seatReply seats.None = none 0
 
 -- what solving gives, as the reply that it comes to
@@ -40,10 +41,20 @@ abbrev pub fitReply : Fit → Reply
 fitReply fit.Fits = plan
 fitReply (fit.None k) = none k
 
--- and seating, by whether there is a plan
-abbrev pub seatedReply : Bool → Reply
-seatedReply true = plan
-seatedReply false = none 0
+-- and seating such a sheet
+abbrev pub seatedReply : Seated → Reply
+seatedReply (seated.Plan k) = plan
+seatedReply seated.None = none 0
+
+-- how many units seating says that it looked at: none without a plan
+abbrev pub looksTold : SeatAnswer → ℕ
+looksTold (seats.Refused f) = 0
+looksTold (seats.Plan k) = k
+looksTold seats.None = 0
+
+abbrev pub seatedLooks : Seated → ℕ
+seatedLooks (seated.Plan k) = k
+seatedLooks seated.None = 0
 
 -- the question that refused, by number and line, or that every answer was yes
 abbrev pub refusalOf : Reply → Verdict

@@ -31,7 +31,7 @@ use Rattle.plan_steps.specs.PassedLaws.{passed-size, passed-solved}
 use Rattle.plan_steps.specs.ClosingLaws.{boundaries-counted}
 use Rattle.plan_steps.specs.Filling.{Ready, PlanFilled}
 use Rattle.plan_steps.specs.FillingLaws.{solved-front}
-use Rattle.plan_solve.specs.Planning.{byPass, tableIn, Settled, DecideSettled, SeatSettled}
+use Rattle.plan_solve.specs.Planning.{byPass, lookedBy, tableIn, Settled, DecideSettled, SeatSettled}
 use Rattle.plan_solve.specs.Reply as says
 
 -- ---- which pass had the outcome
@@ -85,7 +85,8 @@ module _ (l : Lists) (fit : Bool) (S : Solvable l fit) (room : List ℤ) (big : 
           solved = subst (λ (n : ℕ). Solved s (entry n table)) count (subst (λ (x : List ℤ). Solved s (entry (boundaries s) x)) (sym is) front);
         }
 
-    module _ (plan earliest latest plan′ earliest′ latest′ : List ℕ) (f : PlanFilled s plan earliest latest plan′ earliest′ latest′) where
+    module _ (plan earliest latest : List ℕ) (looks : ℕ) (plan′ earliest′ latest′ : List ℕ)
+        (f : PlanFilled s plan earliest latest looks plan′ earliest′ latest′) where
       pub plan-left : (ring ring′ : List ℕ) → ring′ ≡ ring
           → Settled (byPass (passed s)) s (lent room plan earliest latest ring) says.plan (lent table plan′ earliest′ latest′ ring′)
       plan-left ring ring′ same =
@@ -96,6 +97,9 @@ module _ (l : Lists) (fit : Bool) (S : Solvable l fit) (room : List ℤ) (big : 
       seats-left =
           subst (λ (p : Passed). SeatSettled (byPass p) s (seatRooms room plan earliest latest) says.plan (seatRooms table plan′ earliest′ latest′)) (sym e)
           (refl, rw (is, f .seats, f .early, f .late))
+
+      pub looks-left : looks ≡ lookedBy (byPass (passed s)) s
+      looks-left = f .seen ∙ ap (λ (p : Passed). lookedBy (byPass p) s) (sym e)
 
   -- ---- the pass, closed
   module _ (r : Outcome) (table : List ℤ) (d : Closed s room r table) where
@@ -125,6 +129,9 @@ module _ (l : Lists) (fit : Bool) (S : Solvable l fit) (room : List ℤ) (big : 
           subst (λ (p : Passed). SeatSettled (byPass p) s (seatRooms room plan earliest latest) (says.none 0) (seatRooms table plan earliest latest))
           (sym halted)
           (refl, ap (λ (x : List ℤ). seatRooms x plan earliest latest) table-cleared)
+
+      pub none-looked : 0 ≡ lookedBy (byPass (passed s)) s
+      none-looked = ap (λ (p : Passed). lookedBy (byPass p) s) (sym halted)
 
     module _ (e : r ≡ Finished) where
       pub closed-table : (t : List ℤ) × (passed s ≡ finished t) × (table ≡ tableIn s t room)

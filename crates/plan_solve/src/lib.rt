@@ -1,10 +1,11 @@
+ghost use mathlib.Core.Path.{_≡_};
 ghost use Rattle.sheet.specs.Questions.{sheetOf};
 ghost use Rattle.sheet.specs.Lists.{listed, given};
 ghost use Rattle.plan_rooms.specs.Rooms.{lent, decideRooms, seatRooms, planLent, decideLent, seatLent, roomsFit};
 ghost use Rattle.plan_ask.specs.Asking.{Solvable};
 ghost use Rattle.plan_steps.specs.Closing.{passed};
-ghost use Rattle.plan_solve.specs.Planning.{byPass, Settled, DecideSettled, SeatSettled};
-ghost use Rattle.plan_solve.specs.Reply.{fitReply, seatedReply};
+ghost use Rattle.plan_solve.specs.Planning.{byPass, lookedBy, Settled, DecideSettled, SeatSettled};
+ghost use Rattle.plan_solve.specs.Reply.{fitReply, seatedReply, seatedLooks};
 use questions::Refusal;
 
 // What planning answers: a refusal, a plan in the rooms, or none with the length of the ring.
@@ -21,10 +22,10 @@ pub enum Decision {
     None(usize),
 }
 
-// What seating answers: a refusal, a plan in the rooms, or none.
+// What seating answers: a refusal, a plan in the rooms with how many units it looked at, or none.
 pub enum SeatAnswer {
     Refused(Refusal),
-    Plan,
+    Plan(usize),
     None,
 }
 
@@ -32,6 +33,12 @@ pub enum SeatAnswer {
 pub enum Fit {
     Fits,
     None(usize),
+}
+
+// What seating such a sheet gives: a plan with how many units were looked at, or none.
+pub enum Seated {
+    Plan(usize),
+    None,
 }
 
 // Whether a sheet of which every question is answered yes fits: the finished table, or none and a ring.
@@ -63,8 +70,8 @@ pub fn decide(
     }
 }
 
-// The seats of a sheet of which every question is answered yes, and its narrowed windows: is there a plan? The table is worked out from the lists, whatever
-// its room held.
+// The seats of a sheet of which every question is answered yes, and its narrowed windows, or none. The table is worked out from the lists, whatever its room
+// held.
 pub fn seat(
     span: usize,
     first: &[u16],
@@ -77,21 +84,24 @@ pub fn seat(
     plan: &mut [u16],
     earliest: &mut [u16],
     latest: &mut [u16],
-) -> bool
+) -> Seated
     requires { let l = listed span (now first) (now last) (now from) (now to) (now low) (now high) in
         ⌜ Solvable l (roomsFit (given l) (seatLent (seatRooms (now table) (now plan) (now earliest) (now latest)))) ⌝ }
-    ensures { λ r.
+    ensures settled { λ r.
         let s = sheetOf span (now (first .entry)) (now (last .entry)) (now (from .entry)) (now (to .entry)) (now (low .entry)) (now (high .entry)) in
         ⌜ SeatSettled (byPass (passed s)) s (seatRooms (now (table .entry)) (now (plan .entry)) (now (earliest .entry)) (now (latest .entry))) (seatedReply r)
         (seatRooms (now (table .exit)) (now (plan .exit)) (now (earliest .exit)) (now (latest .exit))) ⌝ }
+    ensures looked { λ r.
+        let s = sheetOf span (now (first .entry)) (now (last .entry)) (now (from .entry)) (now (to .entry)) (now (low .entry)) (now (high .entry)) in
+        ⌜ seatedLooks r ≡ lookedBy (byPass (passed s)) s ⌝ }
 {
     let outcome = plan_steps::close_limits(span, first, last, from, to, low, high, table);
     match outcome {
-        network_pass::Outcome::Stopped => false,
+        network_pass::Outcome::Stopped => Seated::None,
         network_pass::Outcome::Finished => {
             let w = sheet::boundaries(span);
-            plan_steps::fill_plan(w, first, last, table, plan, earliest, latest);
-            true
+            let looked = plan_steps::fill_plan(w, first, last, table, plan, earliest, latest);
+            Seated::Plan(looked)
         }
     }
 }

@@ -6,7 +6,7 @@ use lib.Dec.{T}
 use lib.ListN.{length, drop}
 use lib.IntN.{ℤ}
 use Rattle.network.specs.Table.{entry}
-use Rattle.sheet.specs.Sheet.{Sheet, printedPlan, earliestSlots, latestSlots, boundaries}
+use Rattle.sheet.specs.Sheet.{Sheet, printedPlan, looked, earliestSlots, latestSlots, boundaries}
 use Rattle.sheet.specs.Questions.{windowsOf, accepted}
 use Rattle.sheet.specs.Solved.{Solved}
 
@@ -18,8 +18,9 @@ pub record Ready (s : Sheet) (w : ℕ) (first last : List ℕ) (table : List ℤ
   pub room : w * w ≤ length table
   pub solved : Solved s (entry w table)
 
--- what seating and narrowing leave
-pub record PlanFilled (s : Sheet) (plan earliest latest planAfter earliestAfter latestAfter : List ℕ) : Type 0 where
+-- what seating and narrowing leave, and how many units seating looked at
+pub record PlanFilled (s : Sheet) (plan earliest latest : List ℕ) (looks : ℕ) (planAfter earliestAfter latestAfter : List ℕ) : Type 0 where
+  pub seen : looks ≡ looked s
   pub seats : planAfter ≡ printedPlan s ++ drop (length (s .units)) plan
   pub early : earliestAfter ≡ earliestSlots s ++ drop (length (s .units)) earliest
   pub late : latestAfter ≡ latestSlots s ++ drop (length (s .units)) latest

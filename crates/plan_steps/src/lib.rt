@@ -3,7 +3,7 @@ ghost use mathlib.Core.List.{_++_};
 ghost use Prim.Native.Nat.{_≤_};
 ghost use lib.ListN.{length, drop};
 ghost use Rattle.network_pass.specs.Pass.{stopped};
-ghost use Rattle.sheet.specs.Sheet.{Sheet, printedPlan, boundaries};
+ghost use Rattle.sheet.specs.Sheet.{Sheet, printedPlan, looked, boundaries};
 ghost use Rattle.sheet.specs.Questions.{sheetOf};
 ghost use Rattle.limits.specs.LimitTable.{Fillable};
 ghost use Rattle.plan_steps.specs.Closing.{passed, Closed, RingFound};
@@ -29,13 +29,13 @@ pub fn close_limits(
     network_pass::pass(table, sheet::boundaries(span))
 }
 
-// The printed plan, from row 0 of the finished table.
-fn seat_units(w: usize, first: &[u16], last: &[u16], table: &[i16], plan: &mut [u16])
+// The printed plan, from row 0 of the finished table. Answers how many units were looked at.
+fn seat_units(w: usize, first: &[u16], last: &[u16], table: &[i16], plan: &mut [u16]) -> usize
     requires { ⌜ ((s : Sheet) × Ready s w (now first) (now last) (now table)) × (length (now first) ≤ length (now plan)) ⌝ }
-    ensures { λ _. ⌜ ((s : Sheet) → Ready s w (now (first .entry)) (now (last .entry)) (now (table .entry))
-        → now (plan .exit) ≡ printedPlan s ++ drop (length (now (first .entry))) (now (plan .entry))) ⌝ }
+    ensures { λ r. ⌜ ((s : Sheet) → Ready s w (now (first .entry)) (now (last .entry)) (now (table .entry))
+        → (now (plan .exit) ≡ printedPlan s ++ drop (length (now (first .entry))) (now (plan .entry))) × (r ≡ looked s)) ⌝ }
 {
-    plan_seats::seat(first, last, &table[0..w], plan);
+    plan_seats::seat(first, last, &table[0..w], plan)
 }
 
 // A ring of the sheet's own limits, where the pass has stopped: its length. The table's places are 0 again after it.
@@ -64,7 +64,7 @@ pub fn find_ring(
     n
 }
 
-// Seats and narrowed windows, from the finished table.
+// Seats and narrowed windows, from the finished table. Answers how many units seating looked at.
 pub fn fill_plan(
     w: usize,
     first: &[u16],
@@ -73,12 +73,13 @@ pub fn fill_plan(
     plan: &mut [u16],
     earliest: &mut [u16],
     latest: &mut [u16],
-)
+) -> usize
     requires { ⌜ ((s : Sheet) × Ready s w (now first) (now last) (now table)) ⌝ }
     requires rooms { ⌜ (length (now first) ≤ length (now plan)) × (length (now first) ≤ length (now earliest)) × (length (now first) ≤ length (now latest)) ⌝ }
-    ensures { λ _. ⌜ ((s : Sheet) → Ready s w (now (first .entry)) (now (last .entry)) (now (table .entry))
-        → PlanFilled s (now (plan .entry)) (now (earliest .entry)) (now (latest .entry)) (now (plan .exit)) (now (earliest .exit)) (now (latest .exit))) ⌝ }
+    ensures { λ r. ⌜ ((s : Sheet) → Ready s w (now (first .entry)) (now (last .entry)) (now (table .entry))
+        → PlanFilled s (now (plan .entry)) (now (earliest .entry)) (now (latest .entry)) r (now (plan .exit)) (now (earliest .exit)) (now (latest .exit))) ⌝ }
 {
-    seat_units(w, first, last, table, plan);
+    let looked = seat_units(w, first, last, table, plan);
     plan_windows::narrow(first, last, plan, table, w, earliest, latest);
+    looked
 }

@@ -13,7 +13,7 @@ use Rattle.plan_ask.specs.AskingLaws.{span-bound}
 use Rattle.plan_steps.specs.Closing.{passed}
 use Rattle.plan_steps.specs.Filling.{Ready}
 use Rattle.plan_solve.specs.Planning.{tableIn}
-use Rattle.plan_solve.specs.SolvingLaws.{limits-asked, seats-asked, ready, seats-left, none-seated, closed-table}
+use Rattle.plan_solve.specs.SolvingLaws.{limits-asked, seats-asked, ready, seats-left, looks-left, none-seated, none-looked, closed-table}
 use Rattle.plan_solve.proofs.seat.Statement.{statement}
 use Rattle.plan_solve.proofs.seat.Tie as tie
 
@@ -72,8 +72,11 @@ returns : tie.Need-returns
 returns c =
     let d = c .before .before .before in
     let st = start d in
-    none-seated (lists st) _ (st .pre) (room st) (holds st .0) (d .close-limits .result) (table d) (d .close-limits .ensures) (c .enum-told .given .1)
-    (st .args .plan .now) (st .args .earliest .now) (st .args .latest .now)
+    let stopped = c .enum-told .given .1 in (
+      none-seated (lists st) _ (st .pre) (room st) (holds st .0) (d .close-limits .result) (table d) (d .close-limits .ensures) stopped
+          (st .args .plan .now) (st .args .earliest .now) (st .args .latest .now),
+      none-looked (lists st) _ (st .pre) (room st) (holds st .0) (d .close-limits .result) (table d) (d .close-limits .ensures) stopped,
+    )
 
 returns-2 : tie.Need-returns-2
 returns-2 c =
@@ -82,10 +85,10 @@ returns-2 c =
     let d = closed (b .before) in
     let st = start d in
     let f = front (b .before) in
-    seats-left (lists st) _ (st .pre) (room st) (holds st .0) (f .0) (f .1) (table d) (f .2)
-    (st .args .plan .now) (st .args .earliest .now) (st .args .latest .now)
-    (p .fill-plan .last .1 .1 .1 .1 .0) (p .fill-plan .last .1 .1 .1 .1 .1 .0) (p .fill-plan .last .1 .1 .1 .1 .1 .1 .0)
-    (p .fill-plan .ensures (given (lists st)) (units-ready b))
+    let filled = p .fill-plan .ensures (given (lists st)) (units-ready b) in (
+      seats-left (lists st) _ (st .pre) (room st) (holds st .0) (f .0) (f .1) (table d) (f .2) _ _ _ _ _ _ _ filled,
+      looks-left (lists st) _ (st .pre) (room st) (holds st .0) (f .0) (f .1) (table d) (f .2) _ _ _ _ _ _ _ filled,
+    )
 
 pub seat-spec : {M : Type 1} → statement M
 seat-spec = tie.close (tie.spec close-limits-requires (λ c. c .match .keys1) (λ c. c .match .keys2)

@@ -104,7 +104,7 @@ returns-2 c =
     let st = start d in
     let f = front (b .before) in
     plan-left (lists st) _ (st .pre) (room st) (holds st .0) (f .0) (f .1) (table d) (f .2)
-    (st .args .plan .now) (st .args .earliest .now) (st .args .latest .now)
+    (st .args .plan .now) (st .args .earliest .now) (st .args .latest .now) (p .fill-plan .result)
     (p .fill-plan .last .1 .1 .1 .1 .0) (p .fill-plan .last .1 .1 .1 .1 .1 .0) (p .fill-plan .last .1 .1 .1 .1 .1 .1 .0)
     (p .fill-plan .ensures (given (lists st)) (units-ready b)) (ring st) (ringLeft d) (f .3)
 

@@ -9,7 +9,7 @@ narrow-requires c κs =
     let p = c .before .before .before .before .before .before .before .before .before .before .before .before .pre in
     let u = c .before .before .before .before .before .seat-units in
     let s = p .0 .0 in
-    let N = narrowable s (a .w) (a .first .now) (a .last .now) (a .table .now) (p .0 .1) (a .plan .now) (u .last .1 .1 .1 .1 .0) (u .ensures s (p .0 .1)) in
+    let N = narrowable s (a .w) (a .first .now) (a .last .now) (a .table .now) (p .0 .1) (a .plan .now) (u .last .1 .1 .1 .1 .0) (u .ensures s (p .0 .1) .0) in
     ((s, N), (p .1 .1, p .1 .2))
 
 returns : tie.Need-returns
@@ -17,9 +17,10 @@ returns c s R =
     let a = c .before .before .before .before .before .before .before .before .before .before .before .before .before .before .before .before .before .args in
     let u = c .before .before .before .before .before .before .before .before .before .before .seat-units in
     let n = c .before .before .before .before .narrow in
-    let N = narrowable s (a .w) (a .first .now) (a .last .now) (a .table .now) R (a .plan .now) (u .last .1 .1 .1 .1 .0) (u .ensures s R) in
+    let N = narrowable s (a .w) (a .first .now) (a .last .now) (a .table .now) R (a .plan .now) (u .last .1 .1 .1 .1 .0) (u .ensures s R .0) in
     record {
-      seats = seats-are s (a .w) (a .first .now) (a .last .now) (a .table .now) R (a .plan .now) (u .last .1 .1 .1 .1 .0) (u .ensures s R);
+      seen = u .ensures s R .1;
+      seats = seats-are s (a .w) (a .first .now) (a .last .now) (a .table .now) R (a .plan .now) (u .last .1 .1 .1 .1 .0) (u .ensures s R .0);
       early = n .ensures .0 s N;
       late = n .ensures .1 s N;
     }
