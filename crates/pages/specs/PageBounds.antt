@@ -1,8 +1,7 @@
 -- No answer page of an accepted sheet with loader numbers is longer than maxPage, so a page of that length never refuses one.
 -- Key idea: a line is no longer than its form's words and so many digits (`line-short`), and a page no longer than so many lines.
 use mathlib.Core.Path.{_≡_, refl, ap}
-use mathlib.Core.Logic.{_⊎_, inl, inr, ⊎-elim}
-use mathlib.Core.Bool.{_&&_}
+use mathlib.Core.Logic.{⊎-elim}
 use mathlib.Core.List.{List, [], _∷_, map, List·Memᴰ·head, List·Memᴰ·tail, List·Memᴰ·not-nil, List·Memᴰ·cases-cons}
 use Prim.Native.Nat.{ℕ, zero, suc, _+_, _-_, _*_, _≤_, _<_}
 use native.Mathlib.Omega.{arith}
@@ -13,7 +12,7 @@ use lib.ListN.{length, getD, length-append, List·getD-eq-default}
 use lib.IntN.{ℤ, _+ℤ_}
 use Rattle.integers.specs.Parts.{up, dn, sum, neg, apart}
 use Rattle.lists.specs.Lists.{run, fromTo, within, joined, least, greatest}
-use Rattle.lists.specs.Members.{In, in-keep, in-map}
+use Rattle.lists.specs.Members.{In, in-map}
 use Rattle.lists.specs.Extremes.{least-in, greatest-in}
 use Rattle.lists.specs.Counts.{howMany-most}
 use Rattle.network.specs.Network.{Weights, via}
@@ -21,8 +20,9 @@ use Rattle.network.specs.NetworkLaws.{Upto, distinct-length, cycle-read}
 use Rattle.network.specs.Table.{maxBoundaries}
 use Rattle.sheet.specs.Sizes.{maxSlots, maxUnits, maxCount, maxLoader, carriedPlace, topOf}
 use Rattle.sheet.specs.Sheet.{Sheet, top, limit, isRing, countIn, lawfulPlans, leastIn, greatestIn, earliest, latest}
-use Rattle.sheet.specs.Sheet.{earliestSlots, latestSlots, soonest, fair, printedPlans, printedPlan, headOr}
+use Rattle.sheet.specs.Sheet.{earliestSlots, latestSlots, printedPlan}
 use Rattle.sheet.specs.PlanLaws.{in-lawfulPlans-iff}
+use Rattle.plans.specs.PrintedLaws.{printed-or-none}
 use Rattle.limits.specs.LimitTableLaws.{limit-small}
 use Rattle.sheet.specs.Questions.{accepted, loadersFit}
 use Rattle.sheet.specs.LoaderLaws.{loader-size}
@@ -179,19 +179,10 @@ module _ (s : Sheet) (ok : T (accepted s)) where
   count-small : (f t : ℕ) (x : List ℕ) → In x (lawfulPlans s) → countIn f t x ≤ maxUnits
   count-small f t x m = omega (arith, howMany-most (within f t) x, in-lawfulPlans-iff s x .0 m .seated .size, accepted-sized s ok .units)
 
-  -- the printed plan is lawful, or there is none
-  printed : (printedPlan s ≡ []) ⊎ In (printedPlan s) (lawfulPlans s)
-  unfolding printedPlan printedPlans
-  printed = go (printedPlans s) (λ x m. in-keep (λ plan. soonest s plan && fair s plan) x (lawfulPlans s) m .0)
-    where
-      go : (xs : List (List ℕ)) → ((x : List ℕ) → In x xs → In x (lawfulPlans s)) → (headOr [] xs ≡ []) ⊎ In (headOr [] xs) (lawfulPlans s)
-      go [] h = inl refl
-      go (x ∷ xs) h = inr (h x (List·Memᴰ·head refl))
-
   printed-few : length (printedPlan s) ≤ maxUnits
   printed-few =
       ⊎-elim (λ e. omega (arith, ap length e))
-      (λ m. omega (arith, in-lawfulPlans-iff s (printedPlan s) .0 m .seated .size, accepted-sized s ok .units)) printed
+      (λ m. omega (arith, in-lawfulPlans-iff s (printedPlan s) .0 m .seated .size, accepted-sized s ok .units)) (printed-or-none s)
 
   ranges-small : (t : ℕ) → (leastIn s t t ≤ maxUnits) × (greatestIn s t t ≤ maxUnits)
   unfolding leastIn greatestIn

@@ -1,7 +1,7 @@
 -- The user's three conditions, of seating from lists, in the words of lawful plans alone.
 -- `call` is what the entry `seat` ensures of every call: `SeatSettled`, in Planning.antt. `reply` is what its answer says (`seatReply`, in Reply.antt),
 -- `before` and `after` are the rooms lent, `s` the sheet in the lists.
-use mathlib.Core.Path.{_≡_, ap}
+use mathlib.Core.Path.{_≡_, refl, sym, ap, _∙_}
 use mathlib.Core.Logic.{_↔_}
 use mathlib.Core.Bool.{Bool}
 use Prim.Native.Nat.{ℕ}
@@ -9,11 +9,16 @@ use lib.Dec.{T}
 use lib.ListN.{length, take}
 use Rattle.network.specs.Table.{entry}
 use Rattle.questions.specs.Questions.{no, allYes}
-use Rattle.sheet.specs.Sheet.{Sheet, boundaries, lawful, fair, printedPlan}
+use Rattle.sheet.specs.Sheet.{Sheet, boundaries, lawful, fair, printedPlan, looked}
 use Rattle.sheet.specs.Lists.{WrittenLists, givenBy}
 use Rattle.plan_rooms.specs.Rooms.{SeatRooms, seatLent, roomsFit}
 use Rattle.plan_ask.specs.Questions.{refusalIn}
-use Rattle.plan_solve.specs.Planning.{conclusionIn, seated, unseated, SeatNone, SeatSettled}
+use Rattle.network_pass.specs.Pass.{Passed, finished, stopped}
+use Rattle.plans.specs.LookedLaws.{unlawful-looked}
+use Rattle.plan_steps.specs.Closing.{passed}
+use Rattle.plan_steps.specs.PassedLaws.{stopped-unlawful}
+use Rattle.plan_solve.specs.Planning.{byPass, conclusionIn, lookedBy, seated, unseated, SeatNone, SeatSettled}
+use Rattle.plan_solve.specs.ConclusionLaws.{looked-by}
 use Rattle.plan_solve.specs.Reply as says
 use Rattle.plan_solve.specs.Reply.{refusalOf}
 use Rattle.plan.specs.Statements.{SomeLawful, NoneLawful, AllEarliest, AllLatest, AllCounts, Soonest}
@@ -57,6 +62,20 @@ module _ (l : WrittenLists) (before : SeatRooms) (reply : says.Reply) (after : S
   -- None is said only where no plan is lawful.
   pub none-unlawful : (k : ℕ) → reply ≡ says.none k → NoneLawful s
   none-unlawful = all.none-unlawful (seated s) None l rooms before reply after call said
+
+  -- ---- How far it looked: `looks` is the number that its answer has (`looksTold`, in Reply.antt).
+  module _ (looks : ℕ) (counted : looks ≡ lookedBy (conclusionIn l (seatLent before)) s) where
+    by-pass : (p : Passed) → passed s ≡ p → lookedBy (byPass p) s ≡ looked s
+    by-pass (finished t) e = refl
+    by-pass stopped e = sym (unlawful-looked s (stopped-unlawful s e))
+
+    -- Of a sheet that is not refused it is the number that is defined without a search, which is 0 where no plan is lawful;
+    pub looked-as-defined : refusalIn l (seatLent before) ≡ allYes → looks ≡ looked s
+    looked-as-defined e = counted ∙ looked-by l rooms allYes e ∙ by-pass (passed s) refl
+
+    -- a call that is refused has looked at no unit.
+    pub refused-looks-at-none : (q n : ℕ) → refusalIn l (seatLent before) ≡ no q n → looks ≡ 0
+    refused-looks-at-none q n e = counted ∙ looked-by l rooms (no q n) e
 
   pub call-planned : reply ≡ says.plan → Planned (seated s) s before reply after
   call-planned = laws.call-planned (seated s) None l rooms before reply after call said

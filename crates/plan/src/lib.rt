@@ -1,12 +1,13 @@
 ghost use mathlib.Core.Path.{_≡_};
 ghost use Rattle.sheet.specs.Lists.{writtenLists, givenBy};
 ghost use Rattle.plan_rooms.specs.Rooms.{lent, decideRooms, seatRooms, decideLent, seatLent};
-ghost use Rattle.plan_solve.specs.Planning.{conclusion, conclusionIn, Settled, DecideSettled, SeatSettled};
-ghost use Rattle.plan_solve.specs.Reply.{replyOf, decisionReply, seatReply, fitReply, seatedReply};
+ghost use Rattle.plan_solve.specs.Planning.{conclusion, conclusionIn, lookedBy, Settled, DecideSettled, SeatSettled};
+ghost use Rattle.plan_solve.specs.Reply.{replyOf, decisionReply, seatReply, looksTold, fitReply, seatedReply, seatedLooks};
 use plan_solve::Answer;
 use plan_solve::Decision;
 use plan_solve::Fit;
 use plan_solve::SeatAnswer;
+use plan_solve::Seated;
 use questions::Checked;
 
 // What solving gives, as an answer.
@@ -28,14 +29,14 @@ fn decision_of(fit: Fit) -> Decision
     }
 }
 
-// Whether there is a plan, as seating's answer.
-fn seat_answer(seated: bool) -> SeatAnswer
-    ensures { λ r. ⌜ seatReply r ≡ seatedReply seated ⌝ }
+// What seating gives, as its answer.
+fn seat_answer(seated: Seated) -> SeatAnswer
+    ensures told { λ r. ⌜ seatReply r ≡ seatedReply seated ⌝ }
+    ensures looked { λ r. ⌜ looksTold r ≡ seatedLooks seated ⌝ }
 {
-    if seated {
-        SeatAnswer::Plan
-    } else {
-        SeatAnswer::None
+    match seated {
+        Seated::Plan(looked) => SeatAnswer::Plan(looked),
+        Seated::None => SeatAnswer::None,
     }
 }
 
@@ -120,8 +121,8 @@ pub fn decide(
     }
 }
 
-// Seats the units of a sheet in lists and narrows their windows. The questions come first, of these rooms alone. The table is worked out from the lists: what
-// its room holds before the call is not looked at.
+// Seats the units of a sheet in lists and narrows their windows, and counts the units that it looks at. The questions come first, of these rooms alone. The
+// table is worked out from the lists: what its room holds before the call is not looked at.
 pub fn seat(
     span: usize,
     loader: &[u16],
@@ -136,12 +137,17 @@ pub fn seat(
     earliest: &mut [u16],
     latest: &mut [u16],
 ) -> SeatAnswer
-    ensures { λ r.
+    ensures settled { λ r.
         let l = writtenLists span (now (loader .entry)) (now (first .entry)) (now (last .entry))
         (now (from .entry)) (now (to .entry)) (now (low .entry)) (now (high .entry)) in
         let before = seatRooms (now (table .entry)) (now (plan .entry)) (now (earliest .entry)) (now (latest .entry)) in
         ⌜ SeatSettled (conclusionIn l (seatLent before)) (givenBy l) before (seatReply r)
         (seatRooms (now (table .exit)) (now (plan .exit)) (now (earliest .exit)) (now (latest .exit))) ⌝ }
+    ensures looked { λ r.
+        let l = writtenLists span (now (loader .entry)) (now (first .entry)) (now (last .entry))
+        (now (from .entry)) (now (to .entry)) (now (low .entry)) (now (high .entry)) in
+        let before = seatRooms (now (table .entry)) (now (plan .entry)) (now (earliest .entry)) (now (latest .entry)) in
+        ⌜ looksTold r ≡ lookedBy (conclusionIn l (seatLent before)) (givenBy l) ⌝ }
 {
     let rooms = plan_rooms::for_seats(table, plan, earliest, latest);
     let asked = plan_ask::ask(span, loader, first, last, from, to, low, high, rooms);

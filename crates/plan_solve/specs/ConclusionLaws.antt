@@ -9,7 +9,7 @@ use Rattle.questions.specs.Questions.{Verdict, no, allYes}
 use Rattle.sheet.specs.Lists.{WrittenLists, givenBy}
 use Rattle.plan_ask.specs.Questions.{refusalBy}
 use Rattle.plan_steps.specs.Closing.{passed}
-use Rattle.plan_solve.specs.Planning.{Conclusion, byPass, concluding, conclusionBy, SettledBy}
+use Rattle.plan_solve.specs.Planning.{Conclusion, byPass, concluding, conclusionBy, lookedBy, SettledBy}
 use Rattle.plan_solve.specs.Reply as says
 
 -- whatever rooms the call asks for
@@ -17,6 +17,9 @@ module _ (l : WrittenLists) (rooms : Bool) where
   pub concludes : (v : Verdict) → refusalBy l rooms ≡ v → conclusionBy l rooms ≡ concluding v (passed (givenBy l))
   unfolding conclusionBy
   concludes v e = ap (λ (x : Verdict). concluding x (passed (givenBy l))) e
+
+  pub looked-by : (v : Verdict) → refusalBy l rooms ≡ v → lookedBy (conclusionBy l rooms) (givenBy l) ≡ lookedBy (concluding v (passed (givenBy l))) (givenBy l)
+  looked-by v e = ap (λ (c : Conclusion). lookedBy c (givenBy l)) (concludes v e)
 
   -- and whatever it leaves in them
   module _ {R : Type 0} (planned : List ℤ → R → R) (None : R → says.Reply → R → Type 0) (before : R) where

@@ -2,7 +2,7 @@
 -- Key idea: a plan that is lawful, soonest and fair is a complete seating, and two of these with the same counts are equal (UniquenessLaws). Row 0 of the
 -- finished table has the greatest counts, so the plan seated from it is such a plan.
 use mathlib.Core.Path.{_≡_, refl, sym, ap, _∙_, subst}
-use mathlib.Core.Logic.{⊎-elim}
+use mathlib.Core.Logic.{_⊎_, inl, inr, ⊎-elim}
 use mathlib.Core.Bool.{_&&_}
 use mathlib.Core.List.{List, [], _∷_, List·Memᴰ·head, List·Memᴰ·not-nil}
 use Prim.Native.Nat.{ℕ, _≤_, _<_}
@@ -59,6 +59,15 @@ pub printedPlans-in : (s : Sheet) (x : List ℕ) → Printed s x → In x (print
 unfolding printedPlans
 printedPlans-in s x h = keep-in (λ plan. soonest s plan && fair s plan) x (lawfulPlans s) (in-lawfulPlans s x .1 (h .legal))
     (both (soonest s x) (fair s x) (soonest-make s x (h .early)) (h .order))
+
+-- the printed plan is lawful, or there is none
+pub printed-or-none : (s : Sheet) → (printedPlan s ≡ []) ⊎ In (printedPlan s) (lawfulPlans s)
+unfolding printedPlan printedPlans
+printed-or-none s = go (printedPlans s) (λ x m. in-keep (λ plan. soonest s plan && fair s plan) x (lawfulPlans s) m .0)
+  where
+    go : (xs : List (List ℕ)) → ((x : List ℕ) → In x xs → In x (lawfulPlans s)) → (headOr [] xs ≡ []) ⊎ In (headOr [] xs) (lawfulPlans s)
+    go [] h = inl refl
+    go (x ∷ xs) h = inr (h x (List·Memᴰ·head refl))
 
 module _ (s : Sheet) (ok : Valid s) where
   seats : (x : List ℕ) → T (lawful s x) → Seated (s .units) x

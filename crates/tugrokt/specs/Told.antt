@@ -7,7 +7,7 @@ use Rattle.forms.specs.declared.House.{House}
 use Rattle.sheet.specs.Sheet.{Sheet}
 use Rattle.sheet.specs.Lists.{WrittenLists}
 use Rattle.plan_rooms.specs.Rooms.{Rooms, DecideRooms, SeatRooms}
-use Rattle.plan_solve.specs.Planning.{Conclusion, Settled, DecideSettled, SeatSettled}
+use Rattle.plan_solve.specs.Planning.{Conclusion, lookedBy, Settled, DecideSettled, SeatSettled}
 use Rattle.plan_solve.specs.Reply as planning
 use Rattle.print_answer.specs.Printing as print
 use Rattle.print_answer.specs.Reply as printing
@@ -38,7 +38,7 @@ pub record DecideTold (v : Conclusion) (s : Sheet) (before : DecideRooms) (numbe
 pub record SeatTold (v : Conclusion) (s : Sheet) (before : SeatRooms) (numbers : Seating) (after : SeatRooms) : Type 0 where
   pub reply : planning.Reply
   pub left : SeatSettled v s before reply after
-  pub told : numbers ≡ seatingOf reply
+  pub told : numbers ≡ seatingOf (lookedBy v s) reply
 
 pub record PrintTold (l : WrittenLists) (before : Rooms) (page : List ℕ) (at : ℕ) (numbers : Printing) (after : Rooms) (left : List ℕ) : Type 0 where
   pub reply : printing.Reply

@@ -20,11 +20,11 @@ planningOf (planning.refused q n) = record { number = q; line = n; length = 0 }
 planningOf planning.plan = record { number = 0; line = 0; length = 0 }
 planningOf (planning.none k) = record { number = 0; line = 0; length = k }
 
--- seating: 1 for a plan, and 0 for none, whose reply has no ring
-abbrev pub seatingOf : planning.Reply → Seating
-seatingOf (planning.refused q n) = record { number = q; line = n; planned = 0 }
-seatingOf planning.plan = record { number = 0; line = 0; planned = 1 }
-seatingOf (planning.none k) = record { number = 0; line = 0; planned = 0 }
+-- seating, which looked at so many units: 1 for a plan, and 0 for none, whose reply has no ring
+abbrev pub seatingOf : ℕ → planning.Reply → Seating
+seatingOf looks (planning.refused q n) = record { number = q; line = n; planned = 0; looked = looks }
+seatingOf looks planning.plan = record { number = 0; line = 0; planned = 1; looked = looks }
+seatingOf looks (planning.none k) = record { number = 0; line = 0; planned = 0; looked = looks }
 
 -- the place of a refusal is the one that was given
 abbrev pub printingOf : ℕ → printing.Reply → Printing

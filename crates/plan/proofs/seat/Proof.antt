@@ -1,12 +1,12 @@
 -- The questions decide, or what seating a sheet that passed them leaves.
-use mathlib.Core.Path.{_≡_, refl, ap}
+use mathlib.Core.Path.{_≡_, refl, sym, ap, _∙_}
 use Rattle.questions.specs.Questions.{Verdict, allYes, verdictOf}
 use Rattle.sheet.specs.Lists.{WrittenLists, writtenLists, givenBy}
 use Rattle.plan_rooms.specs.Rooms.{SeatRooms, seatRooms, seatLent}
 use Rattle.plan_ask.specs.Questions.{refusalIn}
 use Rattle.plan_ask.specs.SolvableLaws.{asked-yes, asked-of}
 use Rattle.plan_solve.specs.Planning.{seated, SeatNone}
-use Rattle.plan_solve.specs.ConclusionLaws.{refused-settled, solved-settled}
+use Rattle.plan_solve.specs.ConclusionLaws.{refused-settled, solved-settled, looked-by}
 use Rattle.plan_solve.specs.Reply.{seatReply, seatedReply}
 use Rattle.plan.proofs.seat.Statement.{statement}
 use Rattle.plan.proofs.seat.Tie as tie
@@ -42,16 +42,22 @@ returns c =
     let d : tie.After-ask = c .before .before .before in
     let f = c .before .asked .given in
     let l = lists (start d) in
-    refused-settled l _ (seated (givenBy l)) (SeatNone (givenBy l)) (before (start d))
-    (f .0 .0 .number) (f .0 .0 .line) (verdict d _ (ap verdictOf (f .1)))
+    let v = verdict d _ (ap verdictOf (f .1)) in (
+      refused-settled l _ (seated (givenBy l)) (SeatNone (givenBy l)) (before (start d)) (f .0 .0 .number) (f .0 .0 .line) v,
+      sym (looked-by l _ _ v),
+    )
 
 returns-2 : tie.Need-returns-2
 returns-2 c =
     let r = c .before .before .before .before .before .before .before .before in
     let p : tie.After-enum-told = r .before .before .before .before .before in
     let l = lists (asked p) in
-    solved-settled l _ (seated (givenBy l)) (SeatNone (givenBy l)) (before (asked p)) (yes p)
-    (seatReply (c .seat-answer .result)) (seatedReply (r .seat .result)) (c .seat-answer .ensures) _ (r .seat .ensures)
+    let told = c .seat-answer .ensures in
+    let left = r .seat .ensures in (
+      solved-settled l _ (seated (givenBy l)) (SeatNone (givenBy l)) (before (asked p)) (yes p)
+          (seatReply (c .seat-answer .result)) (seatedReply (r .seat .result)) (told .0) _ (left .0),
+      told .1 ∙ left .1 ∙ sym (looked-by l _ _ (yes p)),
+    )
 
 pub seat-spec : {M : Type 1} → statement M
 seat-spec = tie.close (tie.spec (λ c κs. tt) (λ c κs. tt) (λ c. c .match .keys1) (λ c. c .match .keys2) seat-requires (λ c κs. tt)
