@@ -185,7 +185,6 @@ pub room-seated : (first last : List ℕ) (counts : List ℤ) (k : ℕ) (order r
 unfolding seatsFrom
 room-seated first last counts k order result plan e f g = rw (g, f, e) refl
 
-
 pub room-looked : (first last : List ℕ) (counts : List ℤ) (order : List ℕ) (l : ℕ) → order ≡ replicate (length first) 0
     → l ≡ looksBy first counts (seatOrder last order) → l ≡ looksFrom first last counts
 unfolding looksFrom

@@ -50,10 +50,13 @@ module _ (s : Sheet) (last : ℕ → ℕ) (closes : (j : ℕ) → j < length (s 
 none-there : (s : Sheet) (t : ℕ) → 1 ≤ t → lastPlace s [] t ≡ 0
 none-there s t h =
     let has : ℕ → Bool = (λ j. eqb (getD [] j 0) t) in
-    omega (arith, greatest-below 0 (map (placeOf s) (keep has (unitPlaces s))) (λ x m.
-    let j = in-map (placeOf s) x (keep has (unitPlaces s)) m in
-    let seat = eqb→eq (getD [] (j .0) 0) t (in-keep has (j .0) (unitPlaces s) (j .1) .1) in
-    absurd (omega (arith, seat, List·getD-eq-default {A = ℕ} [] 0 {n = j .0} (omega arith)))))
+    omega (
+      arith,
+      greatest-below 0 (map (placeOf s) (keep has (unitPlaces s))) (λ x m.
+          let j = in-map (placeOf s) x (keep has (unitPlaces s)) m in
+          let seat = eqb→eq (getD [] (j .0) 0) t (in-keep has (j .0) (unitPlaces s) (j .1) .1) in
+          absurd (omega (arith, seat, List·getD-eq-default {A = ℕ} [] 0 {n = j .0} (omega arith)))),
+    )
 
 sum-none : (f : ℕ → ℕ) (a k : ℕ) → ((t : ℕ) → a ≤ t → f t ≡ 0) → sumOf (map f (run a k)) ≡ 0
 sum-none f a zero e = refl

@@ -9,7 +9,7 @@ use Rattle.tugrokt.proofs.seating.tugrokt_seat.Tie as tie
 
 returns : tie.Need-returns
 returns c =
-    let called = c .before .before .before .before .before .before .before .before .before .seat in
+    let called = c .before .before .before .before .before .before .before .before .seat in
     record {
       reply = seatReply (called .result);
       left = called .ensures .0;
