@@ -81,6 +81,7 @@ struct tugrokt_seating {
     size_t number;
     size_t line;
     size_t planned; /* 1 for a plan; 0 for none, and where the call was refused */
+    size_t looked;  /* how many units seating looked at; 0 for none, and where the call was refused */
 };
 
 struct tugrokt_printing {
@@ -151,6 +152,8 @@ struct tugrokt_planning tugrokt_decide(
  * Seats the units of a sheet that fits and narrows their windows. The table is worked out from the lists again, whatever it held.
  * With a plan, table, plan, earliest and latest are as tugrokt_plan leaves them. With none, the w*w places of table are 0, and plan,
  * earliest and latest are unchanged; there is no ring.
+ * looked comes from lists and plan alone. Order all units by last, and those with the same last as they stand in the lists: each slot in
+ * which the plan seats units, the carried place among them, adds the place in that order, from 1, of the last of its units.
  * Rooms needed: w*w places in table, with w = span + 2, and one for each unit in the others.
  */
 struct tugrokt_seating tugrokt_seat(

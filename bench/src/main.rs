@@ -5,6 +5,7 @@
 //!     cargo run --release -- --list              the names of the cases
 //!     cargo run --release -- --jobs              the names of the jobs
 //!     cargo run --release -- --sheets CASE       how many sheets a case has
+//!     cargo run --release -- --looks CASE..      how many units the planner's seating looks at, beside looking at all for each slot
 //!     cargo run --release -- --count CASE SIDE JOB N     does one job N times and prints nothing, for an instruction counter
 //!
 //! Both sides get the same texts and lists. The planner's rooms and page are made once and lent again and again without being
@@ -51,8 +52,8 @@ trait Side {
     fn run(&mut self, case: &Case, job: Job);
     fn answer(&mut self, sheet: &plain::Sheet) -> plain::Answer;
     fn decision(&mut self, sheet: &plain::Sheet) -> plain::Decision;
-    /// The answer with a plan, or nothing.
-    fn seats(&mut self, sheet: &plain::Sheet) -> Option<plain::Answer>;
+    /// The answer with a plan and the number of units that seating looked at, or nothing.
+    fn seats(&mut self, sheet: &plain::Sheet) -> Option<(plain::Answer, usize)>;
     fn page(&mut self, text: &[u8]) -> Vec<u8>;
     /// A partner's text, read and written again.
     fn written_again(&mut self, text: &[u8]) -> Vec<u8>;
@@ -88,7 +89,7 @@ impl Side for Plain {
         plain::decide(sheet)
     }
 
-    fn seats(&mut self, sheet: &plain::Sheet) -> Option<plain::Answer> {
+    fn seats(&mut self, sheet: &plain::Sheet) -> Option<(plain::Answer, usize)> {
         assert_eq!(plain::refusal(sheet), 0, "the cases are sheets");
         plain::seat(sheet)
     }
@@ -179,11 +180,12 @@ mod planner {
             reply.length
         }
 
-        fn seat(&mut self, sheet: &plain::Sheet) -> bool {
+        /// The number of units that were looked at, with a plan.
+        fn seat(&mut self, sheet: &plain::Sheet) -> Option<usize> {
             let [plan, earliest, latest] = &mut self.rooms;
             let reply = entry::seat(lists(sheet), SeatRooms { table: &mut self.table, plan, earliest, latest });
             assert_eq!(reply.number, 0, "the cases are sheets");
-            reply.planned == 1
+            (reply.planned == 1).then_some(reply.looked)
         }
 
         /// The front of the table for this sheet.
@@ -251,8 +253,8 @@ mod planner {
             plain::Decision::Fits { table: self.table(sheet) }
         }
 
-        fn seats(&mut self, sheet: &plain::Sheet) -> Option<plain::Answer> {
-            self.seat(sheet).then(|| self.planned(sheet))
+        fn seats(&mut self, sheet: &plain::Sheet) -> Option<(plain::Answer, usize)> {
+            self.seat(sheet).map(|looked| (self.planned(sheet), looked))
         }
 
         fn page(&mut self, text: &[u8]) -> Vec<u8> {
@@ -302,7 +304,8 @@ fn measure(case: &Case, sides: &mut [(&'static str, Box<dyn Side>)]) -> Vec<Vec<
     least
 }
 
-/// Both sides give the same answer and print the same page, or show different rings of one sheet; and each decides and seats as it plans.
+/// Both sides give the same answer and print the same page, or show different rings of one sheet; each decides and seats as it plans, and both
+/// look at as many units.
 fn compare(case: &Case, sides: &mut [(&'static str, Box<dyn Side>)]) {
     for (i, sheet) in case.sheets.iter().enumerate() {
         let answers: Vec<plain::Answer> = sides.iter_mut().map(|side| side.1.answer(sheet)).collect();
@@ -315,6 +318,7 @@ fn compare(case: &Case, sides: &mut [(&'static str, Box<dyn Side>)]) {
             let text = &case.partner_texts[i];
             assert!(side.written_again(text) == *text, "{}: the {name} writes another text of a partner's sheet {i}", case.name);
         }
+        let mut looked = Vec::new();
         for (answer, (name, side)) in answers.into_iter().zip(sides.iter_mut()) {
             let decision = match &answer {
                 plain::Answer::Plan { table, .. } => plain::Decision::Fits { table: table.clone() },
@@ -322,9 +326,24 @@ fn compare(case: &Case, sides: &mut [(&'static str, Box<dyn Side>)]) {
             };
             assert_eq!(side.decision(sheet), decision, "{}: what the {name} decides of sheet {i}", case.name);
             let planned = matches!(answer, plain::Answer::Plan { .. }).then_some(answer);
-            assert_eq!(side.seats(sheet), planned, "{}: how the {name} seats sheet {i}", case.name);
+            let (seated, looks) = side.seats(sheet).unzip();
+            assert_eq!(seated, planned, "{}: how the {name} seats sheet {i}", case.name);
+            looked.push(looks);
         }
+        assert_eq!(looked[0], looked[1], "{}: how many units the two sides look at in sheet {i}", case.name);
     }
+}
+
+/// How many units seating looks at in all sheets of a case, none where there is no plan, and how many it would if it looked at all for each
+/// slot and for the carried place.
+fn looks(case: &Case, side: &mut dyn Side) -> (usize, usize) {
+    let looked = case.sheets.iter().map(|sheet| side.seats(sheet).map_or(0, |(_, looked)| looked)).sum();
+    (looked, case.sheets.iter().map(|sheet| sheet.first.len() * (sheet.span + 1)).sum())
+}
+
+/// The cases that are named by the start of their names, or all.
+fn chosen(words: &[String]) -> impl Iterator<Item = &'static str> + '_ {
+    cases::NAMES.into_iter().filter(|name| words.is_empty() || words.iter().any(|w| name.starts_with(w.as_str())))
 }
 
 fn main() {
@@ -334,6 +353,17 @@ fn main() {
         Some("--list") => cases::NAMES.iter().for_each(|name| println!("{name}")),
         Some("--jobs") => JOBS.iter().for_each(|job| println!("{}", job.1)),
         Some("--sheets") => println!("{}", cases::make(&words[1]).sheets.len()),
+        Some("--looks") => {
+            println!("{:14} {:>12} {:>12} {:>7}", "looks", "seating", "all units", "ratio");
+            for name in chosen(&words[1..]) {
+                let case = cases::make(name);
+                compare(&case, &mut sides);
+                let (looked, all) = looks(&case, sides[0].1.as_mut());
+                // The smallest sheet has no unit to look at.
+                let ratio = if all == 0 { "-".into() } else { format!("{:.2}", looked as f64 / all as f64) };
+                println!("{name:14} {looked:12} {all:12} {ratio:>7}");
+            }
+        }
         Some("--count") => {
             let [_, name, side, job, times] = &words[..] else { panic!("--count CASE SIDE JOB N") };
             let case = cases::make(name);
@@ -345,8 +375,7 @@ fn main() {
         }
         _ => {
             println!("{:14} {:7} {:>12} {:>12} {:>7} {:>7}", "nanoseconds", "job", sides[0].0, "plain", "ratio", "of plan");
-            let chosen = |name: &&&str| words.is_empty() || words.iter().any(|w| name.starts_with(w.as_str()));
-            for name in cases::NAMES.iter().filter(chosen) {
+            for name in chosen(&words) {
                 let case = cases::make(name);
                 compare(&case, &mut sides);
                 let least = measure(&case, &mut sides);

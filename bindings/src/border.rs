@@ -39,6 +39,8 @@ pub struct Seating {
     pub line: usize,
     /// 1 for a plan, and 0 for none.
     pub planned: usize,
+    /// How many units seating looked at, and 0 for none.
+    pub looked: usize,
 }
 
 /// What printing replies.

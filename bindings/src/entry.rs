@@ -176,7 +176,8 @@ pub fn decide(lists: Lists, rooms: DecideRooms) -> Planning {
     }
 }
 
-/// Seats the units of a sheet that fits and narrows their windows, with the table worked out from the lists again.
+/// Seats the units of a sheet that fits and narrows their windows, with the table worked out from the lists again. The reply says how many
+/// units it looked at (see [`crate::Seated::looked`]).
 pub fn seat(lists: Lists, rooms: SeatRooms) -> Seating {
     let Lists { span, loader, first, last, from, to, low, high } = lists;
     let SeatRooms { table, plan, earliest, latest } = rooms;

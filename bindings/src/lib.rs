@@ -179,6 +179,16 @@ impl Plan {
     }
 }
 
+/// What seating gives a sheet that fits.
+#[derive(Clone, Debug, PartialEq, Eq)]
+pub struct Seated {
+    /// The plan that [`Sheet::plan`] gives.
+    pub plan: Plan,
+    /// How many units seating looked at. Order all units by closing slot, and those that close in one slot by line: each slot that has units
+    /// in the plan, the carried place among them, adds the place in that order, from 1, of the last of its units.
+    pub looked: usize,
+}
+
 impl Sheet {
     /// A sheet with this many slots, no units and no rules.
     pub fn new(span: usize) -> Sheet {
@@ -262,8 +272,8 @@ impl Sheet {
         Ok(if reply.length > 0 { Decision::None { ring: own.into_ring(reply.length) } } else { Decision::Fits(Counts { table: own.table, span: self.span }) })
     }
 
-    /// Seats the units of a sheet that fits: the plan that [`Sheet::plan`] gives, or nothing where no plan is lawful, and no ring is looked
-    /// for.
+    /// Seats the units of a sheet that fits: the plan that [`Sheet::plan`] gives, with the number of units that were looked at, or nothing
+    /// where no plan is lawful, and no ring is looked for.
     ///
     /// ```
     /// # fn main() -> Result<(), tugrokt::Refusal> {
@@ -271,18 +281,21 @@ impl Sheet {
     /// sheet.add_unit(4017, 1, 2);
     /// sheet.add_unit(212, 1, 1);
     /// sheet.add_rule(1, 1, 0, 1);
-    /// assert_eq!(sheet.seat()?.map(|plan| plan.slot), Some(vec![2, 1]));
+    /// let seated = sheet.seat()?.expect("the sheet fits");
+    /// assert_eq!(seated.plan.slot, [2, 1]);
+    /// // The second unit closes first: slot 1 ends with the first unit in that order, slot 2 with the second.
+    /// assert_eq!(seated.looked, 1 + 2);
     /// sheet.add_rule(1, 2, 0, 1);
     /// assert_eq!(sheet.seat()?, None);
     /// # Ok(())
     /// # }
     /// ```
-    pub fn seat(&self) -> Result<Option<Plan>, Refusal> {
+    pub fn seat(&self) -> Result<Option<Seated>, Refusal> {
         let mut own = OwnRooms::new(self);
         let OwnRooms { table, plan, earliest, latest, .. } = &mut own;
         let reply = entry::seat(self.lists(), entry::SeatRooms { table, plan, earliest, latest });
         unless_refused(reply.number, reply.line)?;
-        Ok((reply.planned == 1).then(|| own.into_plan(self.span)))
+        Ok((reply.planned == 1).then(|| Seated { plan: own.into_plan(self.span), looked: reply.looked }))
     }
 
     /// Plans the sheet and prints the answer page.

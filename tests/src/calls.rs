@@ -111,10 +111,11 @@ pub enum Reply {
 }
 
 impl Reply {
-    fn expected(call: Call, number: usize, planned: bool, length: usize) -> Reply {
+    /// With a plan there is a number of looks, and with a ring its length.
+    fn expected(call: Call, number: usize, looked: Option<usize>, length: usize) -> Reply {
         match call {
             Call::Plan | Call::Decide => Reply::Planning(Planning { number, line: 0, length }),
-            Call::Seat => Reply::Seating(Seating { number, line: 0, planned: planned as usize }),
+            Call::Seat => Reply::Seating(Seating { number, line: 0, planned: looked.is_some() as usize, looked: looked.unwrap_or(0) }),
         }
     }
 
@@ -169,8 +170,8 @@ pub fn called_fault(call: Call, lists: &Lists, before: &Rooms, solved: Option<&S
             Ok(ring) => (ring.len(), before.clone().with_none(call, &sheet, ring)),
         }
     };
-    let planned = number == 0 && solved.is_some();
-    differ("reply", &called.reply, &Reply::expected(call, number, planned, length)).or_else(|| rooms_fault(&called.rooms, &expected))
+    let looked = solved.filter(|_| number == 0).map(|solved| lists.sheet().looked(&solved.plan));
+    differ("reply", &called.reply, &Reply::expected(call, number, looked, length)).or_else(|| rooms_fault(&called.rooms, &expected))
 }
 
 /// Plans, decides and seats in rooms that hold this before, and says what is wrong, against the model and of the calls against each other:

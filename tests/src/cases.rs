@@ -1,4 +1,4 @@
-//! P1 to P12, with their answers (docs/RULES.md, "Sheets to try").
+//! P1 to P12, with their answers (docs/RULES.md, "Sheets to try"), and sheets for which the looks of seating are counted by hand.
 
 use crate::sheet::Sheet;
 
@@ -66,6 +66,53 @@ pub fn all() -> Vec<Case> {
 /// The case of this name.
 pub fn named(name: &str) -> Case {
     all().into_iter().find(|case| case.name == name).expect("a case")
+}
+
+/// How many units seating looks at in P1 to P12: in P1 three slots end with the places 1, 2 and 3, in the others two with 1 and 2. P7 has no
+/// unit, and P4, P5 and P8 no plan.
+pub const LOOKED: [(&str, usize); 12] = [
+    ("P1", 6), ("P2", 3), ("P3", 3), ("P4", 0), ("P5", 0), ("P6", 3), ("P7", 0), ("P8", 0), ("P9", 3), ("P10", 3), ("P11", 3), ("P12", 3),
+];
+
+/// Sheets that tell a count of looks from those that are easily taken for it, each with its plan and its number. What is added up are the
+/// places of the last unit of each slot, in the order of all units by closing slot and then by line.
+pub fn looked_at() -> Vec<(&'static str, Sheet, Option<Vec<u16>>, usize)> {
+    // One unit for each of the slots 1 to 47, on the last line first, and 253 that open in slot 48, which takes all but one of them.
+    let falling: Vec<(u16, u16)> = (1..=300).map(|line: u16| ((301 - line).min(48), 49)).collect();
+    let furthest: Vec<u16> = (1..=300).map(|line| if line == 253 { 49 } else { (301 - line).min(48) }).collect();
+    vec![
+        // The order is 2, 3, 1: slot 1 ends with unit 3, in place 2, slot 2 with unit 1, in place 3. By line it would be 3 and 1.
+        ("closing slots go before lines", Sheet::new(3, &[(1, 3), (1, 1), (1, 1)], &[(1, 1, 0, 2)]), Some(vec![2, 1, 1]), 2 + 3),
+        // The order is that of the lines: slot 1 ends with unit 3, slot 2 with unit 2. By loader number, or with later lines first, it would be
+        // 1 and 3.
+        ("ties go by line", Sheet::new(3, &[(2, 3), (2, 3), (1, 3)], &[]).numbered(&[30, 20, 10]), Some(vec![2, 2, 1]), 3 + 2),
+        // Units 1 and 2 close first and open in slot 2: for slot 1 they are looked at too.
+        ("units that are not open yet", Sheet::new(3, &[(2, 2), (2, 2), (1, 3)], &[]), Some(vec![2, 2, 1]), 3 + 2),
+        // Slot 1 takes four, the others one each and pass those that are seated. Without these it would be 4, 1 and 1, and from 0 on 3, 4 and 5.
+        (
+            "units that are seated",
+            Sheet::new(3, &[(1, 3); 6], &[(1, 1, 0, 4), (2, 2, 0, 1)]),
+            Some(vec![1, 1, 1, 1, 2, 3]),
+            4 + 5 + 6,
+        ),
+        // The same with the last one carried: without the carried place it would be 4 and 5.
+        (
+            "the carried place",
+            Sheet::new(2, &[(1, 3); 6], &[(1, 1, 0, 4), (2, 2, 0, 1)]),
+            Some(vec![1, 1, 1, 1, 2, 3]),
+            4 + 5 + 6,
+        ),
+        // Neither slot takes a unit, and the carried place all three.
+        ("units that are all carried", Sheet::new(2, &[(1, 3); 3], &[(1, 2, 0, 0)]), Some(vec![3, 3, 3]), 3),
+        // The slots 1 and 3 take a unit each; 2 is shut and 4 not needed. A search for one of them would look at both units.
+        ("empty slots", Sheet::new(4, &[(1, 4), (2, 4)], &[(2, 2, 0, 0)]), Some(vec![1, 3]), 1 + 2),
+        // The order is 3, 1, 2: slot 1 ends with unit 3, slot 4 with unit 1, and unit 2 is carried.
+        ("empty slots before the carried place", Sheet::new(6, &[(4, 6), (4, 7), (1, 2)], &[(4, 6, 0, 1)]), Some(vec![4, 7, 1]), 1 + 2 + 3),
+        // 300, 299 down to 254, then 252 and 253: no sheet has more looks, since no unit is the last of two slots.
+        ("the most looks there can be", Sheet::new(48, &falling, &[(48, 48, 0, 252)]), Some(furthest), (252..=300).sum()),
+        ("no unit", Sheet::new(48, &[], &[(1, 48, 0, 0)]), Some(vec![]), 0),
+        ("none", Sheet::new(3, &[(1, 3); 3], &[(1, 3, 0, 2)]), None, 0),
+    ]
 }
 
 /// The cases whose pages are known byte for byte, with their pages.

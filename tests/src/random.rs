@@ -199,6 +199,29 @@ fn with_rules_around(r: &mut Random, span: usize, units: Vec<Unit>, k: usize, sl
     Sheet { span, units, rules }
 }
 
+/// A sheet whose windows close in at most three slots, so that lines settle most of the order by closing slot, with a rule on each slot around
+/// a plan: where these leave no room they shut the slots that it leaves empty.
+pub fn tied_sheet(r: &mut Random) -> Sheet {
+    let span = r.between(2, 12);
+    let n = r.below(2 * span);
+    let mut end = || if r.chance(50) { r.between(span, carried_place(span)) } else { r.between(1, span - 1) };
+    let ends = [end(), end(), end()];
+    let mut units: Vec<Unit> = Vec::new();
+    for loader in loaders(&mut r.beside(), n) {
+        let last = *r.pick(&ends);
+        let first = r.between(1, last.min(span));
+        units.push(Unit { loader, first: first as u16, last: last as u16 });
+    }
+    let plan = any_plan(r, &units);
+    let slack = r.chance(30) as usize;
+    let mut rules: Vec<Rule> = Vec::new();
+    for slot in 1..=span as u16 {
+        let room = if r.chance(5) { -1 } else { r.between(0, slack) as i64 };
+        rules.push(rule_around(&plan, (slot, slot), room, room));
+    }
+    Sheet { span, units, rules }
+}
+
 /// A sheet as in Chabert and Demassey, section 4: as many units and rules as slots, counts within one of an a priori plan's.
 pub fn paper_sheet(r: &mut Random, n: usize, reach: Reach) -> Sheet {
     let units = units(r, n, n, n, reach);

@@ -1,4 +1,4 @@
-//! Sheets, the limits of steps between boundaries, and rings, as docs/RULES.md defines them.
+//! Sheets, the limits of steps between boundaries, rings, and how many units seating looks at, as docs/RULES.md defines them.
 
 use crate::house::House;
 
@@ -155,6 +155,23 @@ impl Sheet {
         }
         let sum = self.ring_sum(ring);
         (sum >= 0).then(|| format!("the limits add up to {sum}"))
+    }
+
+    /// Each unit's place, from 1, in the order of all units by closing slot and then by line.
+    fn places(&self) -> Vec<usize> {
+        let mut order: Vec<usize> = (0..self.units.len()).collect();
+        order.sort_by_key(|&line| (self.units[line].last, line));
+        let mut places = vec![0; order.len()];
+        order.into_iter().zip(1..).for_each(|(line, place)| places[line] = place);
+        places
+    }
+
+    /// How many units seating looks at, where this is the printed plan: the sum, over the slots and the carried place, of the highest place
+    /// that one of their units has. Where none sits it is 0.
+    pub fn looked(&self, plan: &[u16]) -> usize {
+        let places = self.places();
+        let highest = |slot: usize| (0..plan.len()).filter(|&i| plan[i] as usize == slot).map(|i| places[i]).max().unwrap_or(0);
+        (1..=self.carried_place()).map(highest).sum()
     }
 
     /// The sheet in its text form, no notes.

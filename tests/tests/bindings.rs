@@ -27,15 +27,16 @@ fn document_cases() {
     }
 }
 
-/// Deciding and seating give what planning gives: the counts or the ring, the plan or nothing.
+/// Deciding and seating give what planning gives: the counts or the ring, the plan or nothing. With the plan comes the number of looks.
 #[test]
 fn decisions_and_seats() {
     for case in cases::all() {
         let sheet = Sheet::read(&case.sheet.text()).unwrap();
         match (sheet.plan().unwrap(), sheet.decide().unwrap(), sheet.seat().unwrap()) {
             (Answer::Plan(plan), Decision::Fits(counts), Some(seated)) => {
-                assert_eq!((&counts, &seated), (&plan.counts, &plan), "{}", case.name);
+                assert_eq!((&counts, &seated.plan), (&plan.counts, &plan), "{}", case.name);
                 let solved = enumerated::solve(&case.sheet).unwrap();
+                assert_eq!(seated.looked, case.sheet.looked(&solved.plan), "{}", case.name);
                 let w = case.sheet.boundaries();
                 for (first, last) in (1..w).flat_map(|first| (first..w).map(move |last| (first, last))) {
                     let range = (-solved.table[last * w + first - 1] as u16, solved.table[(first - 1) * w + last] as u16);
@@ -112,7 +113,9 @@ fn carried_units() {
     assert_eq!(sheet.page().unwrap(), cases::P12_PAGE.replace("unit 1 ", "unit 4017 ").replace("unit 2 ", "unit 12 ").as_bytes());
     let Decision::Fits(counts) = sheet.decide().unwrap() else { panic!("P12 fits") };
     assert_eq!([counts.range(1, 3), counts.range(4, 4), counts.range(3, 4), counts.range(1, 4)], [(1, 1), (1, 1), (1, 2), (2, 2)]);
-    assert!(sheet.seat().unwrap().unwrap().is_carried(1));
+    let seated = sheet.seat().unwrap().unwrap();
+    // One look for slot 1, and both units for the carried place.
+    assert_eq!((seated.plan.is_carried(1), seated.looked), (true, 1 + 2));
     sheet.add_unit(1, 4, 4);
     assert_eq!(sheet.plan(), Err(Refusal { question: 7, line: 0 }));
 }
@@ -257,7 +260,8 @@ fn replies_from_c() {
         let end = 7 + sheet.page().unwrap().len();
         let planned = format!("planning 0 0 {ring}");
         let decided = format!("deciding 0 0 {ring}");
-        let seated = format!("seating 0 0 {}", (ring == 0) as usize);
+        let looked = enumerated::solve(&case.sheet).map_or(0, |solved| case.sheet.looked(&solved.plan));
+        let seated = format!("seating 0 0 {} {looked}", (ring == 0) as usize);
         // Writing onto a page of this length, and what is read then.
         let wrote = |page: usize| {
             let again = format!("the same lists {numbers}");
@@ -287,14 +291,14 @@ fn replies_from_c() {
         }
         if units > 0 {
             // Deciding takes no room for units.
-            let [planned, seated, printed] = ["planning 12 0 0 unchanged", "seating 12 0 0 unchanged", "printing 12 0 0 7 unchanged"].map(str::to_string);
+            let [planned, seated, printed] = ["planning 12 0 0 unchanged", "seating 12 0 0 0 unchanged", "printing 12 0 0 7 unchanged"].map(str::to_string);
             assert_eq!(replies(&text, [units - 1, 7, end]), all([read, planned, decided, seated, printed], end), "{}", case.name);
         }
     }
     // A partner's text, which is no sheet of ours, is read last.
     let refused = |(number, line): (usize, usize), partner: &str| {
         let read = format!("reading {number} {line} 0 0 0 unchanged");
-        let [planned, decided, seated] = ["planning", "deciding", "seating"].map(|name| format!("{name} 6 0 0 unchanged"));
+        let [planned, decided, seated] = ["planning 6 0 0", "deciding 6 0 0", "seating 6 0 0 0"].map(|reply| format!("{reply} unchanged"));
         let theirs = format!("reading for the partner {partner}");
         let wrote = ["writing 6 0 3 unchanged".into(), theirs.clone(), "writing for the partner 6 0 3 unchanged".into(), theirs];
         [read, planned, decided, seated, "printing 6 0 0 3 unchanged".into()].into_iter().chain(wrote).collect::<Vec<String>>()

@@ -1,10 +1,10 @@
-//! Deciding and seating, through the border: what each asks of its rooms, and that neither believes what stands there. (`planning.rs` holds
-//! them to the model and to planning on all its sheets and refusals.)
+//! Deciding and seating, through the border: what each asks of its rooms, that neither believes what stands there, and how many units seating
+//! looks at. (`planning.rs` holds them to the model and to planning on all its sheets and refusals.)
 
 use model::calls::{called_fault, calls_fault, made, Reply, Rooms};
 use model::cases::{self, Says};
 use model::questions::{lists_refusal, refusal, Call, Lengths, Lists};
-use model::random::{any_sheet, largest_sheet, small_sheet, Random, Reach};
+use model::random::{any_sheet, largest_sheet, small_sheet, tied_sheet, Random, Reach};
 use model::sheet::{carried_place, Sheet, Solved, MAX_SLOTS, MAX_UNITS};
 use model::tally::{self, Tally, CARRIES, NONE, PLAN};
 use model::{computed, effort, enumerated, seed};
@@ -19,7 +19,7 @@ const NO_ROOM: Lengths = Lengths { table: 0, plan: 0, earliest: 0, latest: 0, ri
 
 #[test]
 fn document_cases() {
-    for case in cases::all() {
+    for (case, (_, looked)) in cases::all().into_iter().zip(cases::LOOKED) {
         let (lists, exact) = (Lists::from(&case.sheet), Lengths::exact(&case.sheet));
         let solved = enumerated::solve(&case.sheet);
         let before = Rooms::marked(&exact);
@@ -29,7 +29,7 @@ fn document_cases() {
             Says::Plan(slots, windows) => {
                 assert_eq!(decided.reply, Reply::Planning(Planning { number: 0, line: 0, length: 0 }), "{}", case.name);
                 assert_eq!(decided.rooms.ring, before.ring, "{}", case.name);
-                assert_eq!(seated.reply, Reply::Seating(Seating { number: 0, line: 0, planned: 1 }), "{}", case.name);
+                assert_eq!(seated.reply, Reply::Seating(Seating { number: 0, line: 0, planned: 1, looked }), "{}", case.name);
                 assert_eq!(seated.rooms.plan, slots, "{}", case.name);
                 let between: Vec<(u16, u16)> = seated.rooms.earliest.iter().copied().zip(seated.rooms.latest).collect();
                 assert_eq!(between, windows, "{}", case.name);
@@ -37,7 +37,7 @@ fn document_cases() {
             }
             Says::None(..) => {
                 assert!(matches!(decided.reply, Reply::Planning(Planning { number: 0, line: 0, length: 2.. })), "{}", case.name);
-                assert_eq!(seated.reply, Reply::Seating(Seating { number: 0, line: 0, planned: 0 }), "{}", case.name);
+                assert_eq!(seated.reply, Reply::Seating(Seating { number: 0, line: 0, planned: 0, looked: 0 }), "{}", case.name);
                 let cleared = Rooms { table: vec![0; before.table.len()], ..before };
                 assert_eq!(seated.rooms, cleared, "{}", case.name);
                 assert_eq!(decided.rooms.table, cleared.table, "{}", case.name);
@@ -57,6 +57,58 @@ fn the_carried_place_is_counted() {
         let range = |first: usize, last: usize| (-table[last * 5 + first - 1], table[(first - 1) * 5 + last]);
         assert_eq!([range(1, 3), range(4, 4), range(3, 4), range(1, 4)], [(1, 1), (1, 1), (1, 2), (2, 2)], "{call:?}");
     }
+}
+
+/// What seating replies and leaves, in rooms that are just long enough.
+fn seated(sheet: &Sheet) -> (Seating, Rooms) {
+    let called = made(Call::Seat, &Lists::from(sheet), &Rooms::marked(&Lengths::exact(sheet)));
+    let Reply::Seating(reply) = called.reply else { panic!("{:?} is no reply of seating", called.reply) };
+    (reply, called.rooms)
+}
+
+/// How many units seating looks at, counted by hand.
+#[test]
+fn looks_by_hand() {
+    for (name, sheet, plan, looked) in cases::looked_at() {
+        let (reply, rooms) = seated(&sheet);
+        assert_eq!(reply, Seating { number: 0, line: 0, planned: plan.is_some() as usize, looked }, "{name}");
+        assert!(plan.is_none_or(|plan| plan == rooms.plan), "{name}: {:?}", rooms.plan);
+    }
+}
+
+/// Do lines settle the number of looks? Where later lines go first it is another one.
+fn goes_by_line(sheet: &Sheet, plan: &[u16]) -> bool {
+    let turned = Sheet { units: sheet.units.iter().rev().copied().collect(), ..sheet.clone() };
+    turned.looked(&plan.iter().rev().copied().collect::<Vec<_>>()) != sheet.looked(plan)
+}
+
+/// Is there an empty slot between two that have units, the carried place being the last?
+fn has_gap(plan: &[u16]) -> bool {
+    let (first, last) = (plan.iter().min().copied().unwrap_or(0), plan.iter().max().copied().unwrap_or(0));
+    (first..last).any(|slot| !plan.contains(&slot))
+}
+
+/// The number of looks is the model's, on sheets where ties are frequent, and slots that are empty between others.
+#[test]
+fn looks_at_random() {
+    let mut tally = Tally::new("seating and its looks", seed(605));
+    let (mut by_line, mut with_gap) = (0, 0);
+    for i in 0..effort(20_000) {
+        let sheet = tied_sheet(&mut Random::of_case(seed(605), i));
+        let solved = computed::solve(&sheet);
+        tally.add(0, tally::answer(&sheet, solved.as_ref()));
+        let looked = solved.as_ref().map_or(0, |solved| sheet.looked(&solved.plan));
+        let expected = Seating { number: 0, line: 0, planned: solved.is_some() as usize, looked };
+        assert_eq!(seated(&sheet).0, expected, "seed {} case {i}: {sheet:?}", seed(605));
+        by_line += solved.as_ref().is_some_and(|solved| goes_by_line(&sheet, &solved.plan)) as usize;
+        with_gap += solved.as_ref().is_some_and(|solved| has_gap(&solved.plan)) as usize;
+    }
+    tally.report();
+    for (answer, share) in [(PLAN, 3), (NONE, 10), (CARRIES, 10)] {
+        assert!(share * tally.count(answer) > tally.all(), "too few {answer}");
+    }
+    assert!(4 * by_line > tally.all(), "{by_line} go by line");
+    assert!(4 * with_gap > tally.all(), "{with_gap} have an empty slot between others");
 }
 
 /// Question 12 on every span and with every number of units at the edges: each call asks for every room that it takes, and one place less is

@@ -1,9 +1,9 @@
-//! The model itself: P1 to P12, the shortcuts that fail, and the model's two halves against each other.
+//! The model itself: P1 to P12, the shortcuts that fail, the model's two halves against each other, and its looks against a search.
 
 use model::cases::{self, Says};
 use model::page::{self, Page};
 use model::questions::{is_new, is_stretch, is_window, planning_refusal, refusal, Call, Lengths, Lists};
-use model::random::{any_sheet, largest_sheet, loaders, small_sheet, Random, Reach};
+use model::random::{any_sheet, largest_sheet, loaders, small_sheet, tied_sheet, Random, Reach};
 use model::sheet::{Sheet, Solved};
 use model::{computed, effort, enumerated, seed};
 
@@ -272,6 +272,70 @@ fn the_largest_sheets_are_answered() {
             assert!(enumerated::seats_are_due(&sheet, &solved.plan));
         }
     }
+}
+
+/// How many units seating looks at, counted by hand.
+#[test]
+fn looks_by_hand() {
+    for (case, (name, looked)) in cases::all().into_iter().zip(cases::LOOKED) {
+        assert_eq!(case.name, name);
+        let plan = if let Says::Plan(plan, _) = case.says { Some(plan) } else { None };
+        assert_eq!(plan.map_or(0, |plan| case.sheet.looked(&plan)), looked, "{name}");
+    }
+    for (name, sheet, plan, looked) in cases::looked_at() {
+        assert_eq!(computed::solve(&sheet).map(|solved| solved.plan), plan, "{name}");
+        assert_eq!(plan.map_or(0, |plan| sheet.looked(&plan)), looked, "{name}");
+    }
+}
+
+/// The plan of a search with these counts, and its looks: for each slot that is to take units it begins at the front of the order by closing
+/// slot and line, passes units that are seated or not yet open, and ends with the slot's last one.
+fn searched(sheet: &Sheet, counts: &[usize]) -> (Vec<u16>, usize) {
+    let n = sheet.units.len();
+    let closing_in = |slot: usize| (0..n).filter(move |&i| sheet.units[i].last as usize == slot);
+    let order: Vec<usize> = (1..=sheet.carried_place()).flat_map(closing_in).collect();
+    let (mut plan, mut looks) = (vec![0; n], 0);
+    for (slot, &count) in (1..).zip(counts) {
+        let mut wanted = count;
+        let mut waiting = order.iter();
+        while wanted > 0 {
+            let &unit = waiting.next().expect("the plan has the counts");
+            looks += 1;
+            if plan[unit] == 0 && sheet.units[unit].first <= slot {
+                plan[unit] = slot;
+                wanted -= 1;
+            }
+        }
+    }
+    (plan, looks)
+}
+
+/// A search with a plan's counts makes that plan, and its looks are the model's number.
+fn hold_to_search(sheet: &Sheet, solved: &Solved, case: &str) {
+    let counts: Vec<usize> = (0..sheet.carried_place()).map(|a| enumerated::count(&solved.plan, a, a + 1)).collect();
+    assert_eq!(searched(sheet, &counts), (solved.plan.clone(), sheet.looked(&solved.plan)), "{case}: {sheet:?}");
+}
+
+/// The number of looks is that of a search, on small sheets with the plan that enumeration leaves, and on others with the computed one.
+#[test]
+fn looks_are_those_of_a_search() {
+    let (mut enumerated_plans, mut computed_plans) = (0, 0);
+    for i in 0..effort(10_000) {
+        let sheet = small_sheet(&mut Random::of_case(seed(10), i));
+        if let Some(solved) = enumerated::solve(&sheet) {
+            enumerated_plans += 1;
+            hold_to_search(&sheet, &solved, &format!("seed {} case {i}", seed(10)));
+        }
+    }
+    for i in 0..effort(600) {
+        let mut r = Random::of_case(seed(11), i);
+        let sheet = if i % 4 == 0 { any_sheet(&mut r) } else { tied_sheet(&mut r) };
+        if let Some(solved) = computed::solve(&sheet) {
+            computed_plans += 1;
+            hold_to_search(&sheet, &solved, &format!("seed {} case {i}", seed(11)));
+        }
+    }
+    assert!(3 * enumerated_plans > effort(10_000) && 3 * computed_plans > effort(600), "{enumerated_plans} and {computed_plans} plans");
 }
 
 /// 7 at its edges: only the last slot of a window may be the carried place.

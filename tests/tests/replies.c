@@ -89,7 +89,7 @@ int main(int argc, char **argv)
     struct kept_reading read = { MARK, { MARK, MARK, MARK, MARK, MARK }, MARK };
     struct kept_planning planned = { MARK, { MARK, MARK, MARK }, MARK };
     struct kept_planning decided = { MARK, { MARK, MARK, MARK }, MARK };
-    struct kept_seating seated = { MARK, { MARK, MARK, MARK }, MARK };
+    struct kept_seating seated = { MARK, { MARK, MARK, MARK, MARK }, MARK };
     struct kept_printing printed = { MARK, { MARK, MARK, MARK, MARK }, MARK };
     size_t text_length, units, place, page, n, r;
     int kept;
@@ -127,7 +127,8 @@ int main(int argc, char **argv)
     seated.reply = tugrokt_seat(read.reply.span, lent.loader, n, lent.first, n, lent.last, n, lent.from, r, lent.to, r, lent.low, r,
                                 lent.high, r, lent.table, TUGROKT_MAX_CELLS, lent.plan, units, lent.earliest, units, lent.latest,
                                 units);
-    printf("seating %zu %zu %zu%s\n", seated.reply.number, seated.reply.line, seated.reply.planned, left(seated.reply.number));
+    printf("seating %zu %zu %zu %zu%s\n", seated.reply.number, seated.reply.line, seated.reply.planned, seated.reply.looked,
+           left(seated.reply.number));
 
     before = lent;
     printed.reply = tugrokt_print(read.reply.span, lent.loader, n, lent.first, n, lent.last, n, lent.from, r, lent.to, r, lent.low, r,
