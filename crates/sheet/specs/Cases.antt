@@ -9,7 +9,7 @@ use Rattle.lists.specs.Lists.{fromTo}
 use Rattle.network.specs.Network.{isNegativeCycle}
 use Rattle.slots.specs.Slots.{Slot, Boundary}
 use Rattle.sheet.specs.Sheet.{Window, Rule, Sheet, SheetUnit, WrittenSheet, constraints, loaders, top, atMost, atLeast, limit, isRing, ringSum, shortfall}
-use Rattle.sheet.specs.Sheet.{lawful, lawfulPlans, leastIn, greatestIn, earliest, latest, earliestSlots, latestSlots, soonest, fair, printedPlans, printedPlan, looked}
+use Rattle.sheet.specs.Sheet.{lawful, lawfulPlans, leastIn, greatestIn, earliest, latest, earliestSlots, latestSlots, soonest, fair, printedPlans, printedPlan, lastPlace, looked}
 use Rattle.sheet.specs.Questions.{isNew, allNew, loadersFit}
 
 -- `w 1 4`: window 1-4
@@ -99,6 +99,15 @@ cases =
     (1 ∷ 4 ∷ []) 3 (1 ∷ 1 ∷ []) (4 ∷ 4 ∷ [])
     (0 ∷ 0 ∷ 0 ∷ []) (1 ∷ 1 ∷ 1 ∷ [])
     ∷ []
+
+-- How far seating looks, where slot 1 takes two units, slot 3 none, and one is carried. In the order of seats the units are 2, 3, 1 and 4: slot 1 has the
+-- places 1 and 2, slot 2 has place 3, and the carried place has 4.
+abbrev busy : Sheet
+busy = constraints (sheet 3 (w 1 3 ∷ w 1 1 ∷ w 1 1 ∷ w 2 4 ∷ []) (r 1 1 0 2 ∷ r 2 3 0 1 ∷ []))
+
+pub looks-by-hand : (printedPlan busy ≡ 2 ∷ 1 ∷ 1 ∷ 4 ∷ []) × (map (lastPlace busy (printedPlan busy)) (fromTo 1 4) ≡ 2 ∷ 3 ∷ 0 ∷ 4 ∷ []) × (looked busy ≡ 9)
+unfolding top lawful lawfulPlans greatestIn soonest fair printedPlans printedPlan looked
+looks-by-hand = (refl, refl, refl)
 
 -- the first case, whose numbers are new, and the others
 also : {A B : Type 0} → A → B → (A × T true) × B

@@ -125,7 +125,7 @@ fn write_copy(
     }
 }
 
-// The text, and question 15. Most pages hold every text, and are spared the array and the copy.
+// The text, and question 15. A page that holds every text, as the Rust package lends it, is spared the array and the copy.
 fn write_text(
     house: House,
     span: usize,
