@@ -154,7 +154,8 @@ module _ (first z : ℕ → ℕ) (order : List ℕ) where
   slots-start len plan₀ = record { seats = refl; looked = omega arith }
 
   pub slot-done : (len : ℕ) (plan₀ : List ℕ) (slot count : ℕ) (plan plan′ : List ℕ) (l n : ℕ) → 1 ≤ slot → slot < len → count ≡ z slot - z (slot - 1)
-      → plan′ ≡ seatSlot first slot order count plan → n ≡ looks first slot order count plan → Slots len plan₀ slot plan l → Slots len plan₀ (slot + 1) plan′ (l + n)
+      → plan′ ≡ seatSlot first slot order count plan → n ≡ looks first slot order count plan → Slots len plan₀ slot plan l
+      → Slots len plan₀ (slot + 1) plan′ (l + n)
   slot-done len plan₀ slot count plan plan′ l n h k e f g S =
       let next = slots-next slot len plan h k in
       let same = ap (λ (c : ℕ). seatSlot first slot order c plan) e in

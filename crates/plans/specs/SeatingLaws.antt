@@ -2,6 +2,8 @@
 -- Key idea: while slot s is filled and k units have seats, the free units that close by slot b number at most z b - k, for every b. A seat for the unit that
 -- closes first keeps this: if it closes by b, one free unit fewer does; if it closes after b, every open unit that closes by b is seated already, and the
 -- others' windows lie inside the slots s+1 to b. At b = s nobody is late. And the windows that open after s leave a free unit open while slot s has seats.
+-- So the search for slot s ends with a unit that it takes, and no unit behind that one has slot s: not before, where slots are earlier, nor after, where they
+-- are later. The looks are that unit's place.
 use mathlib.Core.Path.{_≡_, refl, sym, ap, ap₂, _∙_, subst}
 use mathlib.Core.Logic.{_⊎_, inl, inr, ⊎-elim, _≢_}
 use mathlib.Core.Bool.{Bool, true, false, _&&_, cond}
@@ -332,9 +334,6 @@ module _ (n top : ℕ) (first last z : ℕ → ℕ) (P : Problem n top first las
       }
 
       module _ (p k : ℕ) (hp : p < n) (plan : List ℕ) (F : PlanSoFar k s plan) (f : Passed p plan) (o : T (freeOpen (at plan) first s (at order p))) where
-        here-new : (j : ℕ) → at (set plan (at order p) s) j ≡ 0 → j ≢ at order p
-        here-new j e q = omega (arith, ap (at (set plan (at order p) s)) q, here-now p k hp plan F f o)
-
         taken-here : (r : ℕ) (after : List ℕ) (l : ℕ) → Filled s (suc p) r (set plan (at order p) s) after l → Filled s p (suc r) plan after (suc l)
         taken-here r after l G = record {
           sofar = G .sofar;
@@ -404,11 +403,19 @@ module _ (n top : ℕ) (first last z : ℕ → ℕ) (P : Problem n top first las
         slot-filled (suc b) (omega arith) h n 0 (z b) (z (suc b) - z b) plan (omega arith)
         (omega (arith, P .rising b (suc b) (omega arith) h)) (omega arith) (λ q hq. absurd (omega arith)) F
 
-    -- the slots after boundary b are for units that are free
+    -- a full slot is left for the next one
+    moved-on : (s : ℕ) (plan : List ℕ) → PlanSoFar (z s) s plan → PlanSoFar (z s) (suc s) plan
+    moved-on s plan F = (F .0, advance (at plan) s (F .1))
+
+    -- the slots up to boundary b are taken; those after it are for units that are free
+    abbrev Early : ℕ → List ℕ → Type 0
+    Early b plan = (j : ℕ) → j < n → at plan j ≤ b
+
     abbrev Later : ℕ → List ℕ → List ℕ → Type 0
     Later b plan x = (j : ℕ) → (at x j ≡ at plan j) ⊎ ((at plan j ≡ 0) × (b < at x j))
 
-    later : (b : ℕ) (plan next x : List ℕ) → ((j : ℕ) → (at next j ≡ at plan j) ⊎ ((at plan j ≡ 0) × (at next j ≡ suc b))) → Later (suc b) next x → Later b plan x
+    later : (b : ℕ) (plan next x : List ℕ) → ((j : ℕ) → (at next j ≡ at plan j) ⊎ ((at plan j ≡ 0) × (at next j ≡ suc b))) → Later (suc b) next x
+        → Later b plan x
     later b plan next x here rest j =
         ⊎-elim (λ same. ⊎-elim (λ q. inl (q ∙ same)) (λ q. inr (sym same ∙ q .0, omega (arith, q .1))) (rest j))
         (λ new. inr (new .0, ⊎-elim (λ q. omega (arith, q, new .1)) (λ q. omega (arith, q .1)) (rest j))) (here j)
@@ -420,13 +427,10 @@ module _ (n top : ℕ) (first last z : ℕ → ℕ) (P : Problem n top first las
     slots-filled (suc m) b plan e F =
         let next = seatSlot first (suc b) order (z (suc b) - z b) plan in
         let full = next-filled b plan (omega arith) F in
-        let rest = slots-filled m (suc b) next (omega arith) (full .sofar .0, advance (at next) (suc b) (full .sofar .1)) in
+        let rest = slots-filled m (suc b) next (omega arith) (moved-on (suc b) next (full .sofar)) in
         (rest .0, later b plan next (seatSlots first z order (suc b) m next) (full .kept) (rest .1))
 
-    abbrev Free : List ℕ → Type 0
-    Free plan = PlanSoFar (z 0) 1 plan × ((j : ℕ) → j < n → at plan j ≤ 0)
-
-    all-free : Free (replicate n 0)
+    all-free : PlanSoFar (z 0) 1 (replicate n 0) × Early 0 (replicate n 0)
     all-free =
         let zeros : (j : ℕ) → j < n → at (replicate n 0) j ≡ 0 = (λ j h. getD-replicate n j 0 0 h) in
         ((length-replicate n 0, rw (P .starts) (start (at (replicate n 0)) zeros)), λ j h. omega (arith, zeros j h))
@@ -437,7 +441,7 @@ module _ (n top : ℕ) (first last z : ℕ → ℕ) (P : Problem n top first las
     -- ---- the looks, where every unit has its place in the order
     module _ (place : ℕ → ℕ) (placed : (p : ℕ) → p < n → place (at order p) ≡ suc p) where
       module _ (b k : ℕ) (plan next x : List ℕ) (l : ℕ) (G : Filled (suc b) 0 k plan next l)
-          (early : (j : ℕ) → j < n → at plan j ≤ b) (rest : Later (suc b) next x) where
+          (early : Early b plan) (rest : Later (suc b) next x) where
         not-behind : (p : ℕ) → p < n → at x (at order p) ≡ suc b → p < l
         not-behind p h e = elim (decLe l p) [
           | no g ↦ omega arith
@@ -476,7 +480,7 @@ module _ (n top : ℕ) (first last z : ℕ → ℕ) (P : Problem n top first las
           | no g ↦ omega (arith, greatest-below l (placesAt place n x (suc b)) none-after, last-there (omega arith))
         ]
 
-      slots-looked : (m b : ℕ) (plan : List ℕ) → b + m ≡ top → PlanSoFar (z b) (suc b) plan → ((j : ℕ) → j < n → at plan j ≤ b)
+      slots-looked : (m b : ℕ) (plan : List ℕ) → b + m ≡ top → PlanSoFar (z b) (suc b) plan → Early b plan
           → sumOf (map (lastAt place n (seatSlots first z order b m plan)) (run (suc b) m)) ≡ looksSlots first z order b m plan
       unfolding seatSlots looksSlots
       slots-looked zero b plan e F early = refl
@@ -484,9 +488,9 @@ module _ (n top : ℕ) (first last z : ℕ → ℕ) (P : Problem n top first las
           let k = z (suc b) - z b in
           let next = seatSlot first (suc b) order k plan in
           let full = next-filled b plan (omega arith) F in
-          let F′ : PlanSoFar (z (suc b)) (suc (suc b)) next = (full .sofar .0, advance (at next) (suc b) (full .sofar .1)) in
+          let F′ = moved-on (suc b) next (full .sofar) in
           let rest = slots-filled m (suc b) next (omega arith) F′ .1 in
-          let early′ : (j : ℕ) → j < n → at next j ≤ suc b =
+          let early′ : Early (suc b) next =
           (λ j h. let o = early j h in ⊎-elim (λ q. omega (arith, q)) (λ q. omega (arith, q .1)) (full .kept j)) in
           ap₂ (λ (a c : ℕ). a + c)
           (last-look b k plan next (seatSlots first z order (suc b) m next) (looks first (suc b) order k plan) full early rest)

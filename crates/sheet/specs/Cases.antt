@@ -9,7 +9,8 @@ use Rattle.lists.specs.Lists.{fromTo}
 use Rattle.network.specs.Network.{isNegativeCycle}
 use Rattle.slots.specs.Slots.{Slot, Boundary}
 use Rattle.sheet.specs.Sheet.{Window, Rule, Sheet, SheetUnit, WrittenSheet, constraints, loaders, top, atMost, atLeast, limit, isRing, ringSum, shortfall}
-use Rattle.sheet.specs.Sheet.{lawful, lawfulPlans, leastIn, greatestIn, earliest, latest, earliestSlots, latestSlots, soonest, fair, printedPlans, printedPlan, lastPlace, looked}
+use Rattle.sheet.specs.Sheet.{lawful, lawfulPlans, leastIn, greatestIn, earliest, latest, earliestSlots, latestSlots, soonest, fair, printedPlans}
+use Rattle.sheet.specs.Sheet.{printedPlan, lastPlace, looked}
 use Rattle.sheet.specs.Questions.{isNew, allNew, loadersFit}
 
 -- `w 1 4`: window 1-4
@@ -114,8 +115,8 @@ also : {A B : Type 0} → A → B → (A × T true) × B
 also a b = ((a, tt), b)
 
 pub all-cases-hold : All cases
-unfolding top lawful lawfulPlans leastIn greatestIn earliest latest earliestSlots latestSlots soonest fair printedPlans printedPlan looked atMost atLeast limit isRing
-    ringSum shortfall isNegativeCycle isNew allNew
+unfolding top lawful lawfulPlans leastIn greatestIn earliest latest earliestSlots latestSlots soonest fair printedPlans printedPlan looked atMost atLeast limit
+    isRing ringSum shortfall isNegativeCycle isNew allNew
 all-cases-hold =
     also (refl, refl, refl, refl, refl, refl) (also (refl, refl, refl, refl, refl, refl) (also (refl, refl, refl, refl, refl, refl) (also (refl, refl, tt, refl)
     (also (refl, refl, tt, refl) (also (refl, refl, refl, refl, refl, refl) (also (refl, refl, refl, refl, refl, refl) (also (refl, refl, tt, refl)

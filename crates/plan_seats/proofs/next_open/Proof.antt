@@ -14,12 +14,11 @@ use Rattle.plan_seats.proofs.next_open.Statement.{statement}
 use Rattle.plan_seats.proofs.next_open.Tie as tie
 
 abbrev Inv-loop : tie.InvT-loop
-Inv-loop first order plan slot from p₀ p-end p =
-    (p ≤ length order) × (p-end ≡ length order)
-    × (firstFrom (length order - p) p (openAt first slot order plan) ≡ firstFrom (length order - from) from (openAt first slot order plan))
+Inv-loop first order plan slot from p₀ p =
+    (p ≤ length order) × (firstFrom (length order - p) p (openAt first slot order plan) ≡ firstFrom (length order - from) from (openAt first slot order plan))
 
 abbrev μ-loop : tie.MeasureT-loop
-μ-loop first order plan slot from p₀ p-end p = length order - p
+μ-loop first order plan slot from p₀ p = length order - p
 
 -- the search's test, and its number of places
 abbrev test : tie.Start Inv-loop μ-loop → ℕ → Bool
@@ -42,24 +41,23 @@ returns : tie.Need-returns Inv-loop μ-loop
 returns c =
     let l = c .before .before .before .before .before .before in
     let st = l .before in
-    sym (first-passed (test st) (size st) (l .loop .p) (omega arith) (free _ _ (c .before .before .if1 .taken) ∙ c .if2 .taken)) ∙ l .loop .inv .2
+    sym (first-passed (test st) (size st) (l .loop .p) (omega arith) (free _ _ (c .before .before .if1 .taken) ∙ c .if2 .taken)) ∙ l .loop .inv .1
 
 loop-again : tie.Need-loop-again Inv-loop μ-loop
 loop-again c =
     let l = c .before .before .before .before in
     let st = l .before in
     let failed = ⊎-elim (λ w. free _ _ (w .0 .taken) ∙ w .2 .left) (λ w. seated _ _ (w .left)) (c .if1 .came) in
-    (omega arith, refl, first-failed (test st) (size st) (l .loop .p) (omega arith) failed ∙ l .loop .inv .2)
+    (omega arith, first-failed (test st) (size st) (l .loop .p) (omega arith) failed ∙ l .loop .inv .1)
 
 returns-2 : tie.Need-returns-2 Inv-loop μ-loop
 returns-2 c =
     let l = c .before in
     let st = l .before in
-    let e : size st ≡ l .loop .p = omega arith in
-    e ∙ sym (first-none (test st) (size st) (l .loop .p) (omega arith)) ∙ l .loop .inv .2
+    sym (first-none (test st) (size st) (l .loop .p) (omega arith)) ∙ l .loop .inv .1
 
 pub next-open-spec : {M : Type 1} → statement M
-next-open-spec = tie.close (tie.spec Inv-loop μ-loop (λ c. (c .pre .2, refl, refl)) (λ c. omega arith) (λ c. omega arith)
+next-open-spec = tie.close (tie.spec Inv-loop μ-loop (λ c. (c .pre .2, refl)) (λ c. omega arith) (λ c. omega arith)
     (λ c. omega (arith, c .shared-slice-known .given (c .before .before .loop .p))) (λ c. omega (arith, unit-inside (c .before)))
     (λ c. omega (arith, unit-inside (c .before .before))) (λ c. omega (arith, unit-inside (c .before .before .before)))
     (λ c. omega (arith, unit-inside (c .before .before .before .before))) returns (λ c. omega arith) (λ c. omega arith) loop-again returns-2)
