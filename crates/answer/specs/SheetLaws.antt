@@ -22,9 +22,9 @@ use Rattle.plan_rooms.specs.Rooms.{Rooms, lent, DecideRooms, decideRooms, planL
 use Rattle.plan_rooms.specs.RoomsLaws.{decide-hold, decision-for-all}
 use Rattle.plan_ask.specs.Asking.{Solvable}
 use Rattle.plan_steps.specs.Closing.{passed}
-use Rattle.plan_solve.specs.Planning.{byPass, Settled, DecideSettled}
-use Rattle.plan_solve.specs.SolvingLaws.{limits-asked, decided-fits, decided-none}
-use Rattle.plan_solve.specs.Reply as says
+use Rattle.plan_answers.specs.Planning.{byPass, Settled, DecideSettled}
+use Rattle.plan_answers.specs.SolvingLaws.{limits-asked, decided-fits, decided-none}
+use Rattle.plan_answers.specs.Reply as says
 use Rattle.print_bytes.specs.Writing.{Room, Written}
 use Rattle.pages.specs.Page.{maxPage, Printable, tablePage, fitsPage, leastFrom, greatestFrom, RingFits, nonePage}
 use Rattle.pages.specs.PageBounds.{fits-short}

@@ -14,7 +14,7 @@ ghost use Rattle.pages.specs.SheetPages.{ringBytes};
 ghost use Rattle.answer.specs.Answer.{AnswerToSheet, AnswerTo, Answered};
 ghost use Rattle.read_whole.specs.Fronts.{fronts, Held};
 use forms::House;
-use plan_solve::Fit;
+use plan_answers::Fit;
 use print_page::MAX_PAGE;
 use read_questions::Reading;
 use sheet::Sheet;

@@ -22,10 +22,10 @@ use Rattle.plan_ask.specs.Questions.{refusalBy}
 use Rattle.plan_ask.specs.SolvableLaws.{asked-yes}
 use Rattle.plan_steps.specs.Closing.{passed}
 use Rattle.plan_steps.specs.PassedLaws.{passed-size, passed-solved, stopped-unlawful}
-use Rattle.plan_solve.specs.Planning.{byPass, conclusionBy, SettledBy}
-use Rattle.plan_solve.specs.ConclusionLaws.{by-verdict}
-use Rattle.plan_solve.specs.Reply as says
-use Rattle.plan_solve.specs.Reply.{refusalOf}
+use Rattle.plan_answers.specs.Planning.{byPass, conclusionBy, SettledBy}
+use Rattle.plan_answers.specs.ConclusionLaws.{by-verdict}
+use Rattle.plan_answers.specs.Reply as says
+use Rattle.plan_answers.specs.Reply.{refusalOf}
 
 -- the call found a plan: the finished table is solved, and the rooms are left by it
 pub record Planned {R : Type 0} (planned : List ℤ → R → R) (s : Sheet) (before : R) (reply : says.Reply) (after : R) : Type 0 where

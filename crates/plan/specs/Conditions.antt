@@ -13,9 +13,9 @@ use Rattle.sheet.specs.Sheet.{Sheet, boundaries, isRing, lawful, fair, printedP
 use Rattle.sheet.specs.Lists.{WrittenLists, givenBy}
 use Rattle.plan_rooms.specs.Rooms.{Rooms, planLent, roomsFit}
 use Rattle.plan_ask.specs.Questions.{refusal}
-use Rattle.plan_solve.specs.Planning.{conclusion, planned, ringed, WithRing, Settled}
-use Rattle.plan_solve.specs.Reply as says
-use Rattle.plan_solve.specs.Reply.{refusalOf}
+use Rattle.plan_answers.specs.Planning.{conclusion, planned, ringed, WithRing, Settled}
+use Rattle.plan_answers.specs.Reply as says
+use Rattle.plan_answers.specs.Reply.{refusalOf}
 use Rattle.plan.specs.Statements.{SomeLawful, NoneLawful, AllEarliest, AllLatest, AllCounts, Soonest}
 use Rattle.plan.specs.ConditionLaws as laws
 use Rattle.plan.specs.ConditionLaws.{Planned}

@@ -12,9 +12,9 @@ use Rattle.sheet.specs.Sheet.{Sheet, isRing}
 use Rattle.sheet.specs.Lists.{WrittenLists, givenBy}
 use Rattle.plan_rooms.specs.Rooms.{DecideRooms, decideLent, roomsFit}
 use Rattle.plan_ask.specs.Questions.{refusalIn}
-use Rattle.plan_solve.specs.Planning.{conclusionIn, decided, contradicted, WithRing, DecideSettled}
-use Rattle.plan_solve.specs.Reply as says
-use Rattle.plan_solve.specs.Reply.{refusalOf}
+use Rattle.plan_answers.specs.Planning.{conclusionIn, decided, contradicted, WithRing, DecideSettled}
+use Rattle.plan_answers.specs.Reply as says
+use Rattle.plan_answers.specs.Reply.{refusalOf}
 use Rattle.plan.specs.Statements.{SomeLawful, NoneLawful, AllCounts}
 use Rattle.plan.specs.ConditionLaws as laws
 use Rattle.plan.specs.ConditionLaws.{Planned}

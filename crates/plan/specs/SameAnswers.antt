@@ -14,8 +14,8 @@ use Rattle.sheet.specs.Sheet.{Sheet, boundaries}
 use Rattle.sheet.specs.Lists.{WrittenLists, givenBy}
 use Rattle.plan_rooms.specs.Rooms.{Rooms, DecideRooms, SeatRooms, decideLent, seatLent, places}
 use Rattle.plan_ask.specs.Questions.{refusal, refusalIn}
-use Rattle.plan_solve.specs.Planning.{conclusion, conclusionIn, Settled, DecideSettled, SeatSettled, planned, seated}
-use Rattle.plan_solve.specs.Reply as says
+use Rattle.plan_answers.specs.Planning.{conclusion, conclusionIn, Settled, DecideSettled, SeatSettled, planned, seated}
+use Rattle.plan_answers.specs.Reply as says
 use Rattle.plan.specs.ConditionLaws.{Planned}
 use Rattle.plan.specs.SharedConditions as all
 use Rattle.plan.specs.Conditions as plans

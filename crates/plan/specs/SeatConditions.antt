@@ -17,10 +17,10 @@ use Rattle.network_pass.specs.Pass.{Passed, finished, stopped}
 use Rattle.plans.specs.LookedLaws.{unlawful-looked}
 use Rattle.plan_steps.specs.Closing.{passed}
 use Rattle.plan_steps.specs.PassedLaws.{stopped-unlawful}
-use Rattle.plan_solve.specs.Planning.{byPass, conclusionIn, lookedBy, seated, unseated, SeatNone, SeatSettled}
-use Rattle.plan_solve.specs.ConclusionLaws.{looked-by}
-use Rattle.plan_solve.specs.Reply as says
-use Rattle.plan_solve.specs.Reply.{refusalOf}
+use Rattle.plan_answers.specs.Planning.{byPass, conclusionIn, lookedBy, seated, unseated, SeatNone, SeatSettled}
+use Rattle.plan_answers.specs.ConclusionLaws.{looked-by}
+use Rattle.plan_answers.specs.Reply as says
+use Rattle.plan_answers.specs.Reply.{refusalOf}
 use Rattle.plan.specs.Statements.{SomeLawful, NoneLawful, AllEarliest, AllLatest, AllCounts, Soonest}
 use Rattle.plan.specs.ConditionLaws as laws
 use Rattle.plan.specs.ConditionLaws.{Planned}

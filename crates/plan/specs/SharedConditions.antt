@@ -27,9 +27,9 @@ use Rattle.plans.specs.CountLaws.{solved-plan, range, greatest-entry, least-ent
 use Rattle.plan_rooms.specs.Rooms.{places}
 use Rattle.plan_ask.specs.Questions.{refusalBy}
 use Rattle.sheet.specs.Lists.{WrittenLists, givenBy}
-use Rattle.plan_solve.specs.Planning.{conclusionBy, SettledBy, WithRing, tableIn, planIn, earliestIn, latestIn}
-use Rattle.plan_solve.specs.Reply as says
-use Rattle.plan_solve.specs.Reply.{refusalOf}
+use Rattle.plan_answers.specs.Planning.{conclusionBy, SettledBy, WithRing, tableIn, planIn, earliestIn, latestIn}
+use Rattle.plan_answers.specs.Reply as says
+use Rattle.plan_answers.specs.Reply.{refusalOf}
 use Rattle.plan.specs.Statements.{SomeLawful, NoneLawful, AllEarliest, AllLatest, AllCounts, Soonest}
 use Rattle.plan.specs.ConditionLaws.{Planned, Unplanned, call-refused, call-answered, call-planned, call-unplanned}
 

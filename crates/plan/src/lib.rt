@@ -1,13 +1,13 @@
 ghost use mathlib.Core.Path.{_≡_};
 ghost use Rattle.sheet.specs.Lists.{writtenLists, givenBy};
 ghost use Rattle.plan_rooms.specs.Rooms.{lent, decideRooms, seatRooms, decideLent, seatLent};
-ghost use Rattle.plan_solve.specs.Planning.{conclusion, conclusionIn, lookedBy, Settled, DecideSettled, SeatSettled};
-ghost use Rattle.plan_solve.specs.Reply.{replyOf, decisionReply, seatReply, looksTold, fitReply, seatedReply, seatedLooks};
-use plan_solve::Answer;
-use plan_solve::Decision;
-use plan_solve::Fit;
-use plan_solve::SeatAnswer;
-use plan_solve::Seated;
+ghost use Rattle.plan_answers.specs.Planning.{conclusion, conclusionIn, lookedBy, Settled, DecideSettled, SeatSettled};
+ghost use Rattle.plan_answers.specs.Reply.{replyOf, decisionReply, seatReply, looksTold, fitReply, seatedReply, seatedLooks};
+use plan_answers::Answer;
+use plan_answers::Decision;
+use plan_answers::Fit;
+use plan_answers::SeatAnswer;
+use plan_answers::Seated;
 use questions::Checked;
 
 // What solving gives, as an answer.

@@ -1,2 +1,1 @@
-pub mod SortingLaws
 pub mod SlotLaws

@@ -16,7 +16,8 @@ use mir.Facts.{fits-natAbs}
 use Rattle.integers.specs.Parts.{up, dn, ints, difference, nonneg, fits-within, fits-parts}
 use Rattle.lists.specs.First.{firstFrom, first-from}
 use Rattle.plans.specs.Seating.{at, freeOpen, seatSlot, seatSlots, looks, looksSlots}
-use Rattle.plan_seats.specs.Seats.{seatOrder, seatsBy, seatsFrom, looksBy, looksFrom}
+use Rattle.plan_order.specs.Sorting.{seatOrder}
+use Rattle.plan_seats.specs.Seats.{seatsBy, seatsFrom, looksBy, looksFrom}
 
 module _ (first : ℕ → ℕ) (s : ℕ) (order : List ℕ) where
   -- the search of slot s, from place p of the order on, where k seats are left: the same seats as that of the whole order with all seats, and as many looks

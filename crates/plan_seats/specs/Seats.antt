@@ -14,7 +14,8 @@ use Rattle.sheet.specs.Sizes.{maxUnits}
 use Rattle.sheet.specs.Sheet.{Sheet, top}
 use Rattle.sheet.specs.Questions.{windowsOf}
 use Rattle.sheet.specs.Solved.{Solved}
-use Rattle.plans.specs.Seating.{at, byRank, freeOpen, seatSlots, looksSlots}
+use Rattle.plans.specs.Seating.{at, freeOpen, seatSlots, looksSlots}
+use Rattle.plan_order.specs.Sorting.{seatOrder}
 
 -- the number of seats by boundary b
 abbrev pub countAt : List ℤ → Boundary → ℕ
@@ -32,10 +33,6 @@ pub record Seatable (first last : List ℕ) (counts : List ℤ) (plan : List ℕ
   pub slots : (1 ≤ length counts) × (length counts ≤ maxBoundaries)
   pub closes : (j : ℕ) → j < length last → at last j < maxBoundaries
   pub rising : Rising counts
-
--- the units in the order in which they are seated, in a list that has a place for each
-abbrev pub seatOrder : List ℕ → List ℕ → List ℕ
-seatOrder last order = byRank (at last) (length last) (length last) order
 
 -- the last slot: the one before the top boundary
 abbrev pub lastSlot : List ℤ → Slot

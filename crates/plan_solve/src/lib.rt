@@ -4,42 +4,10 @@ ghost use Rattle.sheet.specs.Lists.{listed, given};
 ghost use Rattle.plan_rooms.specs.Rooms.{lent, decideRooms, seatRooms, planLent, decideLent, seatLent, roomsFit};
 ghost use Rattle.plan_ask.specs.Asking.{Solvable};
 ghost use Rattle.plan_steps.specs.Closing.{passed};
-ghost use Rattle.plan_solve.specs.Planning.{byPass, lookedBy, Settled, DecideSettled, SeatSettled};
-ghost use Rattle.plan_solve.specs.Reply.{fitReply, seatedReply, seatedLooks};
-use questions::Refusal;
-
-// What planning answers: a refusal, a plan in the rooms, or none with the length of the ring.
-pub enum Answer {
-    Refused(Refusal),
-    Plan,
-    None(usize),
-}
-
-// What deciding answers: a refusal, that the sheet fits, or none with the length of the ring.
-pub enum Decision {
-    Refused(Refusal),
-    Fits,
-    None(usize),
-}
-
-// What seating answers: a refusal, a plan in the rooms with how many units it looked at, or none.
-pub enum SeatAnswer {
-    Refused(Refusal),
-    Plan(usize),
-    None,
-}
-
-// What solving a sheet of which every question is answered yes gives: it cannot refuse.
-pub enum Fit {
-    Fits,
-    None(usize),
-}
-
-// What seating such a sheet gives: a plan with how many units were looked at, or none.
-pub enum Seated {
-    Plan(usize),
-    None,
-}
+ghost use Rattle.plan_answers.specs.Planning.{byPass, lookedBy, Settled, DecideSettled, SeatSettled};
+ghost use Rattle.plan_answers.specs.Reply.{fitReply, seatedReply, seatedLooks};
+use plan_answers::Fit;
+use plan_answers::Seated;
 
 // Whether a sheet of which every question is answered yes fits: the finished table, or none and a ring.
 pub fn decide(

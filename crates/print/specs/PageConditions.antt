@@ -20,8 +20,8 @@ use Rattle.plan_ask.specs.Questions.{refusal}
 use Rattle.plan_ask.specs.ListedLaws.{as-many-units}
 use Rattle.plan_ask.specs.Asking.{Listed}
 use Rattle.plan_ask.specs.SolvableLaws.{asked-lists}
-use Rattle.plan_solve.specs.Planning.{conclusion, Settled}
-use Rattle.plan_solve.specs.Reply as planning
+use Rattle.plan_answers.specs.Planning.{conclusion, Settled}
+use Rattle.plan_answers.specs.Reply as planning
 use Rattle.plan.specs.Statements.{SomeLawful, NoneLawful, AllCounts}
 use Rattle.plan.specs.Conditions as plans
 use Rattle.print_bytes.specs.Writing.{Room, Written}

@@ -9,8 +9,8 @@ use lib.ListN.{length, take}
 use Rattle.sheet.specs.Sheet.{Sheet}
 use Rattle.sheet.specs.Lists.{WrittenLists, givenBy}
 use Rattle.plan_rooms.specs.Rooms.{Rooms}
-use Rattle.plan_solve.specs.Planning.{Conclusion, conclusion, Settled}
-use Rattle.plan_solve.specs.Reply as planning
+use Rattle.plan_answers.specs.Planning.{Conclusion, conclusion, Settled}
+use Rattle.plan_answers.specs.Reply as planning
 use Rattle.print_bytes.specs.Writing.{withBytes}
 use Rattle.pages.specs.SheetPages.{planBytes, ringBytes}
 use Rattle.print_answer.specs.Reply as says

@@ -13,9 +13,9 @@ use Rattle.sheet.specs.Lists.{WrittenLists, givenBy}
 use Rattle.plan_rooms.specs.Rooms.{Rooms, lent}
 use Rattle.plan_ask.specs.Questions.{refusal}
 use Rattle.plan_steps.specs.Closing.{passed}
-use Rattle.plan_solve.specs.Planning.{planned, ringed, WithRing, byPass}
-use Rattle.plan_solve.specs.ConclusionLaws.{refused-settled, solved-settled}
-use Rattle.plan_solve.specs.Reply as planning
+use Rattle.plan_answers.specs.Planning.{planned, ringed, WithRing, byPass}
+use Rattle.plan_answers.specs.ConclusionLaws.{refused-settled, solved-settled}
+use Rattle.plan_answers.specs.Reply as planning
 use Rattle.print_bytes.specs.Writing.{Room, Written}
 use Rattle.print_answer.specs.Printing.{holds, Asked, PrintingOf, Printing}
 use Rattle.print_answer.specs.Reply as says

@@ -2,7 +2,7 @@
 -- each with the place just past the answer. Promises speak of these. Definitions only.
 use Prim.Native.Nat.{ℕ}
 use Rattle.questions.specs.Questions.{Verdict, no, allYes}
-use Rattle.plan_solve.specs.Reply as planning
+use Rattle.plan_answers.specs.Reply as planning
 use Rattle.print_answer.specs.declared.Printed.{Printed}
 use Rattle.print_answer.specs.declared.Printed.the-variants.{Refused, Plan, None}
 

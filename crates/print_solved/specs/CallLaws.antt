@@ -17,8 +17,8 @@ use Rattle.limits.specs.LimitTable.{limitTable}
 use Rattle.sheet.specs.Questions.{accepted}
 use Rattle.plan_rooms.specs.Rooms.{Rooms, lent, places}
 use Rattle.plan_steps.specs.Closing.{passed}
-use Rattle.plan_solve.specs.Planning.{planned, ringed, byPass, Settled}
-use Rattle.plan_solve.specs.Reply as planning
+use Rattle.plan_answers.specs.Planning.{planned, ringed, byPass, Settled}
+use Rattle.plan_answers.specs.Reply as planning
 use Rattle.pages.specs.Page.{tablePage, nonePage}
 use Rattle.pages.specs.SheetPages.{ringBytes}
 use Rattle.print_answer.specs.Printing.{holds, Asked, PrintingOf}

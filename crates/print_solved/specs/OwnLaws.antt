@@ -22,8 +22,8 @@ use Rattle.plan_rooms.specs.RoomsLaws.{SeatsHold, plan-holds, plan-for-all}
 use Rattle.plan_ask.specs.Asking.{Solvable}
 use Rattle.plan_ask.specs.AskingLaws.{lists-read, span-bound, units-length}
 use Rattle.plan_steps.specs.Closing.{passed}
-use Rattle.plan_solve.specs.Planning.{byPass, Settled}
-use Rattle.plan_solve.specs.Reply as planning
+use Rattle.plan_answers.specs.Planning.{byPass, Settled}
+use Rattle.plan_answers.specs.Reply as planning
 use Rattle.pages.specs.PageBounds.{ring-read}
 use Rattle.pages.specs.Page.{Printable, tablePage, RingFits, nonePage, maxPage, maxRingPage}
 use Rattle.print_answer.specs.Printing.{holds, Asked, PrintingOf}

@@ -7,8 +7,8 @@ use Rattle.forms.specs.declared.House.{House}
 use Rattle.sheet.specs.Sheet.{Sheet}
 use Rattle.sheet.specs.Lists.{WrittenLists}
 use Rattle.plan_rooms.specs.Rooms.{Rooms, DecideRooms, SeatRooms}
-use Rattle.plan_solve.specs.Planning.{Conclusion, lookedBy, Settled, DecideSettled, SeatSettled}
-use Rattle.plan_solve.specs.Reply as planning
+use Rattle.plan_answers.specs.Planning.{Conclusion, lookedBy, Settled, DecideSettled, SeatSettled}
+use Rattle.plan_answers.specs.Reply as planning
 use Rattle.print_answer.specs.Printing as print
 use Rattle.print_answer.specs.Reply as printing
 use Rattle.read_questions.specs.Reading.{ListRooms, reading}

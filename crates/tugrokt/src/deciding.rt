@@ -1,6 +1,6 @@
 ghost use Rattle.sheet.specs.Lists.{writtenLists, givenBy};
 ghost use Rattle.plan_rooms.specs.Rooms.{decideRooms, decideLent};
-ghost use Rattle.plan_solve.specs.Planning.{conclusionIn};
+ghost use Rattle.plan_answers.specs.Planning.{conclusionIn};
 ghost use Rattle.tugrokt.specs.Told.{DecideTold};
 use tugrokt_replies::planning::Planning;
 

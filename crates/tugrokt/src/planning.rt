@@ -1,6 +1,6 @@
 ghost use Rattle.sheet.specs.Lists.{writtenLists, givenBy};
 ghost use Rattle.plan_rooms.specs.Rooms.{lent};
-ghost use Rattle.plan_solve.specs.Planning.{conclusion};
+ghost use Rattle.plan_answers.specs.Planning.{conclusion};
 ghost use Rattle.tugrokt.specs.Told.{PlanTold};
 use tugrokt_replies::planning::Planning;
 

@@ -1,6 +1,6 @@
 ghost use Rattle.sheet.specs.Lists.{writtenLists, givenBy};
 ghost use Rattle.plan_rooms.specs.Rooms.{seatRooms, seatLent};
-ghost use Rattle.plan_solve.specs.Planning.{conclusionIn};
+ghost use Rattle.plan_answers.specs.Planning.{conclusionIn};
 ghost use Rattle.tugrokt.specs.Told.{SeatTold};
 use tugrokt_replies::seating::Seating;
 

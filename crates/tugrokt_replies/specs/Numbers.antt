@@ -1,7 +1,7 @@
 -- Replies as numbers, for callers in other languages: 0 for what a reply does not have. Definitions only.
 use Prim.Native.Nat.{ℕ}
 use Rattle.read_questions.specs.Reading as reading
-use Rattle.plan_solve.specs.Reply as planning
+use Rattle.plan_answers.specs.Reply as planning
 use Rattle.print_answer.specs.Reply as printing
 use Rattle.write.specs.Writing as writing
 use Rattle.tugrokt_replies.specs.declared.reading.Reading.{Reading}

@@ -1,8 +1,8 @@
 ghost use mathlib.Core.Path.{_≡_};
-ghost use Rattle.plan_solve.specs.Reply.{decisionReply};
+ghost use Rattle.plan_answers.specs.Reply.{decisionReply};
 ghost use Rattle.tugrokt_replies.specs.Numbers.{planningOf};
 use crate::planning::Planning;
-use plan_solve::Decision;
+use plan_answers::Decision;
 
 // The reply as numbers: those of planning, whose plan is that the sheet fits.
 pub fn numbers_of(decision: Decision) -> Planning

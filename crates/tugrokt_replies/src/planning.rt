@@ -1,7 +1,7 @@
 ghost use mathlib.Core.Path.{_≡_};
-ghost use Rattle.plan_solve.specs.Reply.{replyOf};
+ghost use Rattle.plan_answers.specs.Reply.{replyOf};
 ghost use Rattle.tugrokt_replies.specs.Numbers.{planningOf};
-use plan_solve::Answer;
+use plan_answers::Answer;
 
 // What planning replies: the length of the ring, which a plan does not have.
 #[repr(C)]

@@ -1,7 +1,7 @@
 ghost use mathlib.Core.Path.{_≡_};
-ghost use Rattle.plan_solve.specs.Reply.{seatReply, looksTold};
+ghost use Rattle.plan_answers.specs.Reply.{seatReply, looksTold};
 ghost use Rattle.tugrokt_replies.specs.Numbers.{seatingOf};
-use plan_solve::SeatAnswer;
+use plan_answers::SeatAnswer;
 
 // What seating replies: 1 for a plan, and 0 for none; and how many units it looked at.
 #[repr(C)]

@@ -16,7 +16,7 @@ use Rattle.sheet.specs.Sheet.{isRing}
 use Rattle.sheet.specs.Lists.{Lists, listed, given}
 use Rattle.plan_ask.specs.AskingLaws.{span-bound}
 use Rattle.plan_steps.specs.Closing.{passed}
-use Rattle.plan_solve.specs.Reply.{fitReply}
+use Rattle.plan_answers.specs.Reply.{fitReply}
 use Rattle.print_solved.specs.OwnLaws.{ownRooms, own-solvable, cells-few, Front}
 use Rattle.wave_words.specs.declared.Query.the-variants.{Fits}
 use Rattle.answer.specs.SheetLaws.{own-decides, own-fillable, decide-fits, decide-none, fits-asks, fits-is, fit-answered, ring-answered}

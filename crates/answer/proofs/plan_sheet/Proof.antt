@@ -18,7 +18,7 @@ use Rattle.plan_rooms.specs.Rooms.{Rooms, lent}
 use Rattle.plan_ask.specs.Asking.{Solvable}
 use Rattle.plan_ask.specs.AskingLaws.{span-bound}
 use Rattle.plan_steps.specs.Closing.{passed}
-use Rattle.plan_solve.specs.Reply.{fitReply}
+use Rattle.plan_answers.specs.Reply.{fitReply}
 use Rattle.print_solved.specs.OwnLaws.{ownRooms, own-solvable, cells-few, PlanFronts, plan-own}
 use Rattle.wave_words.specs.declared.Query.the-variants.{Plan}
 use Rattle.answer.specs.SheetLaws.{own-fillable, plan-none, plan-asks, plan-is, fit-answered, ring-answered}

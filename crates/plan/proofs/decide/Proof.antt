@@ -5,9 +5,9 @@ use Rattle.sheet.specs.Lists.{WrittenLists, writtenLists, givenBy}
 use Rattle.plan_rooms.specs.Rooms.{DecideRooms, decideRooms, decideLent}
 use Rattle.plan_ask.specs.Questions.{refusalIn}
 use Rattle.plan_ask.specs.SolvableLaws.{asked-yes, asked-of}
-use Rattle.plan_solve.specs.Planning.{decided, WithRing, contradicted}
-use Rattle.plan_solve.specs.ConclusionLaws.{refused-settled, solved-settled}
-use Rattle.plan_solve.specs.Reply.{decisionReply, fitReply}
+use Rattle.plan_answers.specs.Planning.{decided, WithRing, contradicted}
+use Rattle.plan_answers.specs.ConclusionLaws.{refused-settled, solved-settled}
+use Rattle.plan_answers.specs.Reply.{decisionReply, fitReply}
 use Rattle.plan.proofs.decide.Statement.{statement}
 use Rattle.plan.proofs.decide.Tie as tie
 

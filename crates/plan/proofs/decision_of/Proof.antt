@@ -1,7 +1,7 @@
 -- Each arm says what its variant does; in the second the length is the one that is bound.
 use borrow.Author.Needs.{needs}
 use mathlib.Core.Path.{sym, ap}
-use Rattle.plan_solve.specs.Reply.{fitReply}
+use Rattle.plan_answers.specs.Reply.{fitReply}
 use Rattle.plan.proofs.decision_of.Statement.{statement}
 use Rattle.plan.proofs.decision_of.Tie as tie
 

@@ -5,9 +5,9 @@ use Rattle.sheet.specs.Lists.{WrittenLists, writtenLists, givenBy}
 use Rattle.plan_rooms.specs.Rooms.{Rooms, lent, planLent}
 use Rattle.plan_ask.specs.Questions.{refusalIn}
 use Rattle.plan_ask.specs.SolvableLaws.{asked-yes, asked-of}
-use Rattle.plan_solve.specs.Planning.{planned, WithRing, ringed}
-use Rattle.plan_solve.specs.ConclusionLaws.{refused-settled, solved-settled}
-use Rattle.plan_solve.specs.Reply.{replyOf, fitReply}
+use Rattle.plan_answers.specs.Planning.{planned, WithRing, ringed}
+use Rattle.plan_answers.specs.ConclusionLaws.{refused-settled, solved-settled}
+use Rattle.plan_answers.specs.Reply.{replyOf, fitReply}
 use Rattle.plan.proofs.plan.Statement.{statement}
 use Rattle.plan.proofs.plan.Tie as tie
 

@@ -5,9 +5,9 @@ use Rattle.sheet.specs.Lists.{WrittenLists, writtenLists, givenBy}
 use Rattle.plan_rooms.specs.Rooms.{SeatRooms, seatRooms, seatLent}
 use Rattle.plan_ask.specs.Questions.{refusalIn}
 use Rattle.plan_ask.specs.SolvableLaws.{asked-yes, asked-of}
-use Rattle.plan_solve.specs.Planning.{seated, SeatNone}
-use Rattle.plan_solve.specs.ConclusionLaws.{refused-settled, solved-settled, looked-by}
-use Rattle.plan_solve.specs.Reply.{seatReply, seatedReply}
+use Rattle.plan_answers.specs.Planning.{seated, SeatNone}
+use Rattle.plan_answers.specs.ConclusionLaws.{refused-settled, solved-settled, looked-by}
+use Rattle.plan_answers.specs.Reply.{seatReply, seatedReply}
 use Rattle.plan.proofs.seat.Statement.{statement}
 use Rattle.plan.proofs.seat.Tie as tie
 

@@ -8,7 +8,7 @@ use Rattle.sheet.specs.Sheet.{boundaries}
 use Rattle.sheet.specs.Lists.{Lists, listed, given}
 use Rattle.plan_rooms.specs.Rooms.{places}
 use Rattle.plan_rooms.specs.RoomsLaws.{decide-hold}
-use Rattle.plan_solve.specs.SolvingLaws.{limits-asked, ring-asked, ring-left, fits-left}
+use Rattle.plan_answers.specs.SolvingLaws.{limits-asked, ring-asked, ring-left, fits-left}
 use Rattle.plan_solve.proofs.decide.Statement.{statement}
 use Rattle.plan_solve.proofs.decide.Tie as tie
 

@@ -12,8 +12,8 @@ use Rattle.plan_rooms.specs.declared.Seats.{Seats}
 use Rattle.plan_ask.specs.AskingLaws.{span-bound}
 use Rattle.plan_steps.specs.Closing.{passed}
 use Rattle.plan_steps.specs.Filling.{Ready}
-use Rattle.plan_solve.specs.Planning.{tableIn}
-use Rattle.plan_solve.specs.SolvingLaws.{limits-asked, seats-asked, ready, seats-left, looks-left, none-seated, none-looked, closed-table}
+use Rattle.plan_answers.specs.Planning.{tableIn}
+use Rattle.plan_answers.specs.SolvingLaws.{limits-asked, seats-asked, ready, seats-left, looks-left, none-seated, none-looked, closed-table}
 use Rattle.plan_solve.proofs.seat.Statement.{statement}
 use Rattle.plan_solve.proofs.seat.Tie as tie
 

@@ -13,9 +13,9 @@ use Rattle.plan_rooms.specs.declared.Seats.{Seats}
 use Rattle.plan_ask.specs.AskingLaws.{span-bound}
 use Rattle.plan_steps.specs.Closing.{passed}
 use Rattle.plan_steps.specs.Filling.{Ready}
-use Rattle.plan_solve.specs.Planning.{byPass, tableIn, DecideSettled}
-use Rattle.plan_solve.specs.SolvingLaws.{seats-asked, ready, plan-left, decided-fits, decided-none}
-use Rattle.plan_solve.specs.Reply.{Reply, fitReply}
+use Rattle.plan_answers.specs.Planning.{byPass, tableIn, DecideSettled}
+use Rattle.plan_answers.specs.SolvingLaws.{seats-asked, ready, plan-left, decided-fits, decided-none}
+use Rattle.plan_answers.specs.Reply.{Reply, fitReply}
 use Rattle.plan_solve.proofs.solve.Statement.{statement}
 use Rattle.plan_solve.proofs.solve.Tie as tie
 

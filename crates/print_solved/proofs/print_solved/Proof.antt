@@ -15,8 +15,8 @@ use Rattle.sheet.specs.Lists.{Lists, listed, given}
 use Rattle.plan_rooms.specs.Rooms.{Rooms, lent}
 use Rattle.plan_ask.specs.AskingLaws.{span-bound}
 use Rattle.plan_steps.specs.Closing.{passed}
-use Rattle.plan_solve.specs.Planning.{byPass, Settled}
-use Rattle.plan_solve.specs.Reply.{Reply, fitReply}
+use Rattle.plan_answers.specs.Planning.{byPass, Settled}
+use Rattle.plan_answers.specs.Reply.{Reply, fitReply}
 use Rattle.print_solved.specs.OwnLaws.{ownRooms, own-solvable, cells-few, Front, PlanFronts}
 use Rattle.print_solved.specs.OwnLaws.{plan-own, plan-asked, plan-shown, none-own, limits-fillable, ring-asked, ring-shown}
 use Rattle.sheet.specs.Sizes.{maxCells, boundariesOf}

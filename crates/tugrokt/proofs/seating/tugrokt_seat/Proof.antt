@@ -2,7 +2,7 @@
 use borrow.Author.Needs.{needs}
 use mathlib.Core.Path.{ap, _∙_}
 use Prim.Native.Nat.{ℕ}
-use Rattle.plan_solve.specs.Reply.{seatReply}
+use Rattle.plan_answers.specs.Reply.{seatReply}
 use Rattle.tugrokt_replies.specs.Numbers.{seatingOf}
 use Rattle.tugrokt.proofs.seating.tugrokt_seat.Statement.{statement}
 use Rattle.tugrokt.proofs.seating.tugrokt_seat.Tie as tie

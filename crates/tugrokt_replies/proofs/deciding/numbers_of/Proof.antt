@@ -1,8 +1,8 @@
 -- Case by case: the reply is its variant, and so its numbers are the variant's.
 use borrow.Author.Needs.{needs}
 use mathlib.Core.Path.{_≡_, sym, ap}
-use Rattle.plan_solve.specs.Reply.{decisionReply}
-use Rattle.plan_solve.specs.declared.Decision.{Decision}
+use Rattle.plan_answers.specs.Reply.{decisionReply}
+use Rattle.plan_answers.specs.declared.Decision.{Decision}
 use Rattle.tugrokt_replies.specs.Numbers.{planningOf}
 use Rattle.tugrokt_replies.proofs.deciding.numbers_of.Statement.{statement}
 use Rattle.tugrokt_replies.proofs.deciding.numbers_of.Tie as tie

@@ -1,8 +1,8 @@
 -- Case by case: the reply is its variant, and so its numbers are the variant's.
 use borrow.Author.Needs.{needs}
 use mathlib.Core.Path.{_≡_, sym, ap}
-use Rattle.plan_solve.specs.Reply.{seatReply, looksTold}
-use Rattle.plan_solve.specs.declared.SeatAnswer.{SeatAnswer}
+use Rattle.plan_answers.specs.Reply.{seatReply, looksTold}
+use Rattle.plan_answers.specs.declared.SeatAnswer.{SeatAnswer}
 use Rattle.tugrokt_replies.specs.Numbers.{seatingOf}
 use Rattle.tugrokt_replies.proofs.seating.numbers_of.Statement.{statement}
 use Rattle.tugrokt_replies.proofs.seating.numbers_of.Tie as tie

@@ -17,7 +17,7 @@ use Rattle.plan_rooms.specs.Rooms.{Rooms, DecideRooms, SeatRooms, planLent, pla
 use Rattle.plan_rooms.specs.declared.Lengths.{Lengths}
 use Rattle.plan_ask.specs.Questions.{refusalBy}
 use Rattle.plan_steps.specs.Closing.{passed}
-use Rattle.plan_solve.specs.Reply as says
+use Rattle.plan_answers.specs.Reply as says
 
 -- ---- what a call comes to: a refusal by number and line, a plan with the finished pass, or none
 

@@ -31,8 +31,8 @@ use Rattle.plan_steps.specs.PassedLaws.{passed-size, passed-solved}
 use Rattle.plan_steps.specs.ClosingLaws.{boundaries-counted}
 use Rattle.plan_steps.specs.Filling.{Ready, PlanFilled}
 use Rattle.plan_steps.specs.FillingLaws.{solved-front}
-use Rattle.plan_solve.specs.Planning.{byPass, lookedBy, tableIn, Settled, DecideSettled, SeatSettled}
-use Rattle.plan_solve.specs.Reply as says
+use Rattle.plan_answers.specs.Planning.{byPass, lookedBy, tableIn, Settled, DecideSettled, SeatSettled}
+use Rattle.plan_answers.specs.Reply as says
 
 -- ---- which pass had the outcome
 is-finished : (p : Passed) → Finished ≡ outcomeOf p → (t : List ℤ) × (p ≡ finished t)

@@ -9,8 +9,8 @@ use Rattle.questions.specs.Questions.{Verdict, no, allYes}
 use Rattle.sheet.specs.Lists.{WrittenLists, givenBy}
 use Rattle.plan_ask.specs.Questions.{refusalBy}
 use Rattle.plan_steps.specs.Closing.{passed}
-use Rattle.plan_solve.specs.Planning.{Conclusion, byPass, concluding, conclusionBy, lookedBy, SettledBy}
-use Rattle.plan_solve.specs.Reply as says
+use Rattle.plan_answers.specs.Planning.{Conclusion, byPass, concluding, conclusionBy, lookedBy, SettledBy}
+use Rattle.plan_answers.specs.Reply as says
 
 -- whatever rooms the call asks for
 module _ (l : WrittenLists) (rooms : Bool) where

@@ -2,16 +2,16 @@
 -- length of the ring that was written. Promises speak of these. Definitions only.
 use Prim.Native.Nat.{ℕ}
 use Rattle.questions.specs.Questions.{Verdict, no, allYes}
-use Rattle.plan_solve.specs.declared.Answer.{Answer}
-use Rattle.plan_solve.specs.declared.Answer.the-variants.{Refused, Plan, None}
-use Rattle.plan_solve.specs.declared.Decision.{Decision}
-use Rattle.plan_solve.specs.declared.Decision.the-variants as decision
-use Rattle.plan_solve.specs.declared.SeatAnswer.{SeatAnswer}
-use Rattle.plan_solve.specs.declared.SeatAnswer.the-variants as seats
-use Rattle.plan_solve.specs.declared.Seated.{Seated}
-use Rattle.plan_solve.specs.declared.Seated.the-variants as seated
-use Rattle.plan_solve.specs.declared.Fit.{Fit}
-use Rattle.plan_solve.specs.declared.Fit.the-variants as fit
+use Rattle.plan_answers.specs.declared.Answer.{Answer}
+use Rattle.plan_answers.specs.declared.Answer.the-variants.{Refused, Plan, None}
+use Rattle.plan_answers.specs.declared.Decision.{Decision}
+use Rattle.plan_answers.specs.declared.Decision.the-variants as decision
+use Rattle.plan_answers.specs.declared.SeatAnswer.{SeatAnswer}
+use Rattle.plan_answers.specs.declared.SeatAnswer.the-variants as seats
+use Rattle.plan_answers.specs.declared.Seated.{Seated}
+use Rattle.plan_answers.specs.declared.Seated.the-variants as seated
+use Rattle.plan_answers.specs.declared.Fit.{Fit}
+use Rattle.plan_answers.specs.declared.Fit.the-variants as fit
 
 pub data Reply : Type 0 where
   refused : (number line : ℕ) → Reply
