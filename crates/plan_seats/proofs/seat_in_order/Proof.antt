@@ -6,7 +6,6 @@ use native.Mathlib.Omega.{arith}
 use lib.ListN.{length, replicate}
 use Rattle.plans.specs.Seating.{at}
 use Rattle.plans.specs.OrderLaws.{byRank-inOrder}
-use Rattle.plan_order.specs.Sorting.{seatOrder}
 use Rattle.plan_seats.specs.Seats.{seatsInto, looksInto}
 use borrow.Author.Needs.{needs}
 use Rattle.plan_seats.proofs.seat_in_order.Statement.{statement}

@@ -1,12 +1,11 @@
 -- What is left to do from the next place of the order on gives the whole answer.
-use mathlib.Core.Path.{_≡_, refl, sym, ap, _∙_, subst}
+use mathlib.Core.Path.{_≡_, refl, sym, _∙_, subst}
 use mathlib.Core.Bool.{true}
-use mathlib.Core.List.{List}
 use Prim.Native.Nat.{ℕ, suc, _+_, _-_, _≤_, _<_}
 use native.Mathlib.Omega.{arith}
 use lib.ListN.{length, set, length-set}
 use Rattle.plans.specs.Seating.{at, freeOpen}
-use Rattle.plan_seats.proofs.SlotLaws.{Search, Done, search-start, found, taken, slot-full, all-seen}
+use Rattle.plan_seats.proofs.SlotLaws.{Search, search-start, found, taken, slot-full, all-seen}
 use Rattle.plan_seats.proofs.seat_slot.Statement.{statement}
 use Rattle.plan_seats.proofs.seat_slot.Tie as tie
 

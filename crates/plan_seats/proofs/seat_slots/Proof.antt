@@ -1,10 +1,10 @@
 -- What is left to do from the slot on gives the whole answer; a slot looks at each unit once at most.
-use mathlib.Core.Path.{_≡_, refl, sym, ap, _∙_}
-use Prim.Native.Nat.{ℕ, _-_, _*_, _+_, _≤_}
+use mathlib.Core.Path.{_≡_, refl, _∙_}
+use Prim.Native.Nat.{_-_, _*_, _≤_}
 use native.Mathlib.Omega.{arith}
 use lib.ListN.{length}
 use Rattle.sheet.specs.Sizes.{maxUnits}
-use Rattle.plans.specs.Seating.{at, seatSlot, looks}
+use Rattle.plans.specs.Seating.{at}
 use Rattle.plan_seats.specs.Seats.{countAt}
 use Rattle.plan_seats.proofs.SlotLaws.{Slots, slots-start, slot-done, slots-end, looks-most}
 use Rattle.plan_seats.proofs.seat_slots.Statement.{statement}
