@@ -7,7 +7,7 @@ use plan_answers::Answer;
 use plan_answers::Decision;
 use plan_answers::Fit;
 use plan_answers::SeatAnswer;
-use plan_answers::Seated;
+use plan_answers::SeatOutcome;
 use questions::Checked;
 
 // What solving gives, as an answer.
@@ -30,13 +30,13 @@ fn decision_of(fit: Fit) -> Decision
 }
 
 // What seating gives, as its answer.
-fn seat_answer(seated: Seated) -> SeatAnswer
+fn seat_answer(seated: SeatOutcome) -> SeatAnswer
     ensures told { λ r. ⌜ seatReply r ≡ seatedReply seated ⌝ }
     ensures looked { λ r. ⌜ looksTold r ≡ seatedLooks seated ⌝ }
 {
     match seated {
-        Seated::Plan(looked) => SeatAnswer::Plan(looked),
-        Seated::None => SeatAnswer::None,
+        SeatOutcome::Plan(looked) => SeatAnswer::Plan(looked),
+        SeatOutcome::None => SeatAnswer::None,
     }
 }
 

@@ -8,8 +8,8 @@ use Rattle.plan_answers.specs.declared.Decision.{Decision}
 use Rattle.plan_answers.specs.declared.Decision.the-variants as decision
 use Rattle.plan_answers.specs.declared.SeatAnswer.{SeatAnswer}
 use Rattle.plan_answers.specs.declared.SeatAnswer.the-variants as seats
-use Rattle.plan_answers.specs.declared.Seated.{Seated}
-use Rattle.plan_answers.specs.declared.Seated.the-variants as seated
+use Rattle.plan_answers.specs.declared.SeatOutcome.{SeatOutcome}
+use Rattle.plan_answers.specs.declared.SeatOutcome.the-variants as seated
 use Rattle.plan_answers.specs.declared.Fit.{Fit}
 use Rattle.plan_answers.specs.declared.Fit.the-variants as fit
 
@@ -42,7 +42,7 @@ fitReply fit.Fits = plan
 fitReply (fit.None k) = none k
 
 -- and seating such a sheet
-abbrev pub seatedReply : Seated → Reply
+abbrev pub seatedReply : SeatOutcome → Reply
 seatedReply (seated.Plan k) = plan
 seatedReply seated.None = none 0
 
@@ -52,7 +52,7 @@ looksTold (seats.Refused f) = 0
 looksTold (seats.Plan k) = k
 looksTold seats.None = 0
 
-abbrev pub seatedLooks : Seated → ℕ
+abbrev pub seatedLooks : SeatOutcome → ℕ
 seatedLooks (seated.Plan k) = k
 seatedLooks seated.None = 0
 

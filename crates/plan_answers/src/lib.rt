@@ -28,7 +28,7 @@ pub enum Fit {
 }
 
 // What seating such a sheet gives: a plan with how many units were looked at, or none.
-pub enum Seated {
+pub enum SeatOutcome {
     Plan(usize),
     None,
 }

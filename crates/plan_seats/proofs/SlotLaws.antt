@@ -134,7 +134,7 @@ module _ (high low : ℤ) (h : pos 0 ≤ℤ low) (l : low ≤ℤ high) (f : SFit
 -- ---- slot after slot
 module _ (first z : ℕ → ℕ) (order : List ℕ) where
   -- from a slot on, with l looks behind: the same seats as from the first slot on, and as many looks
-  pub record Slots (len : ℕ) (plan₀ : List ℕ) (slot : ℕ) (plan : List ℕ) (l : ℕ) : Type 0 where
+  pub record Searches (len : ℕ) (plan₀ : List ℕ) (slot : ℕ) (plan : List ℕ) (l : ℕ) : Type 0 where
     pub seats : seatSlots first z order (slot - 1) (len - slot) plan ≡ seatSlots first z order 0 (len - 1) plan₀
     pub looked : l + looksSlots first z order (slot - 1) (len - slot) plan ≡ looksSlots first z order 0 (len - 1) plan₀
 
@@ -151,12 +151,12 @@ module _ (first z : ℕ → ℕ) (order : List ℕ) where
       let g : len - suc b ≡ suc (len - (suc b + 1)) = omega arith in
       rw (e, f, g) (refl, refl)
 
-  pub slots-start : (len : ℕ) (plan₀ : List ℕ) → Slots len plan₀ 1 plan₀ 0
+  pub slots-start : (len : ℕ) (plan₀ : List ℕ) → Searches len plan₀ 1 plan₀ 0
   slots-start len plan₀ = record { seats = refl; looked = omega arith }
 
   pub slot-done : (len : ℕ) (plan₀ : List ℕ) (slot count : ℕ) (plan plan′ : List ℕ) (l n : ℕ) → 1 ≤ slot → slot < len → count ≡ z slot - z (slot - 1)
-      → plan′ ≡ seatSlot first slot order count plan → n ≡ looks first slot order count plan → Slots len plan₀ slot plan l
-      → Slots len plan₀ (slot + 1) plan′ (l + n)
+      → plan′ ≡ seatSlot first slot order count plan → n ≡ looks first slot order count plan → Searches len plan₀ slot plan l
+      → Searches len plan₀ (slot + 1) plan′ (l + n)
   slot-done len plan₀ slot count plan plan′ l n h k e f g S =
       let next = slots-next slot len plan h k in
       let same = ap (λ (c : ℕ). seatSlot first slot order c plan) e in
@@ -169,7 +169,7 @@ module _ (first z : ℕ → ℕ) (order : List ℕ) where
   unfolding seatSlots looksSlots
   slots-none b m plan e = rw e (refl, refl)
 
-  pub slots-end : (len : ℕ) (plan₀ : List ℕ) (slot : ℕ) (plan : List ℕ) (l : ℕ) → len ≤ slot → Slots len plan₀ slot plan l
+  pub slots-end : (len : ℕ) (plan₀ : List ℕ) (slot : ℕ) (plan : List ℕ) (l : ℕ) → len ≤ slot → Searches len plan₀ slot plan l
       → (plan ≡ seatSlots first z order 0 (len - 1) plan₀) × (l ≡ looksSlots first z order 0 (len - 1) plan₀)
   slots-end len plan₀ slot plan l h S =
       let n = slots-none (slot - 1) (len - slot) plan (omega arith) in

@@ -7,7 +7,7 @@ ghost use Rattle.plan_steps.specs.Closing.{passed};
 ghost use Rattle.plan_answers.specs.Planning.{byPass, lookedBy, Settled, DecideSettled, SeatSettled};
 ghost use Rattle.plan_answers.specs.Reply.{fitReply, seatedReply, seatedLooks};
 use plan_answers::Fit;
-use plan_answers::Seated;
+use plan_answers::SeatOutcome;
 
 // Whether a sheet of which every question is answered yes fits: the finished table, or none and a ring.
 pub fn decide(
@@ -52,7 +52,7 @@ pub fn seat(
     plan: &mut [u16],
     earliest: &mut [u16],
     latest: &mut [u16],
-) -> Seated
+) -> SeatOutcome
     requires { let l = listed span (now first) (now last) (now from) (now to) (now low) (now high) in
         ⌜ Solvable l (roomsFit (given l) (seatLent (seatRooms (now table) (now plan) (now earliest) (now latest)))) ⌝ }
     ensures settled { λ r.
@@ -65,11 +65,11 @@ pub fn seat(
 {
     let outcome = plan_steps::close_limits(span, first, last, from, to, low, high, table);
     match outcome {
-        network_pass::Outcome::Stopped => Seated::None,
+        network_pass::Outcome::Stopped => SeatOutcome::None,
         network_pass::Outcome::Finished => {
             let w = sheet::boundaries(span);
             let looked = plan_steps::fill_plan(w, first, last, table, plan, earliest, latest);
-            Seated::Plan(looked)
+            SeatOutcome::Plan(looked)
         }
     }
 }

@@ -16,7 +16,7 @@ use Rattle.lists.specs.Extremes.{greatest-below}
 use Rattle.lists.specs.Counts.{run-count}
 use Rattle.network.specs.Network.{Weights}
 use Rattle.network.specs.ClosureLaws.{row-feasible}
-use Rattle.sheet.specs.Sheet.{Sheet, top, limit, lawful, unitPlaces, comesBefore, placeOf, lastPlace, printedPlan, looked}
+use Rattle.sheet.specs.Sheet.{Sheet, top, limit, lawful, unitPlaces, comesBefore, orderPlace, lastSeated, printedPlan, looked}
 use Rattle.sheet.specs.PlanLaws.{in-lawfulPlans}
 use Rattle.sheet.specs.Solved.{Solved}
 use Rattle.slots.specs.Slots.{slotBefore}
@@ -34,12 +34,12 @@ module _ (s : Sheet) (last : ℕ → ℕ) (closes : (j : ℕ) → j < length (s 
       ap (λ (k : ℕ). comesBefore s k j) e
       ∙ ap₂ (λ (x y : ℕ). ltb x y || (eqb x y && ltb i j)) (sym (closes i hi)) (sym (closes j hj))
 
-  place-rank : (j : ℕ) → j < length (s .units) → placeOf s j ≡ suc (rank last (length (s .units)) j)
+  place-rank : (j : ℕ) → j < length (s .units) → orderPlace s j ≡ suc (rank last (length (s .units)) j)
   unfolding rank
   place-rank j h =
       ap suc (run-count (λ i. comesBefore s i j) (λ i. sooner last i j) 0 (length (s .units)) (λ i hi. before-same i j hi h))
 
-  placed : PlacedBy (length (s .units)) last (placeOf s)
+  placed : PlacedBy (length (s .units)) last (orderPlace s)
   placed p h =
       let n = length (s .units) in
       let size = length-replicate {A = ℕ} n 0 in
@@ -47,13 +47,13 @@ module _ (s : Sheet) (last : ℕ → ℕ) (closes : (j : ℕ) → j < length (s 
       ∙ ap suc (byRank-rank last n (replicate n 0) size p h)
 
 -- ---- no lawful plan
-none-there : (s : Sheet) (t : ℕ) → 1 ≤ t → lastPlace s [] t ≡ 0
+none-there : (s : Sheet) (t : ℕ) → 1 ≤ t → lastSeated s [] t ≡ 0
 none-there s t h =
     let has : ℕ → Bool = (λ j. eqb (getD [] j 0) t) in
     omega (
       arith,
-      greatest-below 0 (map (placeOf s) (keep has (unitPlaces s))) (λ x m.
-          let j = in-map (placeOf s) x (keep has (unitPlaces s)) m in
+      greatest-below 0 (map (orderPlace s) (keep has (unitPlaces s))) (λ x m.
+          let j = in-map (orderPlace s) x (keep has (unitPlaces s)) m in
           let seat = eqb→eq (getD [] (j .0) 0) t (in-keep has (j .0) (unitPlaces s) (j .1) .1) in
           absurd (omega (arith, seat, List·getD-eq-default {A = ℕ} [] 0 {n = j .0} (omega arith)))),
     )
@@ -66,7 +66,7 @@ pub unlawful-looked : (s : Sheet) → ((x : List ℕ) → T (lawful s x) → ⊥
 unfolding looked
 unlawful-looked s unlawful =
     let none : printedPlan s ≡ [] = ⊎-elim (λ e. e) (λ m. absurd (unlawful (printedPlan s) (in-lawfulPlans s (printedPlan s) .0 m))) (printed-or-none s) in
-    rw none (sum-none (lastPlace s []) 1 (suc (slotBefore (top s)) - 1) (none-there s))
+    rw none (sum-none (lastSeated s []) 1 (suc (slotBefore (top s)) - 1) (none-there s))
 
 -- ---- a finished table
 module _ (s : Sheet) (D : Weights) (S : Solved s D) (first last c : ℕ → ℕ) (opens : (j : ℕ) → j < length (s .units) → first j ≡ firsts s j)
@@ -76,6 +76,6 @@ module _ (s : Sheet) (D : Weights) (S : Solved s D) (first last c : ℕ → ℕ)
   looks-are-looked =
       let f = row-feasible (top s) (limit s) D (S .finished) 0 (omega arith) in
       let all-slots : top s ≡ suc (top s) - 1 = omega arith in
-      seats-looked s (S .valid) (D 0) f first last c (rises s D S first last c opens closes row) (placeOf s) (placed s last closes)
-      ∙ ap (lastPlaces (placeOf s) (length (s .units)) (top s)) (seats-are-printed s D S first last c opens closes row)
-      ∙ ap (λ (k : ℕ). sumOf (map (lastPlace s (printedPlan s)) (run 1 k))) all-slots
+      seats-looked s (S .valid) (D 0) f first last c (rises s D S first last c opens closes row) (orderPlace s) (placed s last closes)
+      ∙ ap (lastPlaces (orderPlace s) (length (s .units)) (top s)) (seats-are-printed s D S first last c opens closes row)
+      ∙ ap (λ (k : ℕ). sumOf (map (lastSeated s (printedPlan s)) (run 1 k))) all-slots

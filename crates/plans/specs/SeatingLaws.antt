@@ -244,7 +244,7 @@ module _ (n top : ℕ) (first last z : ℕ → ℕ) (P : Problem n top first las
     apart p q h hq = before-apart last (at order p) (at order q) (O .sorted p q h hq)
 
     -- what slot s leaves and looks at from place p of the order on, where r seats are left
-    record Filled (s p r : ℕ) (plan after : List ℕ) (l : ℕ) : Type 0 where
+    record SlotFilled (s p r : ℕ) (plan after : List ℕ) (l : ℕ) : Type 0 where
       sofar : PlanSoFar (z s) s after
       -- who has a seat keeps it
       kept : (j : ℕ) → (at after j ≡ at plan j) ⊎ ((at plan j ≡ 0) × (at after j ≡ s))
@@ -309,7 +309,7 @@ module _ (n top : ℕ) (first last z : ℕ → ℕ) (P : Problem n top first las
             absurd (f (a .0) (a .1) (rw (a .2) (le-free (at plan (j .0)) (first (j .0)) s (j .2) (j .3))))
       ]
 
-      untouched : (p r : ℕ) (plan : List ℕ) → r ≡ 0 → p ≤ n → PlanSoFar (z s) s plan → Filled s p r plan plan 0
+      untouched : (p r : ℕ) (plan : List ℕ) → r ≡ 0 → p ≤ n → PlanSoFar (z s) s plan → SlotFilled s p r plan plan 0
       untouched p r plan e h F = record {
         sofar = F;
         kept = λ j. inl refl;
@@ -320,7 +320,7 @@ module _ (n top : ℕ) (first last z : ℕ → ℕ) (P : Problem n top first las
       }
 
       -- the unit at place p is passed, or it is seated
-      past : (p r : ℕ) (plan after : List ℕ) (l : ℕ) → Filled s (suc p) (suc r) plan after l → Filled s p (suc r) plan after (suc l)
+      past : (p r : ℕ) (plan after : List ℕ) (l : ℕ) → SlotFilled s (suc p) (suc r) plan after l → SlotFilled s p (suc r) plan after (suc l)
       past p r plan after l G = record {
         sofar = G .sofar;
         kept = G .kept;
@@ -334,7 +334,7 @@ module _ (n top : ℕ) (first last z : ℕ → ℕ) (P : Problem n top first las
       }
 
       module _ (p k : ℕ) (hp : p < n) (plan : List ℕ) (F : PlanSoFar k s plan) (f : Passed p plan) (o : T (freeOpen (at plan) first s (at order p))) where
-        taken-here : (r : ℕ) (after : List ℕ) (l : ℕ) → Filled s (suc p) r (set plan (at order p) s) after l → Filled s p (suc r) plan after (suc l)
+        taken-here : (r : ℕ) (after : List ℕ) (l : ℕ) → SlotFilled s (suc p) r (set plan (at order p) s) after l → SlotFilled s p (suc r) plan after (suc l)
         taken-here r after l G = record {
           sofar = G .sofar;
           kept = kept;
@@ -365,7 +365,7 @@ module _ (n top : ℕ) (first last z : ℕ → ℕ) (P : Problem n top first las
 
       -- m places of the order are left
       slot-filled : (m p k r : ℕ) (plan : List ℕ) → p + m ≡ n → k + r ≡ z s → z (s - 1) ≤ k → Passed p plan → PlanSoFar k s plan
-          → Filled s p r plan (seatSlot first s (drop p order) r plan) (looks first s (drop p order) r plan)
+          → SlotFilled s p r plan (seatSlot first s (drop p order) r plan) (looks first s (drop p order) r plan)
       unfolding seatSlot looks
       slot-filled zero p k r plan e c before f F =
           let none : drop p order ≡ [] = drop-of-length-le order {i = p} (omega (arith, O .size)) in
@@ -381,8 +381,8 @@ module _ (n top : ℕ) (first last z : ℕ → ℕ) (P : Problem n top first las
         where
           go : (t : Bool) → freeOpen (at plan) first s (at order p) ≡ t
               → ((k r : ℕ) (plan : List ℕ) → suc p + m ≡ n → k + r ≡ z s → z (s - 1) ≤ k → Passed (suc p) plan → PlanSoFar k s plan
-              → Filled s (suc p) r plan (seatSlot first s (drop (suc p) order) r plan) (looks first s (drop (suc p) order) r plan))
-              → Filled s p (suc r) plan
+              → SlotFilled s (suc p) r plan (seatSlot first s (drop (suc p) order) r plan) (looks first s (drop (suc p) order) r plan))
+              → SlotFilled s p (suc r) plan
               (cond t (seatSlot first s (drop (suc p) order) r (set plan (at order p) s)) (seatSlot first s (drop (suc p) order) (suc r) plan))
               (suc (cond t (looks first s (drop (suc p) order) r (set plan (at order p) s)) (looks first s (drop (suc p) order) (suc r) plan)))
           go true q ih =
@@ -397,7 +397,7 @@ module _ (n top : ℕ) (first last z : ℕ → ℕ) (P : Problem n top first las
     -- the slot after boundary b
     next-filled : (b : ℕ) (plan : List ℕ) (h : suc b ≤ top) → PlanSoFar (z b) (suc b) plan
         → let k = z (suc b) - z b in
-        Filled (suc b) 0 k plan (seatSlot first (suc b) order k plan) (looks first (suc b) order k plan)
+        SlotFilled (suc b) 0 k plan (seatSlot first (suc b) order k plan) (looks first (suc b) order k plan)
     next-filled b plan h F =
         let same = ap z (let p : suc b - 1 ≡ b = omega arith in p) in
         slot-filled (suc b) (omega arith) h n 0 (z b) (z (suc b) - z b) plan (omega arith)
@@ -440,7 +440,7 @@ module _ (n top : ℕ) (first last z : ℕ → ℕ) (P : Problem n top first las
 
     -- ---- the looks, where every unit has its place in the order
     module _ (place : ℕ → ℕ) (placed : (p : ℕ) → p < n → place (at order p) ≡ suc p) where
-      module _ (b k : ℕ) (plan next x : List ℕ) (l : ℕ) (G : Filled (suc b) 0 k plan next l)
+      module _ (b k : ℕ) (plan next x : List ℕ) (l : ℕ) (G : SlotFilled (suc b) 0 k plan next l)
           (early : Early b plan) (rest : Later (suc b) next x) where
         not-behind : (p : ℕ) → p < n → at x (at order p) ≡ suc b → p < l
         not-behind p h e = elim (decLe l p) [

@@ -10,7 +10,7 @@ use Rattle.network.specs.Network.{isNegativeCycle}
 use Rattle.slots.specs.Slots.{Slot, Boundary}
 use Rattle.sheet.specs.Sheet.{Window, Rule, Sheet, SheetUnit, WrittenSheet, constraints, loaders, top, atMost, atLeast, limit, isRing, ringSum, shortfall}
 use Rattle.sheet.specs.Sheet.{lawful, lawfulPlans, leastIn, greatestIn, earliest, latest, earliestSlots, latestSlots, soonest, fair, printedPlans}
-use Rattle.sheet.specs.Sheet.{printedPlan, lastPlace, looked}
+use Rattle.sheet.specs.Sheet.{printedPlan, lastSeated, looked}
 use Rattle.sheet.specs.Questions.{isNew, allNew, loadersFit}
 
 -- `w 1 4`: window 1-4
@@ -106,7 +106,7 @@ cases =
 abbrev busy : Sheet
 busy = constraints (sheet 3 (w 1 3 ∷ w 1 1 ∷ w 1 1 ∷ w 2 4 ∷ []) (r 1 1 0 2 ∷ r 2 3 0 1 ∷ []))
 
-pub looks-by-hand : (printedPlan busy ≡ 2 ∷ 1 ∷ 1 ∷ 4 ∷ []) × (map (lastPlace busy (printedPlan busy)) (fromTo 1 4) ≡ 2 ∷ 3 ∷ 0 ∷ 4 ∷ []) × (looked busy ≡ 9)
+pub looks-by-hand : (printedPlan busy ≡ 2 ∷ 1 ∷ 1 ∷ 4 ∷ []) × (map (lastSeated busy (printedPlan busy)) (fromTo 1 4) ≡ 2 ∷ 3 ∷ 0 ∷ 4 ∷ []) × (looked busy ≡ 9)
 unfolding top lawful lawfulPlans greatestIn soonest fair printedPlans printedPlan looked
 looks-by-hand = (refl, refl, refl)
 

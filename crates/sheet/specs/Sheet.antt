@@ -157,16 +157,16 @@ printedPlan s = headOr [] (printedPlans s)
 -- ---- how far seating looks
 
 -- the place of unit j, from 1, among all units in the order of seats
-abbrev pub placeOf : Sheet → ℕ → ℕ
-placeOf s j = suc (howMany (λ i. comesBefore s i j) (unitPlaces s))
+abbrev pub orderPlace : Sheet → ℕ → ℕ
+orderPlace s j = suc (howMany (λ i. comesBefore s i j) (unitPlaces s))
 
 -- the place of the last unit in that order that the plan has in slot t; 0 where it has none there
-abbrev pub lastPlace : Sheet → List Slot → Slot → ℕ
-lastPlace s plan t = greatest (map (placeOf s) (keep (λ j. eqb (getD plan j 0) t) (unitPlaces s)))
+abbrev pub lastSeated : Sheet → List Slot → Slot → ℕ
+lastSeated s plan t = greatest (map (orderPlace s) (keep (λ j. eqb (getD plan j 0) t) (unitPlaces s)))
 
 -- how many units seating looks at: the sum of these places over all slots of the printed plan, the carried place included
 unfoldable pub looked : Sheet → ℕ
-looked s = sumOf (map (lastPlace s (printedPlan s)) (fromTo 1 (slotBefore (top s))))
+looked s = sumOf (map (lastSeated s (printedPlan s)) (fromTo 1 (slotBefore (top s))))
 
 -- ---- the limits of steps
 

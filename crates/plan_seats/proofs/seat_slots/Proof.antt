@@ -6,14 +6,14 @@ use lib.ListN.{length}
 use Rattle.sheet.specs.Sizes.{maxUnits}
 use Rattle.plans.specs.Seating.{at}
 use Rattle.plan_seats.specs.Seats.{countAt}
-use Rattle.plan_seats.proofs.SlotLaws.{Slots, slots-start, slot-done, slots-end, looks-most}
+use Rattle.plan_seats.proofs.SlotLaws.{Searches, slots-start, slot-done, slots-end, looks-most}
 use Rattle.plan_seats.proofs.seat_slots.Statement.{statement}
 use Rattle.plan_seats.proofs.seat_slots.Tie as tie
 
 abbrev Inv-loop : tie.InvT-loop
 Inv-loop first order counts plan₀ looked₀ slot₀ slot-end plan looked slot =
     (1 ≤ slot) × (slot ≤ length counts) × (slot-end ≡ length counts) × (length plan ≡ length plan₀) × (looked ≤ slot * maxUnits)
-    × Slots (at first) (countAt counts) order (length counts) plan₀ slot plan looked
+    × Searches (at first) (countAt counts) order (length counts) plan₀ slot plan looked
 
 abbrev μ-loop : tie.MeasureT-loop
 μ-loop first order counts plan₀ looked₀ slot₀ slot-end plan looked slot = length counts - slot
