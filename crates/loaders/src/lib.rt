@@ -13,7 +13,7 @@ use sheet::Sheet;
 pub const CHAINS: usize = 256;
 
 // Whether a number is among the first n of a list, by the chain that it belongs to.
-fn is_among(ks: &[u16], n: usize, heads: &[u16], nexts: &[u16], k: u16) -> bool
+pub fn is_among(ks: &[u16], n: usize, heads: &[u16], nexts: &[u16], k: u16) -> bool
     requires { ⌜ (n ≤ length (now ks)) × (n ≤ length (now nexts)) × Linked (now ks) n (now heads) (now nexts) ⌝ }
     ensures { λ r. ⌜ r ≡ member k (take n (now (ks .entry))) ⌝ }
 {

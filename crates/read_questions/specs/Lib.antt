@@ -6,3 +6,4 @@ pub mod LineLaws
 pub mod Samples
 pub mod AcceptedLaws
 pub mod RefusalLaws
+pub mod ConcludedLaws
