@@ -1,0 +1,30 @@
+-- Two sheets made one (docs/RULES.md, "Merging"). Definitions only, over sheets as they are written.
+use mathlib.Core.Bool.{Bool, not}
+use mathlib.Core.List.{List, [], _∷_, _++_, map}
+use lib.Dec.{ltb}
+use Rattle.slots.specs.Slots.{Slot}
+use Rattle.lists.specs.Lists.{keep, least, greatest}
+use Rattle.sheet.specs.Sheet.{Rule, WrittenSheet, onStretch}
+
+-- the first rule on each stretch, in order
+unfoldable pub firsts : List Rule → List Rule
+firsts [] = []
+firsts (r ∷ rs) = r ∷ keep (λ q. not (onStretch (r .from) (r .to) q)) (firsts rs)
+
+-- the largest low and the smallest high of the rules on a stretch
+abbrev pub combinedOn : List Rule → Slot → Slot → Rule
+combinedOn rs f t =
+    let here = keep (onStretch f t) rs in
+    record { from = f; to = t; low = greatest (map (λ r. r .low) here); high = least (map (λ r. r .high) here) }
+
+-- one rule for each stretch, in order of first appearance
+unfoldable pub mergedRules : List Rule → List Rule
+mergedRules rs = map (λ r. combinedOn rs (r .from) (r .to)) (firsts rs)
+
+-- units of the first, then of the second
+unfoldable pub merged : WrittenSheet → WrittenSheet → WrittenSheet
+merged a b = record { span = a .span; units = a .units ++ b .units; rules = mergedRules (a .rules ++ b .rules) }
+
+-- a combined low above its high (question 21)
+abbrev pub crossed : Rule → Bool
+crossed r = ltb (r .high) (r .low)

@@ -1,0 +1,1 @@
+// Two sheets made one: definitions and laws only.
