@@ -1,6 +1,7 @@
 -- Two sheets made one (docs/RULES.md, "Merging"). Definitions only, over sheets as they are written.
-use mathlib.Core.Bool.{Bool, not}
+use mathlib.Core.Bool.{Bool, not, cond}
 use mathlib.Core.List.{List, [], _∷_, _++_, map}
+use Prim.Native.Nat.{min, max}
 use lib.Dec.{ltb}
 use Rattle.slots.specs.Slots.{Slot}
 use Rattle.lists.specs.Lists.{keep, least, greatest}
@@ -28,3 +29,14 @@ merged a b = record { span = a .span; units = a .units ++ b .units; rules = merg
 -- a combined low above its high (question 21)
 abbrev pub crossed : Rule → Bool
 crossed r = ltb (r .high) (r .low)
+
+-- ---- one rule more, as code combines them
+
+-- the larger low and the smaller high of two rules on one stretch
+abbrev pub tightened : Rule → Rule → Rule
+tightened q r = record { from = q .from; to = q .to; low = max (q .low) (r .low); high = min (q .high) (r .high) }
+
+-- the first rule on the stretch tightened by it, or the rule behind all others
+abbrev pub withRule : List Rule → Rule → List Rule
+withRule [] r = r ∷ []
+withRule (q ∷ qs) r = cond (onStretch (r .from) (r .to) q) (tightened q r ∷ qs) (q ∷ withRule qs r)
