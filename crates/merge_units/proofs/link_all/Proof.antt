@@ -6,8 +6,8 @@ use lib.ListN.{length, length-replicate}
 use Rattle.sheet.specs.Sizes.{maxUnits}
 use Rattle.loaders.specs.Chains.{chains, Linked}
 use Rattle.loaders.specs.ChainLaws.{linked-none, linked-more}
-use Rattle.merge_loaders.proofs.link_all.Statement.{statement}
-use Rattle.merge_loaders.proofs.link_all.Tie as tie
+use Rattle.merge_units.proofs.link_all.Statement.{statement}
+use Rattle.merge_units.proofs.link_all.Tie as tie
 
 abbrev Inv-loop : tie.InvT-loop
 Inv-loop ks heads₀ nexts₀ j₀ j-end heads nexts j = (j ≤ length ks) × (length nexts ≡ maxUnits) × Linked ks j heads nexts
