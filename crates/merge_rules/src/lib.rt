@@ -107,7 +107,17 @@ pub fn combine(
     let mut past: usize = 0;
     let mut i: usize = 0;
     while i < from.len() {
-        count = add_rule(from[i], to[i], low[i], high[i], count, froms, tos, lows, highs);
+        count = add_rule(
+            from[i],
+            to[i],
+            low[i],
+            high[i],
+            count,
+            froms,
+            tos,
+            lows,
+            highs,
+        );
         i += 1;
         if count <= Sheet::MAX_RULES {
             past = i;

@@ -1,120 +1,116 @@
+-- Key idea: before the turn of rule i the columns hold the merged rules of those before it (`Combining`); the call adds rule i.
+use mathlib.Core.Path.{_≡_, refl, sym, ap, subst, _∙_}
+use mathlib.Core.List.{List}
+use Prim.Native.Nat.{ℕ, _+_, _-_, _≤_, _<_}
+use native.Mathlib.Omega.{arith}
+use lib.ListN.{length, getD, take}
+use Rattle.sheet.specs.Sheet.{Rule}
+use Rattle.sheet.specs.PlanLaws.{noRule}
+use Rattle.sheet.specs.Questions.{rulesOf}
+use Rattle.sheet.specs.QuestionLaws.{rulesOf-length, rulesOf-at}
+use Rattle.merge_sheets.specs.Merge.{mergedRules, withRule}
+use Rattle.merge_rules.specs.Columns.{Columns, columns, AtFront}
+use Rattle.merge_rules.proofs.CombiningLaws.{Combining, Roomy, SameLong, combining-none, few, same-long, still-fit, too-many, all-held, all-passed}
 use Rattle.merge_rules.proofs.combine.Statement.{statement}
 use Rattle.merge_rules.proofs.combine.Tie as tie
-use Rattle.merge_rules.proofs.combine.Reads as reads
-use Rattle.merge_rules.proofs.combine.Lts as lts
-use Rattle.merge_rules.proofs.add_rule.Reads as add-rule-reads
 
 abbrev Inv-loop : tie.InvT-loop
 Inv-loop from to low high froms₀ tos₀ lows₀ highs₀ count₀ past₀ i₀ froms tos lows highs count past i =
-    ?
+    Combining (rulesOf from to low high) (columns froms₀ tos₀ lows₀ highs₀) i count past (columns froms tos lows highs)
 
 abbrev μ-loop : tie.MeasureT-loop
-μ-loop from to low high froms₀ tos₀ lows₀ highs₀ count₀ past₀ i₀ froms tos lows highs count past i =
-    ?
+μ-loop from to low high froms₀ tos₀ lows₀ highs₀ count₀ past₀ i₀ froms tos lows highs count past i = length from - i
 
--- src/lib.rt:109:5
-loop-holds : tie.Need-loop-holds Inv-loop μ-loop
-loop-holds c = ?
+-- the function's start from the loop's place, and that from the place behind the call
+abbrev start : tie.At-loop Inv-loop μ-loop → tie.Start Inv-loop μ-loop
+start c = c .before .before .before .before .before .before .before .before .before
 
--- src/lib.rt:110:26
-mul-add-rule : tie.Need-mul-add-rule Inv-loop μ-loop
-mul-add-rule c = ?
+abbrev turn : tie.After-slice-known8 Inv-loop μ-loop → tie.At-loop Inv-loop μ-loop
+turn c = c .before .before .before .before .before .before .before .before .before .before .before .before .before .before .before .before .before .before
 
--- src/lib.rt:110:26
-shared-slice-read-add-rule : tie.Need-shared-slice-read-add-rule Inv-loop μ-loop
-shared-slice-read-add-rule c = ?
+-- the rules, and the arrays at the start
+abbrev rules : tie.Start Inv-loop μ-loop → List Rule
+rules c = let a = c .args in rulesOf (a .from .now) (a .to .now) (a .low .now) (a .high .now)
 
--- src/lib.rt:110:35
-mul-add-rule-2 : tie.Need-mul-add-rule-2 Inv-loop μ-loop
-mul-add-rule-2 c = ?
+abbrev rooms : tie.Start Inv-loop μ-loop → Columns
+rooms c = let a = c .args in columns (a .froms .now) (a .tos .now) (a .lows .now) (a .highs .now)
 
--- src/lib.rt:110:35
-shared-slice-read-add-rule-2 : tie.Need-shared-slice-read-add-rule-2 Inv-loop μ-loop
-shared-slice-read-add-rule-2 c = ?
+size : (c : tie.Start Inv-loop μ-loop) → length (rules c) ≡ length (c .args .from .now)
+size c = let a = c .args in rulesOf-length (a .from .now) (a .to .now) (a .low .now) (a .high .now) (c .pre .0 .0) (c .pre .0 .1) (c .pre .0 .2)
 
--- src/lib.rt:110:42
-mul-add-rule-3 : tie.Need-mul-add-rule-3 Inv-loop μ-loop
-mul-add-rule-3 c = ?
+roomy : (c : tie.Start Inv-loop μ-loop) → Roomy (rules c) (rooms c)
+roomy c =
+    let e = size c in
+    record {
+      froms = omega (arith, e, c .pre .1 .0);
+      tos = omega (arith, e, c .pre .1 .1);
+      lows = omega (arith, e, c .pre .1 .2);
+      highs = omega (arith, e, c .pre .1 .3);
+    }
 
--- src/lib.rt:110:42
-shared-slice-read-add-rule-3 : tie.Need-shared-slice-read-add-rule-3 Inv-loop μ-loop
-shared-slice-read-add-rule-3 c = ?
+-- the arrays at the loop's place
+abbrev held : tie.At-loop Inv-loop μ-loop → Columns
+held c = let l = c .loop in columns (l .froms) (l .tos) (l .lows) (l .highs)
 
--- src/lib.rt:110:50
-mul-add-rule-4 : tie.Need-mul-add-rule-4 Inv-loop μ-loop
-mul-add-rule-4 c = ?
+-- they are as long as they were
+long : (c : tie.At-loop Inv-loop μ-loop) → SameLong (rooms (start c)) (held c)
+long c = let l = c .loop in same-long (rules (start c)) (rooms (start c)) (l .i) (l .count) (l .past) (held c) (l .inv) (roomy (start c))
 
--- src/lib.rt:110:50
-shared-slice-read-add-rule-4 : tie.Need-shared-slice-read-add-rule-4 Inv-loop μ-loop
-shared-slice-read-add-rule-4 c = ?
-
--- src/lib.rt:110:9
 add-rule-requires : tie.Need-add-rule-requires Inv-loop μ-loop
-add-rule-requires c κs = ?
+add-rule-requires c κs =
+    let p = c .before .before .before .before .before .before .before .before .before in
+    let l = p .loop in
+    let r = roomy (start p) in
+    let m = few (rules (start p)) (rooms (start p)) (l .i) (l .count) (l .past) (held p) (l .inv) in
+    let k : l .i < length (rules (start p)) = omega (arith, size (start p)) in (
+      omega (arith, m, k, r .froms, long p .froms),
+      omega (arith, m, k, r .tos, long p .tos),
+      omega (arith, m, k, r .lows, long p .lows),
+      omega (arith, m, k, r .highs, long p .highs),
+    )
 
--- src/lib.rt:111:9
-add-i : tie.Need-add-i Inv-loop μ-loop
-add-i c = ?
+-- the rule whose turn it is
+inside : (c : tie.After-slice-known8 Inv-loop μ-loop) → turn c .loop .i < length (rules (start (turn c)))
+inside c = omega (arith, size (start (turn c)))
 
--- src/lib.rt:109:5
-loop-less : tie.Need-loop-less Inv-loop μ-loop
-loop-less c = ?
+added : (c : tie.After-slice-known8 Inv-loop μ-loop) → let p = turn c in let s = start p in let k = c .before .before .before .before .before .before .before .before .add-rule in
+    AtFront (withRule (mergedRules (take (p .loop .i) (rules s))) (getD (rules s) (p .loop .i) noRule)) (k .result) (rooms s)
+    (columns (k .last .1 .1 .1 .1 .1 .0) (k .last .1 .1 .1 .1 .1 .1 .0) (k .last .1 .1 .1 .1 .1 .1 .1 .0) (k .last .1 .1 .1 .1 .1 .1 .1 .1 .0))
+added c =
+    let p = turn c in
+    let s = start p in
+    let a = s .args in
+    let i = p .loop .i in
+    let e = rulesOf-at (a .from .now) (a .to .now) (a .low .now) (a .high .now) (s .pre .0 .0) (s .pre .0 .1) (s .pre .0 .2) i (omega (arith, inside c, size s)) in
+    rw e (c .before .before .before .before .before .before .before .before .add-rule .ensures (mergedRules (take i (rules s))) (rooms s) (p .loop .inv .held))
 
--- src/lib.rt:109:5
 loop-again : tie.Need-loop-again Inv-loop μ-loop
-loop-again c = ?
+loop-again c =
+    let p = turn (c .before) in
+    let l = p .loop in
+    let s = start p in
+    let k = c .before .before .before .before .before .before .before .before .before .add-rule in
+    still-fit (rules s) (rooms s) (l .i) (l .count) (l .past) (held p) (l .inv) (inside (c .before)) (k .result) _ (added (c .before)) (omega arith)
 
--- src/lib.rt:109:5
-loop-less-2 : tie.Need-loop-less-2 Inv-loop μ-loop
-loop-less-2 c = ?
-
--- src/lib.rt:109:5
 loop-again-2 : tie.Need-loop-again-2 Inv-loop μ-loop
-loop-again-2 c = ?
+loop-again-2 c =
+    let p = turn (c .before) in
+    let l = p .loop in
+    let s = start p in
+    let k = c .before .before .before .before .before .before .before .before .before .add-rule in
+    too-many (rules s) (rooms s) (l .i) (l .count) (l .past) (held p) (l .inv) (inside (c .before)) (k .result) _ (added (c .before)) (omega arith)
 
--- src/lib.rt:80:1
-same-length : tie.Need-same-length Inv-loop μ-loop
-same-length c = ?
-
--- src/lib.rt:80:1
-same-length-2 : tie.Need-same-length-2 Inv-loop μ-loop
-same-length-2 c = ?
-
--- src/lib.rt:80:1
-same-length-3 : tie.Need-same-length-3 Inv-loop μ-loop
-same-length-3 c = ?
-
--- src/lib.rt:80:1
-same-length-4 : tie.Need-same-length-4 Inv-loop μ-loop
-same-length-4 c = ?
-
--- src/lib.rt:80:1
 returns : tie.Need-returns Inv-loop μ-loop
-returns c = ?
+returns c =
+    let p = c .before in
+    let l = p .loop in
+    let s = start p in
+    let e : length (rules s) ≤ l .i = omega (arith, size s) in
+    let h = all-held (rules s) (rooms s) (l .i) (l .count) (l .past) (held p) (l .inv) e in
+    (h .count, (all-passed (rules s) (rooms s) (l .i) (l .count) (l .past) (held p) (l .inv) e, (h .froms, (h .tos, (h .lows, h .highs)))))
 
 pub combine-spec : {M : Type 1} → statement M
-combine-spec =
-    tie.close
-    (tie.spec
-    Inv-loop
-    μ-loop
-    loop-holds
-    mul-add-rule
-    shared-slice-read-add-rule
-    mul-add-rule-2
-    shared-slice-read-add-rule-2
-    mul-add-rule-3
-    shared-slice-read-add-rule-3
-    mul-add-rule-4
-    shared-slice-read-add-rule-4
-    add-rule-requires
-    add-i
-    loop-less
-    loop-again
-    loop-less-2
-    loop-again-2
-    same-length
-    same-length-2
-    same-length-3
-    same-length-4
-    returns)
+combine-spec = tie.close (tie.spec Inv-loop μ-loop (λ c. let s = c .before .before .before .before .before .before .before .before in combining-none (rules s) (rooms s)) (λ c. omega arith) (λ c. omega arith)
+    (λ c. omega arith) (λ c. omega arith) (λ c. omega arith) (λ c. omega arith) (λ c. omega arith) (λ c. omega arith) add-rule-requires (λ c. omega arith)
+    (λ c. omega arith) loop-again (λ c. omega arith) loop-again-2 (λ c. long (c .before) .froms) (λ c. long (c .before) .tos) (λ c. long (c .before) .lows)
+    (λ c. long (c .before) .highs) returns)

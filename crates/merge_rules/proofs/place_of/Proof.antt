@@ -32,8 +32,8 @@ loop-again c =
     let l = c .before .before .before in
     let a = l .before .args in
     let other =
-        ⊎-elim (λ w. same-from (a .froms .now) (a .tos .now) (a .f) (a .t) (l .loop .j) (w .0 .taken) ∙ w .2 .left)
-        (λ w. other-from (a .froms .now) (a .tos .now) (a .f) (a .t) (l .loop .j) (w .left)) (c .if1 .came) in
+    ⊎-elim (λ w. same-from (a .froms .now) (a .tos .now) (a .f) (a .t) (l .loop .j) (w .0 .taken) ∙ w .2 .left)
+    (λ w. other-from (a .froms .now) (a .tos .now) (a .f) (a .t) (l .loop .j) (w .left)) (c .if1 .came) in
     (omega arith, first-failed (test (l .before)) (a .n) (l .loop .j) (omega arith) other ∙ l .loop .inv .1)
 
 returns-2 : tie.Need-returns-2 Inv-loop μ-loop
