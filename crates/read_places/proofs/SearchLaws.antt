@@ -1,7 +1,7 @@
 -- The search over a text, line by line.
 -- Key idea: at a line's start the answer stands among the lines that are left (`Searching`). A line that is not wanted leaves its place among them; one that is
 -- wanted is the answer or lowers that place by one. Past the last line feed no line is wanted, since it would be refused.
-use Prim.Native.Nat.{ℕ, zero, suc, _+_, _-_, _≤_, _<_}
+use Prim.Native.Nat.{ℕ, suc, _+_, _-_, _≤_, _<_}
 use mathlib.Core.Path.{_≡_, refl, sym, ap, ap₂, _∙_}
 use mathlib.Core.Logic.{⊎-elim}
 use mathlib.Core.Bool.{Bool, true, false}
@@ -12,7 +12,7 @@ use native.Mathlib.Nat.{eq-or-lt-of-le}
 use lib.ListN.{length, getD, drop, length-append, length-drop}
 use Rattle.lists.specs.Lists.{consIf, keep}
 use Rattle.forms.specs.Words.{lineFeed}
-use Rattle.forms.specs.Lines.{TextLine, textLine, lines, firstLine, hasFeed, wholeLines}
+use Rattle.forms.specs.Lines.{TextLine, textLine, lines, firstLine, wholeLines}
 use Rattle.forms.specs.LinesLaws.{lineEnd, lines-at, lines-none, whole-within, whole-ended, whole-next, rest-unended, rest-line}
 use Rattle.forms.specs.declared.House.the-variants.{Ours}
 use Rattle.read_line.specs.Line.{lineOf}

@@ -1,2 +1,3 @@
 pub mod Places
 pub mod PlacesLaws
+pub mod LineOfUnit

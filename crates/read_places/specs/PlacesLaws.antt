@@ -1,9 +1,9 @@
 -- The laws of places: how many lines of a kind there are by the sheet's lists, and where in the text each stands.
--- Key idea: a line whose questions are all answered yes says the values of its content, so the wanted lines are counted as the units and rules that the contents
--- give. A line stands behind the lines before it as they are spelt, so its place is their length (`Standing`).
+-- Key idea: a line whose questions are all answered yes says the values of its content, so the wanted lines are counted as the units and rules that the
+-- contents give. A line stands behind the lines before it as they are spelt, so its place is their length (`Standing`).
 use Prim.Native.Nat.{ℕ, suc, _+_, _≤_, _<_}
 use mathlib.Core.Path.{_≡_, refl, sym, ap, ap₂, subst, _∙_}
-use mathlib.Core.Bool.{Bool, true, false, _&&_, cond}
+use mathlib.Core.Bool.{Bool, true, false, cond}
 use mathlib.Core.Logic.{⊎-elim}
 use mathlib.Core.List.{List, [], _∷_, _++_, map, List·Memᴰ·not-nil, List·Memᴰ·cases-cons}
 use native.Mathlib.Omega.{arith}
@@ -14,7 +14,7 @@ use lib.ListN.{length, getD, length-map, length-append, List·getD-eq-default}
 use borrow.Author.Tests.{lt-ltb, le-ltb}
 use Rattle.lists.specs.Lists.{every, member, consIf, keep, oneIf, howMany, joined}
 use Rattle.lists.specs.Members.{In, in-map, in-keep, in-at, right}
-use Rattle.questions.specs.Questions.{Question, AllYes}
+use Rattle.questions.specs.Questions.{AllYes}
 use Rattle.questions.specs.FirstNoLaws.{yes-front, yes-back, yes-at}
 use Rattle.sheet.specs.Sheet.{SheetUnit, Rule, loaders, onStretch}
 use Rattle.forms.specs.Words.{lineFeed}
@@ -216,7 +216,8 @@ module _ (w : Wanted) (text : List ℕ) (j : ℕ) where
       → (p : Placed) × (getD (spots w text) j noSpot ≡ p .spot) × T (isWanted w (p .says)) × Standing 1 0 (lines text) p
   unfolding spots
   spot-stands h =
-      let found = in-map (λ (p : Placed). p .spot) (getD (spots w text) j noSpot) (keep (λ p. isWanted w (p .says)) (placed text)) (in-at noSpot (spots w text) j h) in
+      let found = in-map (λ (p : Placed). p .spot) (getD (spots w text) j noSpot) (keep (λ p. isWanted w (p .says)) (placed text))
+      (in-at noSpot (spots w text) j h) in
       let p = found .0 in
       let kept = in-keep (λ (p : Placed). isWanted w (p .says)) p (placed text) (found .1) in
       (p, found .2, kept .1, stands 1 0 (lines text) p (kept .0))
@@ -226,11 +227,13 @@ module _ (w : Wanted) (text : List ℕ) (j : ℕ) where
   spot-found =
       elim (decLt j (length (spots w text))) [
         | yes h ↦
-        let r = spot-stands h in
-        lt-ltb 0 (getD (spots w text) j noSpot .number)
-        (omega (arith, ap (λ (s : Spot). s .number) (r .1), ap (λ (p : Placed). p .spot .number) (r .3 .place)))
-        ∙ sym (lt-ltb j (length (spots w text)) h)
-        | no g ↦ ap (λ (s : Spot). ltb 0 (s .number)) (List·getD-eq-default (spots w text) noSpot (omega arith)) ∙ sym (le-ltb j (length (spots w text)) (omega arith))
+            let r = spot-stands h in
+            lt-ltb 0 (getD (spots w text) j noSpot .number)
+            (omega (arith, ap (λ (s : Spot). s .number) (r .1), ap (λ (p : Placed). p .spot .number) (r .3 .place)))
+            ∙ sym (lt-ltb j (length (spots w text)) h)
+        | no g ↦
+            ap (λ (s : Spot). ltb 0 (s .number)) (List·getD-eq-default (spots w text) noSpot (omega arith))
+            ∙ sym (le-ltb j (length (spots w text)) (omega arith))
       ]
 
   pub spot-inside : let s = getD (spots w text) j noSpot in (s .start ≤ s .end) × (s .end ≤ length text)
@@ -238,7 +241,7 @@ module _ (w : Wanted) (text : List ℕ) (j : ℕ) where
       elim (decLt j (length (spots w text))) [
         | yes h ↦ subst (λ (s : Spot). (s .start ≤ s .end) × (s .end ≤ length text)) (sym (spot-stands h .1)) (inside (spot-stands h .0) (spot-stands h .3))
         | no g ↦
-        subst (λ (s : Spot). (s .start ≤ s .end) × (s .end ≤ length text)) (sym (List·getD-eq-default (spots w text) noSpot (omega arith))) (omega arith)
+            subst (λ (s : Spot). (s .start ≤ s .end) × (s .end ≤ length text)) (sym (List·getD-eq-default (spots w text) noSpot (omega arith))) (omega arith)
       ]
     where
       inside : (p : Placed) → Standing 1 0 (lines text) p → (p .spot .start ≤ p .spot .end) × (p .spot .end ≤ length text)
