@@ -13,9 +13,10 @@ use Rattle.lists.specs.First.{firstFrom, firstPlace}
 use Rattle.sheet.specs.Sheet.{headOr}
 
 -- tests that agree find the same place
-pub first-same : (t u : ℕ → Bool) → ((j : ℕ) → t j ≡ u j) → (k i : ℕ) → firstFrom k i t ≡ firstFrom k i u
-first-same t u same zero i = refl
-first-same t u same (suc k) i = ap₂ (λ (b : Bool) (r : ℕ). cond b i r) (same i) (first-same t u same k (suc i))
+pub first-same : (t u : ℕ → Bool) (k i : ℕ) → ((j : ℕ) → i ≤ j → j < i + k → t j ≡ u j) → firstFrom k i t ≡ firstFrom k i u
+first-same t u zero i same = refl
+first-same t u (suc k) i same =
+    ap₂ (λ (b : Bool) (r : ℕ). cond b i r) (same i (omega arith) (omega arith)) (first-same t u k (suc i) (λ j a b. same j (omega arith) (omega arith)))
 
 -- one place further on
 first-shifted : (t : ℕ → Bool) (k i : ℕ) → firstFrom k (suc i) t ≡ suc (firstFrom k i (λ j. t (suc j)))

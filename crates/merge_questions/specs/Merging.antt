@@ -52,13 +52,18 @@ firstCrossed rs = headOr noRule (keep crossed rs)
 abbrev pub tooManyAt : List Rule → ℕ → Bool
 tooManyAt rs j = ltb maxRules (length (mergedRules (take (suc j) rs)))
 
+-- of the combined rules, and of the place of the second sheet's rule that makes too many
+abbrev pub stretchQuestions : List ℕ → List Rule → ℕ → List Question
+stretchQuestions two combined past =
+    let over = firstCrossed combined in
+    ask 21 (lastLine two (Wanted.Stretch (over .from) (over .to))) (every (λ r. not (crossed r)) combined) ∷
+    ask 10 (lineAt two Wanted.Rule past) (leb (length combined) maxRules) ∷
+    []
+
 abbrev pub ruleQuestions : List ℕ → List Rule → List Rule → List Question
 ruleQuestions two ones twos =
     let all = ones ++ twos in
-    let over = firstCrossed (mergedRules all) in
-    ask 21 (lastLine two (Wanted.Stretch (over .from) (over .to))) (every (λ r. not (crossed r)) (mergedRules all)) ∷
-    ask 10 (lineAt two Wanted.Rule (firstPlace (length all) (tooManyAt all) - length ones)) (leb (length (mergedRules all)) maxRules) ∷
-    []
+    stretchQuestions two (mergedRules all) (firstPlace (length all) (tooManyAt all) - length ones)
 
 -- ---- all of them
 

@@ -1,0 +1,2 @@
+pub mod StretchLaws
+pub mod PlaceLaws

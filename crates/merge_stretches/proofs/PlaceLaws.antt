@@ -1,0 +1,71 @@
+-- The combined rules at the fronts of the arrays, and the rule that makes too many stretches.
+-- Key idea: as many rules as a sheet may have make no more stretches, so the rule that makes too many is the second sheet's.
+use Prim.Native.Nat.{ℕ, suc, _-_, _≤_, _<_}
+use mathlib.Core.Path.{_≡_, refl, sym, ap, ap₂, _∙_}
+use mathlib.Core.List.{List, [], _∷_, map}
+use native.Mathlib.Omega.{arith}
+use native.Mathlib.Decide.{decLe}
+use lib.ListN.{length, take, drop, length-take, length-drop, length-map, length-append, take-append-drop}
+use lib.Seq.{take-at, take-all, length-take-le}
+use borrow.Author.Tests.{ltb-true}
+use Rattle.lists.specs.Lists.{onFront}
+use Rattle.lists.specs.First.{firstPlace, first-at}
+use Rattle.sheet.specs.Sizes.{maxRules}
+use Rattle.sheet.specs.Sheet.{Rule}
+use Rattle.sheet.specs.Questions.{rulesOf}
+use Rattle.merge_sheets.specs.Merge.{mergedRules}
+use Rattle.merge_sheets.specs.CombineLaws.{mergedRules-few}
+use Rattle.questions.specs.Questions.{firstNo}
+use Rattle.merge_questions.specs.Merging.{tooManyAt, stretchQuestions, ruleQuestions}
+use Rattle.merge_stretches.specs.Stretches.{LinesAs}
+
+pub past-first : (rs : List Rule) (n : ℕ) → n ≤ length rs → n ≤ maxRules → n ≤ firstPlace (length rs) (tooManyAt rs)
+past-first rs n h few = elim (decLe n (firstPlace (length rs) (tooManyAt rs))) [
+  | yes l ↦ l
+  | no g ↦
+      let p = firstPlace (length rs) (tooManyAt rs) in
+      let front = take (suc p) rs in
+      let many : maxRules < length (mergedRules front) = ltb-true maxRules (length (mergedRules front)) (first-at (tooManyAt rs) (length rs) (omega arith)) in
+      absurd (omega (arith, many, mergedRules-few front, length-take (suc p) rs))
+]
+
+-- so the questions are those of the two sheets' rules
+pub asked-is : (two : List ℕ) (rs cs : List Rule) (n past : ℕ) → cs ≡ mergedRules rs → past ≡ firstPlace (length rs) (tooManyAt rs) → n ≤ length rs
+    → firstNo (stretchQuestions two cs (past - n)) ≡ firstNo (ruleQuestions two (take n rs) (drop n rs))
+asked-is two rs cs n past e p h =
+    ap₂ (λ (xs : List Rule) (k : ℕ). firstNo (stretchQuestions two xs (k - n))) e p
+    ∙ sym (ap₂ (λ (all : List Rule) (k : ℕ). firstNo (stretchQuestions two (mergedRules all) (firstPlace (length all) (tooManyAt all) - k)))
+    (take-append-drop n rs) (length-take-le n rs h))
+
+-- the second sheet's rules, which stand past the first's, and their lines
+pub part-long : (from : List ℕ) (n : ℕ) → length (take (length from - n) (drop n from)) ≡ length from - n
+part-long from n = omega (arith, length-take (length from - n) (drop n from), length-drop n from)
+
+pub lines-past : (two from to : List ℕ) (n : ℕ) → LinesAs two (drop n from) (drop n to)
+    → LinesAs two (take (length from - n) (drop n from)) (take (length to - n) (drop n to))
+lines-past two from to n h =
+    rw (take-all (length from - n) (drop n from) (omega (arith, length-drop n from)), take-all (length to - n) (drop n to) (omega (arith, length-drop n to))) h
+
+-- ---- the fronts of the arrays
+pub rules-back : (rs : List Rule) → rulesOf (map (λ r. r .from) rs) (map (λ r. r .to) rs) (map (λ r. r .low) rs) (map (λ r. r .high) rs) ≡ rs
+rules-back [] = refl
+rules-back (x ∷ xs) = ap (λ r. x ∷ r) (rules-back xs)
+
+-- as many places of a column as there are rules
+pub front-is : (f : Rule → ℕ) (rs : List Rule) (k : ℕ) (room array : List ℕ) → k ≡ length rs → array ≡ onFront (map f rs) room → take k array ≡ map f rs
+front-is f rs k room array e a = ap (take k) a ∙ take-at (map f rs) (drop (length (map f rs)) room) k (length-map rs f ∙ sym e)
+
+pub front-holds : (f : Rule → ℕ) (rs : List Rule) (k : ℕ) (room array : List ℕ) → k ≡ length rs → array ≡ onFront (map f rs) room → k ≤ length array
+front-holds f rs k room array e a = omega (arith, ap length a, length-append (map f rs) (drop (length (map f rs)) room), length-map rs f)
+
+module _ (rs : List Rule) (k : ℕ) (e : k ≡ length rs) (froms tos lows highs : List ℕ) (a b c d : List ℕ)
+    (fs : froms ≡ onFront (map (λ r. r .from) rs) a) (ts : tos ≡ onFront (map (λ r. r .to) rs) b)
+    (ls : lows ≡ onFront (map (λ r. r .low) rs) c) (hs : highs ≡ onFront (map (λ r. r .high) rs) d) where
+  pub fronts-are : rulesOf (take k froms) (take k tos) (take k lows) (take k highs) ≡ rs
+  fronts-are =
+      rw (
+        front-is (λ r. r .from) rs k a froms e fs,
+        front-is (λ r. r .to) rs k b tos e ts,
+        front-is (λ r. r .low) rs k c lows e ls,
+        front-is (λ r. r .high) rs k d highs e hs,
+      ) (rules-back rs)
