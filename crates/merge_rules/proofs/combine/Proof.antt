@@ -1,7 +1,7 @@
 -- Key idea: before the turn of rule i the columns hold the merged rules of those before it (`Combining`); the call adds rule i.
-use mathlib.Core.Path.{_≡_, refl, sym, ap, subst, _∙_}
+use mathlib.Core.Path.{_≡_}
 use mathlib.Core.List.{List}
-use Prim.Native.Nat.{ℕ, _+_, _-_, _≤_, _<_}
+use Prim.Native.Nat.{_-_, _≤_, _<_}
 use native.Mathlib.Omega.{arith}
 use lib.ListN.{length, getD, take}
 use Rattle.sheet.specs.Sheet.{Rule}
@@ -21,12 +21,15 @@ Inv-loop from to low high froms₀ tos₀ lows₀ highs₀ count₀ past₀ i₀
 abbrev μ-loop : tie.MeasureT-loop
 μ-loop from to low high froms₀ tos₀ lows₀ highs₀ count₀ past₀ i₀ froms tos lows highs count past i = length from - i
 
--- the function's start from the loop's place, and that from the place behind the call
+-- the function's start from the loop's place; that place and the call from the end of a turn
 abbrev start : tie.At-loop Inv-loop μ-loop → tie.Start Inv-loop μ-loop
 start c = c .before .before .before .before .before .before .before .before .before
 
 abbrev turn : tie.After-slice-known8 Inv-loop μ-loop → tie.At-loop Inv-loop μ-loop
 turn c = c .before .before .before .before .before .before .before .before .before .before .before .before .before .before .before .before .before .before
+
+abbrev call : tie.After-slice-known8 Inv-loop μ-loop → tie.After-add-rule Inv-loop μ-loop
+call c = c .before .before .before .before .before .before .before .before
 
 -- the rules, and the arrays at the start
 abbrev rules : tie.Start Inv-loop μ-loop → List Rule
@@ -56,6 +59,9 @@ held c = let l = c .loop in columns (l .froms) (l .tos) (l .lows) (l .highs)
 long : (c : tie.At-loop Inv-loop μ-loop) → SameLong (rooms (start c)) (held c)
 long c = let l = c .loop in same-long (rules (start c)) (rooms (start c)) (l .i) (l .count) (l .past) (held c) (l .inv) (roomy (start c))
 
+loop-holds : tie.Need-loop-holds Inv-loop μ-loop
+loop-holds c = let s = c .before .before .before .before .before .before .before .before in combining-none (rules s) (rooms s)
+
 add-rule-requires : tie.Need-add-rule-requires Inv-loop μ-loop
 add-rule-requires c κs =
     let p = c .before .before .before .before .before .before .before .before .before in
@@ -69,11 +75,11 @@ add-rule-requires c κs =
       omega (arith, m, k, r .highs, long p .highs),
     )
 
--- the rule whose turn it is
+-- the rule whose turn it is, and what the call leaves
 inside : (c : tie.After-slice-known8 Inv-loop μ-loop) → turn c .loop .i < length (rules (start (turn c)))
 inside c = omega (arith, size (start (turn c)))
 
-added : (c : tie.After-slice-known8 Inv-loop μ-loop) → let p = turn c in let s = start p in let k = c .before .before .before .before .before .before .before .before .add-rule in
+added : (c : tie.After-slice-known8 Inv-loop μ-loop) → let p = turn c in let s = start p in let k = call c .add-rule in
     AtFront (withRule (mergedRules (take (p .loop .i) (rules s))) (getD (rules s) (p .loop .i) noRule)) (k .result) (rooms s)
     (columns (k .last .1 .1 .1 .1 .1 .0) (k .last .1 .1 .1 .1 .1 .1 .0) (k .last .1 .1 .1 .1 .1 .1 .1 .0) (k .last .1 .1 .1 .1 .1 .1 .1 .1 .0))
 added c =
@@ -81,15 +87,16 @@ added c =
     let s = start p in
     let a = s .args in
     let i = p .loop .i in
-    let e = rulesOf-at (a .from .now) (a .to .now) (a .low .now) (a .high .now) (s .pre .0 .0) (s .pre .0 .1) (s .pre .0 .2) i (omega (arith, inside c, size s)) in
-    rw e (c .before .before .before .before .before .before .before .before .add-rule .ensures (mergedRules (take i (rules s))) (rooms s) (p .loop .inv .held))
+    let h : i < length (a .from .now) = omega (arith, inside c, size s) in
+    let e = rulesOf-at (a .from .now) (a .to .now) (a .low .now) (a .high .now) (s .pre .0 .0) (s .pre .0 .1) (s .pre .0 .2) i h in
+    rw e (call c .add-rule .ensures (mergedRules (take i (rules s))) (rooms s) (p .loop .inv .held))
 
 loop-again : tie.Need-loop-again Inv-loop μ-loop
 loop-again c =
     let p = turn (c .before) in
     let l = p .loop in
     let s = start p in
-    let k = c .before .before .before .before .before .before .before .before .before .add-rule in
+    let k = call (c .before) .add-rule in
     still-fit (rules s) (rooms s) (l .i) (l .count) (l .past) (held p) (l .inv) (inside (c .before)) (k .result) _ (added (c .before)) (omega arith)
 
 loop-again-2 : tie.Need-loop-again-2 Inv-loop μ-loop
@@ -97,7 +104,7 @@ loop-again-2 c =
     let p = turn (c .before) in
     let l = p .loop in
     let s = start p in
-    let k = c .before .before .before .before .before .before .before .before .before .add-rule in
+    let k = call (c .before) .add-rule in
     too-many (rules s) (rooms s) (l .i) (l .count) (l .past) (held p) (l .inv) (inside (c .before)) (k .result) _ (added (c .before)) (omega arith)
 
 returns : tie.Need-returns Inv-loop μ-loop
@@ -110,7 +117,7 @@ returns c =
     (h .count, (all-passed (rules s) (rooms s) (l .i) (l .count) (l .past) (held p) (l .inv) e, (h .froms, (h .tos, (h .lows, h .highs)))))
 
 pub combine-spec : {M : Type 1} → statement M
-combine-spec = tie.close (tie.spec Inv-loop μ-loop (λ c. let s = c .before .before .before .before .before .before .before .before in combining-none (rules s) (rooms s)) (λ c. omega arith) (λ c. omega arith)
-    (λ c. omega arith) (λ c. omega arith) (λ c. omega arith) (λ c. omega arith) (λ c. omega arith) (λ c. omega arith) add-rule-requires (λ c. omega arith)
+combine-spec = tie.close (tie.spec Inv-loop μ-loop loop-holds (λ c. omega arith) (λ c. omega arith) (λ c. omega arith) (λ c. omega arith)
+    (λ c. omega arith) (λ c. omega arith) (λ c. omega arith) (λ c. omega arith) add-rule-requires (λ c. omega arith)
     (λ c. omega arith) loop-again (λ c. omega arith) loop-again-2 (λ c. long (c .before) .froms) (λ c. long (c .before) .tos) (λ c. long (c .before) .lows)
     (λ c. long (c .before) .highs) returns)

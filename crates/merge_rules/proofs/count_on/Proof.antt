@@ -1,5 +1,5 @@
 -- Key idea: the count of the places so far.
-use mathlib.Core.Path.{_≡_, refl, sym, ap, _∙_}
+use mathlib.Core.Path.{_≡_, refl, ap, _∙_}
 use mathlib.Core.Logic.{⊎-elim}
 use mathlib.Core.Bool.{Bool, true, false}
 use Prim.Native.Nat.{ℕ, _+_, _-_, _≤_}
@@ -42,7 +42,8 @@ loop-again c =
     let not-here = count-not t (l .loop .j) in (
       omega arith,
       ⊎-elim (λ w. omega (arith, w .3, l .loop .inv .1, more (same (w .0 .taken) ∙ w .2 .taken)))
-          (λ w. omega (arith, w .1, l .loop .inv .1, not-here (⊎-elim (λ v. same (v .0 .taken) ∙ v .2 .left) (λ v. other (v .left)) (w .0 .came)))) (c .if1 .came),
+          (λ w. omega (arith, w .1, l .loop .inv .1, not-here (⊎-elim (λ v. same (v .0 .taken) ∙ v .2 .left) (λ v. other (v .left)) (w .0 .came))))
+          (c .if1 .came),
     )
 
 returns : tie.Need-returns Inv-loop μ-loop
