@@ -1,4 +1,4 @@
--- Two sheets made one (docs/RULES.md, "Merging"). Definitions only, over sheets as they are written.
+-- Two sheets made one, over sheets as they are written. Definitions only.
 use mathlib.Core.Bool.{Bool, not, cond}
 use mathlib.Core.List.{List, [], _∷_, _++_, map}
 use Prim.Native.Nat.{min, max}

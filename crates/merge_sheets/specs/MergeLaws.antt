@@ -21,7 +21,7 @@ use Rattle.merge_sheets.specs.Merge.{firsts, combinedOn, mergedRules, me
 pub same-stretch : (f t : Slot) (r : Rule) → T (onStretch f t r) → (r .from ≡ f) × (r .to ≡ t)
 same-stretch f t r h = (eqb→eq (r .from) f (left (eqb (r .from) f) (eqb (r .to) t) h), eqb→eq (r .to) t (right (eqb (r .from) f) (eqb (r .to) t) h))
 
-pub on-stretch : (f t : Slot) (r : Rule) → r .from ≡ f → r .to ≡ t → T (onStretch f t r)
+on-stretch : (f t : Slot) (r : Rule) → r .from ≡ f → r .to ≡ t → T (onStretch f t r)
 on-stretch f t r e g = rw (eq-eqb (r .from) f e, eq-eqb (r .to) t g) tt
 
 -- the stretch of each rule is that of a first one
@@ -47,12 +47,19 @@ has-first (h ∷ rs) r m =
         pick false w = (q, List·Memᴰ·tail (keep-in others q (firsts rs) i (subst (λ (b : Bool). T (not b)) (sym w) tt)), e, f)
 
 -- and a first rule is one of them
-pub first-is : (rs : List Rule) (q : Rule) → In q (firsts rs) → In q rs
+first-is : (rs : List Rule) (q : Rule) → In q (firsts rs) → In q rs
 unfolding firsts
 first-is [] q m = absurd (List·Memᴰ·not-nil m)
 first-is (h ∷ rs) q m =
     ⊎-elim (λ e. List·Memᴰ·head e)
     (λ k. List·Memᴰ·tail (first-is rs q (in-keep (λ p. not (onStretch (h .from) (h .to) p)) q (firsts rs) k .0))) (List·Memᴰ·cases-cons m)
+
+-- so a merged rule is the combined one of some rule's stretch
+pub merged-is : (rs : List Rule) (c : Rule) → In c (mergedRules rs) → (q : Rule) × In q rs × (c ≡ combinedOn rs (q .from) (q .to))
+unfolding mergedRules
+merged-is rs c m =
+    let q = in-map (λ (x : Rule). combinedOn rs (x .from) (x .to)) c (firsts rs) m in
+    (q .0, first-is rs (q .0) (q .1), q .2)
 
 -- ---- the combined bounds of a rule's stretch: its low is the low of some rule on it, and its high the high of one
 
@@ -63,7 +70,7 @@ module _ (rs : List Rule) (q : Rule) (m : In q rs) where
   own : In q here
   own = keep-in (onStretch (q .from) (q .to)) q rs m (on-stretch (q .from) (q .to) q refl refl)
 
-  pub low-is : (r : Rule) × In r rs × T (onStretch (q .from) (q .to) r) × (combinedOn rs (q .from) (q .to) .low ≡ r .low)
+  low-is : (r : Rule) × In r rs × T (onStretch (q .from) (q .to) r) × (combinedOn rs (q .from) (q .to) .low ≡ r .low)
   low-is =
       let lows = map (λ (x : Rule). x .low) here in
       let p = in-map (λ (x : Rule). x .low) (greatest lows) here (greatest-in (q .low) lows (map-in (λ (x : Rule). x .low) q here own)) in
@@ -119,9 +126,8 @@ module _ (plan : List Slot) (rs : List Rule) where
             tight-each (q .0 .from) (q .0 .to) (every-in (obeys plan) (on (q .0)) (map on (firsts rs)) (map-in on (q .0) (firsts rs) (q .1)) h)
             r m (sym (q .2)) (sym (q .3))),
         λ h. in-every (obeys plan) (map on (firsts rs)) (λ c m.
-            let q = in-map on c (firsts rs) m in
-            subst (λ (x : Rule). T (obeys plan x)) (sym (q .2))
-            (each-tight (q .0) (first-is rs (q .0) (q .1)) (λ r k. every-in (obeys plan) r rs k h))),
+            let q = merged-is rs c m in
+            subst (λ (x : Rule). T (obeys plan x)) (sym (q .2)) (each-tight (q .0) (q .1) (λ r k. every-in (obeys plan) r rs k h))),
       )
 
 -- ---- sheets
