@@ -61,8 +61,22 @@ merged-is rs c m =
     let q = in-map (λ (x : Rule). combinedOn rs (x .from) (x .to)) c (firsts rs) m in
     (q .0, first-is rs (q .0) (q .1), q .2)
 
--- ---- the combined bounds of a rule's stretch: its low is the low of some rule on it, and its high the high of one
+-- ---- the combined bounds of a stretch
 
+-- a count within them is within those of each rule on the stretch
+tight-each : (plan : List Slot) (rs : List Rule) (f t : Slot) → T (obeys plan (combinedOn rs f t))
+    → (r : Rule) → In r rs → r .from ≡ f → r .to ≡ t → T (obeys plan r)
+tight-each plan rs f t h r m e g =
+    let n = countIn f t plan in
+    let on = keep (onStretch f t) rs in
+    let in-on = keep-in (onStretch f t) r rs m (on-stretch f t r e g) in
+    let b = within-iff (combinedOn rs f t .low) (combinedOn rs f t .high) n .0 h in
+    let lo = greatest-ge (r .low) (map (λ (x : Rule). x .low) on) (map-in (λ (x : Rule). x .low) r on in-on) in
+    let hi = least-le (r .high) (map (λ (x : Rule). x .high) on) (map-in (λ (x : Rule). x .high) r on in-on) in
+    subst (λ (k : ℕ). T (within (r .low) (r .high) k)) (ap₂ (λ (x y : Slot). countIn x y plan) (sym e) (sym g))
+    (within-iff (r .low) (r .high) n .1 (omega (arith, b .0), omega (arith, b .1)))
+
+-- the low is the low of some rule on it, and the high the high of one
 module _ (rs : List Rule) (q : Rule) (m : In q rs) where
   abbrev here : List Rule
   here = keep (onStretch (q .from) (q .to)) rs
@@ -70,35 +84,23 @@ module _ (rs : List Rule) (q : Rule) (m : In q rs) where
   own : In q here
   own = keep-in (onStretch (q .from) (q .to)) q rs m (on-stretch (q .from) (q .to) q refl refl)
 
-  low-is : (r : Rule) × In r rs × T (onStretch (q .from) (q .to) r) × (combinedOn rs (q .from) (q .to) .low ≡ r .low)
-  low-is =
-      let lows = map (λ (x : Rule). x .low) here in
-      let p = in-map (λ (x : Rule). x .low) (greatest lows) here (greatest-in (q .low) lows (map-in (λ (x : Rule). x .low) q here own)) in
+  attained : (col : Rule → ℕ) (pick : List ℕ → ℕ) → ((x : ℕ) (xs : List ℕ) → In x xs → In (pick xs) xs)
+      → (r : Rule) × In r rs × T (onStretch (q .from) (q .to) r) × (pick (map col here) ≡ col r)
+  attained col pick pick-in =
+      let p = in-map col (pick (map col here)) here (pick-in (col q) (map col here) (map-in col q here own)) in
       let k = in-keep (onStretch (q .from) (q .to)) (p .0) rs (p .1) in
       (p .0, k .0, k .1, p .2)
 
+  low-is : (r : Rule) × In r rs × T (onStretch (q .from) (q .to) r) × (combinedOn rs (q .from) (q .to) .low ≡ r .low)
+  low-is = attained (λ x. x .low) greatest greatest-in
+
   pub high-is : (r : Rule) × In r rs × T (onStretch (q .from) (q .to) r) × (combinedOn rs (q .from) (q .to) .high ≡ r .high)
-  high-is =
-      let highs = map (λ (x : Rule). x .high) here in
-      let p = in-map (λ (x : Rule). x .high) (least highs) here (least-in (q .high) highs (map-in (λ (x : Rule). x .high) q here own)) in
-      let k = in-keep (onStretch (q .from) (q .to)) (p .0) rs (p .1) in
-      (p .0, k .0, k .1, p .2)
+  high-is = attained (λ x. x .high) least least-in
 
 -- ---- rules
 
--- a count within the combined bounds of a stretch is within those of each rule on it, and the other way round where some rule is on it
 module _ (plan : List Slot) (rs : List Rule) where
-  tight-each : (f t : Slot) → T (obeys plan (combinedOn rs f t)) → (r : Rule) → In r rs → r .from ≡ f → r .to ≡ t → T (obeys plan r)
-  tight-each f t h r m e g =
-      let n = countIn f t plan in
-      let on = keep (onStretch f t) rs in
-      let in-on = keep-in (onStretch f t) r rs m (on-stretch f t r e g) in
-      let b = within-iff (combinedOn rs f t .low) (combinedOn rs f t .high) n .0 h in
-      let lo = greatest-ge (r .low) (map (λ (x : Rule). x .low) on) (map-in (λ (x : Rule). x .low) r on in-on) in
-      let hi = least-le (r .high) (map (λ (x : Rule). x .high) on) (map-in (λ (x : Rule). x .high) r on in-on) in
-      subst (λ (k : ℕ). T (within (r .low) (r .high) k)) (ap₂ (λ (x y : Slot). countIn x y plan) (sym e) (sym g))
-      (within-iff (r .low) (r .high) n .1 (omega (arith, b .0), omega (arith, b .1)))
-
+  -- so a count within the bounds of each rule is within the combined ones
   each-tight : (q : Rule) → In q rs → ((r : Rule) → In r rs → T (obeys plan r)) → T (obeys plan (combinedOn rs (q .from) (q .to)))
   each-tight q m all =
       let c = combinedOn rs (q .from) (q .to) in
@@ -123,7 +125,7 @@ module _ (plan : List Slot) (rs : List Rule) where
       let on : Rule → Rule = λ x. combinedOn rs (x .from) (x .to) in (
         λ h. in-every (obeys plan) rs (λ r m.
             let q = has-first rs r m in
-            tight-each (q .0 .from) (q .0 .to) (every-in (obeys plan) (on (q .0)) (map on (firsts rs)) (map-in on (q .0) (firsts rs) (q .1)) h)
+            tight-each plan rs (q .0 .from) (q .0 .to) (every-in (obeys plan) (on (q .0)) (map on (firsts rs)) (map-in on (q .0) (firsts rs) (q .1)) h)
             r m (sym (q .2)) (sym (q .3))),
         λ h. in-every (obeys plan) (map on (firsts rs)) (λ c m.
             let q = merged-is rs c m in
