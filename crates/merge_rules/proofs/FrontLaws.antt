@@ -1,4 +1,5 @@
 -- A list at the front of a room: what stands there, one entry changed, and one more behind it.
+-- Key idea: a store before the seam changes the list, and one at the seam moves it by one.
 use mathlib.Core.Path.{_≡_, sym, ap, _∙_}
 use mathlib.Core.List.{List, [], _∷_, _++_}
 use Prim.Native.Nat.{ℕ, suc, _+_, _-_, _<_}

@@ -1,4 +1,5 @@
--- The test of a stretch at a place, as code asks it: the first slot, and where it is the one, the last.
+-- The test of a stretch at a place, as code asks it.
+-- Key idea: another first slot decides; where it is the one, the last slot does.
 use mathlib.Core.Path.{_≡_, ap}
 use mathlib.Core.Bool.{Bool, false, _&&_}
 use mathlib.Core.List.{List}
