@@ -76,7 +76,8 @@ fn is_wanted(wanted: Wanted, line: Line) -> bool
     }
 }
 
-// The same with the tables of our own format. Only the lines up to the last line feed are looked at: bytes past it are a line that is refused.
+// The j-th wanted line, from 0, with the tables of our own format. Only the lines up to the last line feed are looked at: bytes past it are a line that is
+// refused, and so never wanted.
 fn search(text: &[u8], wanted: Wanted, j: usize, grid: &Grid, table: &[u8; 256]) -> Spot
     requires { ⌜ Tables Ours (now grid) (now table) ⌝ }
     ensures { λ r. ⌜ r ≡ getD (spots wanted (now (text .entry))) j noSpot ⌝ }
