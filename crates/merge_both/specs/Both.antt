@@ -43,7 +43,7 @@ pub record Rooms (n : ℕ) (c : Columns) : Type 0 where
 pub record BothRead (wa wb : WrittenSheet) (a b : Sheet) (two numbers : List ℕ) (given room : Columns) : Type 0 where
   pub first : Counted a wa
   pub second : Counted b wb
-  pub numbers : take (a .units + b .units) numbers ≡ loaders wa ++ loaders wb
+  pub loader : take (a .units + b .units) numbers ≡ loaders wa ++ loaders wb
   pub rules : RulesIn (wa .rules ++ wb .rules) (a .rules + b .rules) given
   pub rooms : Rooms (a .rules + b .rules) room
   pub lines : (f t : ℕ) → length (spots (Wanted.Stretch f t) two) ≡ howMany (onStretch f t) (wb .rules)

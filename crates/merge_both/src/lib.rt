@@ -37,30 +37,26 @@ pub fn ask_both(
     lows: &mut [u16],
     highs: &mut [u16],
 ) -> Joined
-    requires { ⌜ (wa : WrittenSheet) × ((wb : WrittenSheet)
+    requires { ⌜ ((wa : WrittenSheet) × ((wb : WrittenSheet)
         × BothRead wa wb a b (now two) (now numbers) (columns (now from) (now to) (now low) (now high))
-        (columns (now froms) (now tos) (now lows) (now highs))) ⌝ }
+        (columns (now froms) (now tos) (now lows) (now highs)))) ⌝ }
     ensures { λ r. ⌜ ((wa wb : WrittenSheet)
         → BothRead wa wb a b (now (two .entry)) (now (numbers .entry)) (columns (now (from .entry)) (now (to .entry)) (now (low .entry)) (now (high .entry)))
         (columns (now (froms .entry)) (now (tos .entry)) (now (lows .entry)) (now (highs .entry)))
         → AsksBoth r wa wb (now (two .entry)) (columns (now (froms .entry)) (now (tos .entry)) (now (lows .entry)) (now (highs .entry)))
         (columns (now (froms .exit)) (now (tos .exit)) (now (lows .exit)) (now (highs .exit)))) ⌝ }
 {
-    let n = a.units + b.units;
-    let r = a.rules + b.rules;
-    let asked = merge_units::ask_units(
-        two,
-        a.span,
-        b.span,
-        &numbers[..a.units],
-        &numbers[a.units..n],
-    );
+    let units = a.units;
+    let rules = a.rules;
+    let n = units + b.units;
+    let r = rules + b.rules;
+    let asked = merge_units::ask_units(two, a.span, b.span, &numbers[..units], &numbers[units..n]);
     match asked {
         Checked::No(refusal) => Joined::Refused(refusal, blamed(refusal)),
         Checked::Yes => {
             let stretches = merge_stretches::ask_rules(
                 two,
-                a.rules,
+                rules,
                 &from[..r],
                 &to[..r],
                 &low[..r],
