@@ -15,11 +15,10 @@ use sheet::Sheet;
 pub fn blamed(refusal: Refusal) -> usize
     ensures { λ r. ⌜ r ≡ cond (eqb (refusal .number) 21 && eqb (refusal .line) 0) 1 2 ⌝ }
 {
-    if refusal.number == 21 && refusal.line == 0 {
-        1
-    } else {
-        2
+    if refusal.number != 21 {
+        return 2;
     }
+    if refusal.line == 0 { 1 } else { 2 }
 }
 
 // The questions of both, by their numbers and rules in lists, the first sheet's in front; then the combined rules stand at the front of the arrays.

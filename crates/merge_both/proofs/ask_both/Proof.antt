@@ -1,163 +1,134 @@
+-- The calls are lent the two sheets' own numbers.
+use Prim.Native.Nat.{ℕ, _+_, _≤_}
+use mathlib.Core.Path.{_≡_, refl, sym, ap, subst, _∙_}
+use mathlib.Core.List.{List}
+use native.Mathlib.Omega.{arith}
+use lib.ListN.{length}
+use lib.Seq.{length-take-le}
 use borrow.Author.Needs.{needs}
+use Rattle.questions.specs.Questions.{allYes, firstNo, verdictOf}
+use Rattle.sheet.specs.Sheet.{Rule, WrittenSheet, loaders}
+use Rattle.merge_sheets.specs.Merge.{mergedRules}
+use Rattle.merge_rules.specs.Columns.{Columns, columns, AtFront}
+use Rattle.merge_questions.specs.Merging.{unitQuestions, ruleQuestions}
+use Rattle.merge_stretches.specs.declared.Stretches.{Stretches}
+use Rattle.merge_stretches.specs.Stretches.{verdictBy, CountIs}
+use Rattle.merge_both.specs.Both.{BothRead, AsksBoth}
+use Rattle.merge_both.proofs.BothLaws.{numbers-fit, ones-are, units-few, units-asked, from-long, to-long, low-long, high-long, all-rules, second-lines}
+use Rattle.merge_both.proofs.BothLaws.{rules-asked, refused-units, refused-rules, merged-as}
 use Rattle.merge_both.proofs.ask_both.Statement.{statement}
 use Rattle.merge_both.proofs.ask_both.Tie as tie
-use Rattle.merge_both.proofs.ask_both.Reads as reads
-use Rattle.merge_both.proofs.ask_both.Lts as lts
-use Rattle.merge_both.proofs.blamed.Reads as blamed-reads
-use Rattle.merge_stretches.proofs.ask_rules.Reads as ask-rules-reads
-use Rattle.merge_units.proofs.ask_units.Reads as ask-units-reads
 
--- src/lib.rt:51:13
-add-n : tie.Need-add-n
-add-n c = search needs
+-- the places: the questions about units, those about rules, and the function's start
+abbrev start : tie.After-struct-known2 → tie.Start
+start c = c .before .before .before .before .before .before .before .before .before .before .before .before
 
--- src/lib.rt:52:13
-add-r : tie.Need-add-r
-add-r c = search needs
+abbrev units-call : tie.After-enum-told → tie.After-ask-units
+units-call c = c .before .before
 
--- src/lib.rt:57:9
-slice-aggregate-ask-units : tie.Need-slice-aggregate-ask-units
-slice-aggregate-ask-units c = ?
+abbrev begun : tie.After-ask-units → tie.Start
+begun c = start (c .before .before .before)
 
--- src/lib.rt:58:9
-mul-ask-units : tie.Need-mul-ask-units
-mul-ask-units c = search needs
+abbrev rules-call : tie.After-slice-known8 → tie.After-ask-rules
+rules-call c = c .before .before .before .before .before .before .before .before
 
--- src/lib.rt:58:9
-sub-ask-units : tie.Need-sub-ask-units
-sub-ask-units c = search needs
+abbrev told-yes : tie.After-ask-rules → tie.After-enum-told
+told-yes c = c .before .before .before .before .before .before .before .before .before
 
--- src/lib.rt:58:9
-part-ask-units-start : tie.Need-part-ask-units-start
-part-ask-units-start c = search needs
+-- the columns that are lent: the rules of both, and those for the combined ones
+abbrev given : tie.Start → Columns
+given z = let a = z .args in columns (a .from .now) (a .to .now) (a .low .now) (a .high .now)
 
--- src/lib.rt:58:9
-part-ask-units-end : tie.Need-part-ask-units-end
-part-ask-units-end c = ?
+abbrev room : tie.Start → Columns
+room z = let a = z .args in columns (a .froms .now) (a .tos .now) (a .lows .now) (a .highs .now)
 
--- src/lib.rt:53:9
-ask-units-requires : tie.Need-ask-units-requires
-ask-units-requires c κs = ?
+abbrev Is : tie.Start → WrittenSheet → WrittenSheet → Type 0
+Is z wa wb = let a = z .args in BothRead wa wb (a .a) (a .b) (a .two .now) (a .numbers .now) (given z) (room z)
 
--- src/lib.rt:61:21
-enum-known-asked : tie.Need-enum-known-asked
-enum-known-asked c = search needs
+-- what is required gives two such sheets
+read : (z : tie.Start) → Is z (z .pre .0) (z .pre .1 .0)
+read z = z .pre .1 .1
 
--- src/lib.rt:61:58
-blamed-requires : tie.Need-blamed-requires
-blamed-requires c κs = search needs
+-- from the first argument of either call on
+abbrev at-units : tie.After-ask-units-arg → tie.Start
+at-units c = start (c .before)
 
--- src/lib.rt:66:17
-enum-told : tie.Need-enum-told
-enum-told c = search needs
+abbrev at-rules : tie.After-ask-rules-arg → tie.Start
+at-rules c = begun (units-call (c .before))
 
--- src/lib.rt:66:17
-slice-aggregate-ask-rules : tie.Need-slice-aggregate-ask-rules
-slice-aggregate-ask-rules c = ?
+ones-long : tie.Need-slice-aggregate-ask-units
+ones-long c =
+    let z = at-units c in
+    sym (length-take-le (z .args .a .units) (z .args .numbers .now) (omega (arith, numbers-fit _ _ _ _ _ _ _ _ (read z))))
 
--- src/lib.rt:67:17
-slice-aggregate-ask-rules-2 : tie.Need-slice-aggregate-ask-rules-2
-slice-aggregate-ask-rules-2 c = ?
-
--- src/lib.rt:68:17
-slice-aggregate-ask-rules-3 : tie.Need-slice-aggregate-ask-rules-3
-slice-aggregate-ask-rules-3 c = ?
-
--- src/lib.rt:69:17
-slice-aggregate-ask-rules-4 : tie.Need-slice-aggregate-ask-rules-4
-slice-aggregate-ask-rules-4 c = ?
-
--- src/lib.rt:63:17
 ask-rules-requires : tie.Need-ask-rules-requires
-ask-rules-requires c κs = ?
+ask-rules-requires c κs =
+    let z = at-rules (c .before .before .before .before .before .before .before) in
+    let h = read z in
+    let from = from-long _ _ _ _ _ _ _ _ h in
+    let rooms = h .rooms in (
+      (to-long _ _ _ _ _ _ _ _ h ∙ sym from, low-long _ _ _ _ _ _ _ _ h ∙ sym from, high-long _ _ _ _ _ _ _ _ h ∙ sym from),
+      (
+        (omega (arith, from, rooms .from), omega (arith, from, rooms .to), omega (arith, from, rooms .low), omega (arith, from, rooms .high)),
+        (omega (arith, from), h .first .few-rules, second-lines _ _ _ _ _ _ _ _ h),
+      ),
+    )
 
--- src/lib.rt:76:31
-enum-known-stretches : tie.Need-enum-known-stretches
-enum-known-stretches c = search needs
-
--- src/lib.rt:76:68
-blamed-requires-2 : tie.Need-blamed-requires-2
-blamed-requires-2 c κs = search needs
-
--- src/lib.rt:77:34
-enum-known-stretches-2 : tie.Need-enum-known-stretches-2
-enum-known-stretches-2 c = search needs
-
--- src/lib.rt:26:1
 returns : tie.Need-returns
-returns c = ?
+returns c wa wb h =
+    let q = c .before .before .before .before in
+    refused-units wa wb _ _ _ _ _ _ h _ _ _ _
+    (sym (units-asked wa wb _ _ _ _ _ _ h) ∙ sym (q .ask-units .ensures) ∙ ap verdictOf (c .before .before .asked .given .1)) (c .blamed .ensures)
 
--- src/lib.rt:26:1
-same-length : tie.Need-same-length
-same-length c = search needs
+-- the questions about units were all yes, and those about rules were asked of both sheets' rules
+passed : (c : tie.After-ask-rules) (wa wb : WrittenSheet) → Is (begun (units-call (told-yes c))) wa wb →
+    firstNo (unitQuestions (begun (units-call (told-yes c)) .args .two .now) (wa .span) (wb .span) (loaders wa) (loaders wb)) ≡ allYes
+passed c wa wb h =
+    let t = told-yes c in
+    sym (units-asked wa wb _ _ _ _ _ _ h) ∙ sym (units-call t .ask-units .ensures) ∙ ap verdictOf (t .enum-told .given .1)
 
--- src/lib.rt:26:1
-same-length-2 : tie.Need-same-length-2
-same-length-2 c = search needs
+came-to : (c : tie.After-ask-rules) (wa wb : WrittenSheet) → Is (begun (units-call (told-yes c))) wa wb →
+    firstNo (ruleQuestions (begun (units-call (told-yes c)) .args .two .now) (wa .rules) (wb .rules)) ≡ verdictBy (c .ask-rules .result)
+came-to c wa wb h = sym (c .ask-rules .ensures .0 ∙ rules-asked wa wb _ _ _ _ _ _ h _ (all-rules wa wb _ _ _ _ _ _ h))
 
--- src/lib.rt:26:1
-same-length-3 : tie.Need-same-length-3
-same-length-3 c = search needs
-
--- src/lib.rt:26:1
-same-length-4 : tie.Need-same-length-4
-same-length-4 c = search needs
-
--- src/lib.rt:26:1
 returns-2 : tie.Need-returns-2
-returns-2 c = ?
+returns-2 c wa wb h =
+    let t = c .before .before .before .before in
+    let q = rules-call t in
+    refused-rules wa wb _ _ _ _ _ _ h _ _ (passed q wa wb h) _ _ (came-to q wa wb h ∙ ap verdictBy (c .before .before .stretches .given .1)) (c .blamed2 .ensures)
 
--- src/lib.rt:26:1
-same-length-5 : tie.Need-same-length-5
-same-length-5 c = search needs
+-- the combined rules of the same rules
+front-of : (before now : Columns) (rs all : List Rule) (k : ℕ) → rs ≡ all → AtFront (mergedRules rs) k before now → AtFront (mergedRules all) k before now
+front-of before now rs all k e f = subst (λ xs. AtFront (mergedRules xs) k before now) e f
 
--- src/lib.rt:26:1
-same-length-6 : tie.Need-same-length-6
-same-length-6 c = search needs
+count-of : (s t : Stretches) (n : ℕ) → s ≡ t → CountIs s n → CountIs t n
+count-of s t n e c = subst (λ x. CountIs x n) e c
 
--- src/lib.rt:26:1
-same-length-7 : tie.Need-same-length-7
-same-length-7 c = search needs
-
--- src/lib.rt:26:1
-same-length-8 : tie.Need-same-length-8
-same-length-8 c = search needs
-
--- src/lib.rt:26:1
 returns-3 : tie.Need-returns-3
-returns-3 c = ?
+returns-3 c wa wb h =
+    let q = rules-call (c .before .before .before) in
+    let e = q .ask-rules .ensures .1 in
+    let is = c .before .stretches2 .given .1 in
+    let rs = all-rules wa wb _ _ _ _ _ _ h in
+    let z = begun (units-call (told-yes q)) in
+    let k = c .before .stretches2 .given .0 .0 in
+    merged-as wa wb _ _ _ _ _ _ h (room z) _ (passed q wa wb h) _ refl refl (came-to q wa wb h ∙ ap verdictBy is)
+    (front-of (room z) _ _ _ k rs (record {
+      count = count-of _ _ _ is (e .0);
+      froms = e .1 .0;
+      tos = e .1 .1 .0;
+      lows = e .1 .1 .1 .0;
+      highs = e .1 .1 .1 .1;
+    }))
 
 pub ask-both-spec : {M : Type 1} → statement M
-ask-both-spec =
-    tie.close
-    (tie.spec
-    add-n
-    add-r
-    slice-aggregate-ask-units
-    mul-ask-units
-    sub-ask-units
-    part-ask-units-start
-    part-ask-units-end
-    ask-units-requires
-    enum-known-asked
-    blamed-requires
-    enum-told
-    slice-aggregate-ask-rules
-    slice-aggregate-ask-rules-2
-    slice-aggregate-ask-rules-3
-    slice-aggregate-ask-rules-4
-    ask-rules-requires
-    enum-known-stretches
-    blamed-requires-2
-    enum-known-stretches-2
-    returns
-    same-length
-    same-length-2
-    same-length-3
-    same-length-4
-    returns-2
-    same-length-5
-    same-length-6
-    same-length-7
-    same-length-8
-    returns-3)
+ask-both-spec = tie.close (tie.spec (λ c. search needs) (λ c. search needs) ones-long (λ c. search needs) (λ c. search needs) (λ c. search needs)
+    (λ c. numbers-fit _ _ _ _ _ _ _ _ (read (at-units c)))
+    (λ c κs. units-few _ _ _ _ _ _ _ _ (read (at-units (c .before)))) (λ c. search needs) (λ c κs. tt) (λ c. search needs)
+    (λ c. sym (from-long _ _ _ _ _ _ _ _ (read (at-rules c)))) (λ c. sym (to-long _ _ _ _ _ _ _ _ (read (at-rules (c .before)))))
+    (λ c. sym (low-long _ _ _ _ _ _ _ _ (read (at-rules (c .before .before)))))
+    (λ c. sym (high-long _ _ _ _ _ _ _ _ (read (at-rules (c .before .before .before)))))
+    ask-rules-requires (λ c. search needs) (λ c κs. tt)
+    (λ c. search needs) returns
+    (λ c. search needs) (λ c. search needs) (λ c. search needs) (λ c. search needs) returns-2
+    (λ c. search needs) (λ c. search needs) (λ c. search needs) (λ c. search needs) returns-3)
