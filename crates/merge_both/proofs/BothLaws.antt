@@ -4,7 +4,7 @@
 use Prim.Native.Nat.{ℕ, _+_, _-_, _≤_}
 use mathlib.Core.Path.{_≡_, refl, sym, ap, ap₂, subst, _∙_}
 use mathlib.Core.Bool.{_&&_, cond}
-use mathlib.Core.List.{List, [], _∷_, _++_, map}
+use mathlib.Core.List.{List, _++_, map}
 use native.Mathlib.Omega.{arith}
 use lib.Dec.{eqb}
 use lib.ListN.{length, take, drop, length-append, length-map}
@@ -20,16 +20,13 @@ use Rattle.sheet.specs.declared.Sheet.{Sheet}
 use Rattle.read_questions.specs.Reading.{concluded}
 use Rattle.merge_sheets.specs.Merge.{mergedRules, merged}
 use Rattle.merge_rules.specs.Columns.{Columns, AtFront}
+use Rattle.merge_rules.specs.ColumnsLaws.{rules-back}
 use Rattle.merge_rules.specs.CountLaws.{stretch-count}
 use Rattle.merge_questions.specs.Merging.{unitQuestions, ruleQuestions, joinQuestions, blamed}
 use Rattle.merge_questions.specs.declared.Joined.the-variants as Joined
 use Rattle.merge_stretches.specs.Stretches.{LinesAs}
 use Rattle.merge_both.specs.Both.{BothRead, RulesIn, AsksBoth}
 use Rattle.merge_both.proofs.PartLaws.{both-fit, first-part, second-part, column-past}
-
-rules-back : (rs : List Rule) → rulesOf (map (λ r. r .from) rs) (map (λ r. r .to) rs) (map (λ r. r .low) rs) (map (λ r. r .high) rs) ≡ rs
-rules-back [] = refl
-rules-back (x ∷ xs) = ap (λ r. x ∷ r) (rules-back xs)
 
 module _ (wa wb : WrittenSheet) (a b : Sheet) (two numbers : List ℕ) (given room : Columns) (h : BothRead wa wb a b two numbers given room) where
   -- ---- the loader numbers

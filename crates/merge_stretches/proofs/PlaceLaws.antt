@@ -1,12 +1,12 @@
 -- The combined rules at the fronts of the arrays, and the rule that makes too many stretches.
 -- Key idea: as many rules as a sheet may have make no more stretches, so the rule that makes too many is the second sheet's.
 use Prim.Native.Nat.{ℕ, suc, _-_, _≤_, _<_}
-use mathlib.Core.Path.{_≡_, refl, sym, ap, ap₂, _∙_}
-use mathlib.Core.List.{List, [], _∷_, map}
+use mathlib.Core.Path.{_≡_, sym, ap, ap₂, _∙_}
+use mathlib.Core.List.{List, map}
 use native.Mathlib.Omega.{arith}
 use native.Mathlib.Decide.{decLe}
-use lib.ListN.{length, take, drop, length-take, length-drop, length-map, length-append, take-append-drop}
-use lib.Seq.{take-at, take-all, length-take-le}
+use lib.ListN.{length, take, drop, length-take, length-drop, take-append-drop}
+use lib.Seq.{take-all, length-take-le}
 use borrow.Author.Tests.{ltb-true}
 use Rattle.lists.specs.Lists.{onFront}
 use Rattle.lists.specs.First.{firstPlace, first-at}
@@ -15,6 +15,7 @@ use Rattle.sheet.specs.Sheet.{Rule}
 use Rattle.sheet.specs.Questions.{rulesOf}
 use Rattle.merge_sheets.specs.Merge.{mergedRules}
 use Rattle.merge_sheets.specs.CombineLaws.{mergedRules-few}
+use Rattle.merge_rules.specs.ColumnsLaws.{rules-back, front-is}
 use Rattle.questions.specs.Questions.{firstNo}
 use Rattle.merge_questions.specs.Merging.{tooManyAt, stretchQuestions, ruleQuestions}
 use Rattle.merge_stretches.specs.Stretches.{LinesAs}
@@ -47,17 +48,6 @@ lines-past two from to n h =
     rw (take-all (length from - n) (drop n from) (omega (arith, length-drop n from)), take-all (length to - n) (drop n to) (omega (arith, length-drop n to))) h
 
 -- ---- the fronts of the arrays
-pub rules-back : (rs : List Rule) → rulesOf (map (λ r. r .from) rs) (map (λ r. r .to) rs) (map (λ r. r .low) rs) (map (λ r. r .high) rs) ≡ rs
-rules-back [] = refl
-rules-back (x ∷ xs) = ap (λ r. x ∷ r) (rules-back xs)
-
--- as many places of a column as there are rules
-pub front-is : (f : Rule → ℕ) (rs : List Rule) (k : ℕ) (room array : List ℕ) → k ≡ length rs → array ≡ onFront (map f rs) room → take k array ≡ map f rs
-front-is f rs k room array e a = ap (take k) a ∙ take-at (map f rs) (drop (length (map f rs)) room) k (length-map rs f ∙ sym e)
-
-pub front-holds : (f : Rule → ℕ) (rs : List Rule) (k : ℕ) (room array : List ℕ) → k ≡ length rs → array ≡ onFront (map f rs) room → k ≤ length array
-front-holds f rs k room array e a = omega (arith, ap length a, length-append (map f rs) (drop (length (map f rs)) room), length-map rs f)
-
 module _ (rs : List Rule) (k : ℕ) (e : k ≡ length rs) (froms tos lows highs : List ℕ) (a b c d : List ℕ)
     (fs : froms ≡ onFront (map (λ r. r .from) rs) a) (ts : tos ≡ onFront (map (λ r. r .to) rs) b)
     (ls : lows ≡ onFront (map (λ r. r .low) rs) c) (hs : highs ≡ onFront (map (λ r. r .high) rs) d) where

@@ -11,8 +11,9 @@ use Rattle.sheet.specs.Sheet.{Rule}
 use Rattle.sheet.specs.Questions.{rulesOf}
 use Rattle.sheet.specs.QuestionLaws.{rulesOf-length}
 use Rattle.merge_sheets.specs.Merge.{mergedRules}
+use Rattle.merge_rules.specs.ColumnsLaws.{front-holds}
 use Rattle.merge_questions.specs.Merging.{ruleQuestions}
-use Rattle.merge_stretches.proofs.PlaceLaws.{past-first, asked-is, part-long, lines-past, front-holds, fronts-are}
+use Rattle.merge_stretches.proofs.PlaceLaws.{past-first, asked-is, part-long, lines-past, fronts-are}
 use Rattle.merge_stretches.proofs.ask_rules.Statement.{statement}
 use Rattle.merge_stretches.proofs.ask_rules.Tie as tie
 
