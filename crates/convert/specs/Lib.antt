@@ -1,3 +1,1 @@
-pub mod Converting
-pub mod ConvertingLaws
 pub mod Conversion

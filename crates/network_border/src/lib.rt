@@ -5,7 +5,7 @@ ghost use Rattle.network.specs.Table.{maxBoundaries};
 ghost use Rattle.network.specs.Bounds.{Small};
 ghost use Rattle.network_pass.specs.Pass.{passFrom, passOf};
 ghost use Rattle.network_pass.specs.PassBounds.{Limited};
-ghost use Rattle.network_cycles.specs.Finder.{Weighed, Infeasible, CycleAt};
+ghost use Rattle.network_levels.specs.Finder.{Weighed, Infeasible, CycleAt};
 ghost use Rattle.network_border.specs.Codes.{codeOf, PassTold};
 
 // The pass and the finder of negative cycles for the tests, numbers and slices only. All three ask something of their caller, so they are no part of the
@@ -27,7 +27,7 @@ pub extern "C" fn tugrokt_pass(t: &mut [i16], w: usize) -> usize
     requires { ⌜ (0 < w) × (w ≤ maxBoundaries) × (w * w ≤ length (now t)) × Limited w (now t) ⌝ }
     ensures { λ r. ⌜ PassTold w (now (t .entry)) (passOf w (now (t .entry))) r (now (t .exit)) ⌝ }
 {
-    let outcome = network_pass::pass(t, w);
+    let outcome = network_passes::pass(t, w);
     code(outcome)
 }
 
@@ -37,7 +37,7 @@ pub extern "C" fn tugrokt_middle(t: &mut [i16], w: usize, m: usize) -> usize
     requires { ⌜ (m < w) × (w ≤ maxBoundaries) × (w * w ≤ length (now t)) × Small w (now t) ⌝ }
     ensures { λ r. ⌜ PassTold w (now (t .entry)) (passFrom 1 m w (now (t .entry))) r (now (t .exit)) ⌝ }
 {
-    let outcome = network_pass::pass_middle(t, w, m);
+    let outcome = network_passes::pass_middle(t, w, m);
     code(outcome)
 }
 

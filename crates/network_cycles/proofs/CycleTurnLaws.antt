@@ -12,7 +12,7 @@ use Rattle.lists.specs.Values.{front-part, front-length}
 use Rattle.network.specs.Network.{isNegativeCycle}
 use Rattle.network.specs.Table.{entry}
 use Rattle.network_cycles.specs.CycleLaws.{turned-at}
-use Rattle.network_cycles.specs.Finder.{Lowest, Found, CycleAt}
+use Rattle.network_levels.specs.Finder.{Lowest, Found, CycleAt}
 
 pub turned-list : (c out o p : List ℕ) (low k n rest : ℕ) → n ≡ length c → low ≤ n → rest ≡ n - low → k ≡ n - rest → n ≤ length out
     → o ≡ take rest (drop low c) ++ drop (length (take rest (drop low c))) out

@@ -14,10 +14,10 @@ use Rattle.lists.specs.First.{firstFrom, From, first-from}
 use Rattle.lists.specs.Members.{In}
 use Rattle.network.specs.NetworkLaws.{Upto, Distinct, distinct-length, Cycle}
 use Rattle.network.specs.Table.{entry}
-use Rattle.network_cycles.specs.Levels.{level}
+use Rattle.network_levels.specs.Levels.{level}
 use Rattle.network_cycles.specs.CycleLaws.{at-in}
 use Rattle.network_cycles.specs.WalkLaws.{WalkedBack, met-again}
-use Rattle.network_cycles.specs.Finder.{Weighed, Fallen, Source, Found}
+use Rattle.network_levels.specs.Finder.{Weighed, Fallen, Source, Found}
 
 pub record WalkInv (w : ℕ) (d : List ℤ) (walk : List ℕ) (k v : ℕ) : Type 0 where
   pub low : 0 < k

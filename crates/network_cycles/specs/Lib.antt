@@ -1,5 +1,2 @@
-pub mod Levels
-pub mod LevelLaws
 pub mod CycleLaws
 pub mod WalkLaws
-pub mod Finder

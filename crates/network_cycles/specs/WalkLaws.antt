@@ -11,8 +11,8 @@ use lib.Signed.{_<ℤ_}
 use Rattle.integers.specs.Parts.{ints, sum}
 use Rattle.network.specs.Network.{Weights, via}
 use Rattle.network.specs.NetworkLaws.{Upto, upto-left, Distinct, distinct-left, Cycle}
-use Rattle.network_cycles.specs.Levels.{level}
-use Rattle.network_cycles.specs.LevelLaws.{level-sinks, fell-earlier}
+use Rattle.network_levels.specs.Levels.{level}
+use Rattle.network_levels.specs.LevelLaws.{level-sinks, fell-earlier}
 
 -- the boundaries v, .. of the levels k + 1, ..: each gives the next one its level, and the last one fell
 unfoldable pub WalkedBack : ℕ → Weights → ℕ → ℕ → List ℕ → Type 0

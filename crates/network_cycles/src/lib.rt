@@ -6,10 +6,9 @@ ghost use lib.ListN.{length, getD, take, drop};
 ghost use lib.IntN.{pos, _+ℤ_};
 ghost use lib.Signed.{ltZ};
 ghost use Rattle.lists.specs.First.{firstPlace, firstFrom};
-ghost use Rattle.lists.specs.Values.{listOf};
-ghost use Rattle.network.specs.Table.{maxBoundaries, entry};
-ghost use Rattle.network_cycles.specs.Levels.{lower, level};
-ghost use Rattle.network_cycles.specs.Finder.{Infeasible, StepsFit, LevelsUpTo, Weighed, Leveled, Fallen, Source, Lowest, Found, CycleAt};
+ghost use Rattle.network.specs.Table.{entry};
+ghost use Rattle.network_levels.specs.Levels.{level};
+ghost use Rattle.network_levels.specs.Finder.{Infeasible, Weighed, Leveled, Fallen, Source, Lowest, Found, CycleAt};
 
 // The levels of all boundaries, one more than there are boundaries, row by row.
 const LEVEL_CELLS: usize = (network::MAX_BOUNDARIES + 1) * network::MAX_BOUNDARIES;
@@ -19,19 +18,6 @@ const WALK: usize = network::MAX_BOUNDARIES + 1;
 
 // A stretch of a walk: from its first place to behind its last one.
 struct Stretch(usize, usize);
-
-// The level below prev. The row holds prev at first, and each boundary's steps lower it.
-fn next_level(d: &[i16], w: usize, prev: &[i16], row: &mut [i16])
-    requires { ⌜ (w ≤ maxBoundaries) × (w * w ≤ length (now d)) × (length (now prev) ≡ w) × (now row ≡ now prev) × StepsFit w (now d) (now prev) ⌝ }
-    ensures { λ _. ⌜ now (row .exit) ≡ listOf w (lower w (entry w (now (d .entry))) (λ v. getD (now (prev .entry)) v (pos 0))) ⌝ }
-{
-    for u in 0..w {
-        let from = u * w;
-        let to = from + w;
-        let reached = prev[u];
-        network::relax_row(row, &d[from..to], reached);
-    }
-}
 
 // The first place where low is below high, or the length.
 fn first_below(low: &[i16], high: &[i16]) -> usize
@@ -91,38 +77,6 @@ fn put_turned(c: &[u16], low: usize, out: &mut [u16])
     lists::copy_list(&c[low..n], out);
     let rest = n - low;
     lists::copy_list(&c[0..low], &mut out[rest..n]);
-}
-
-// The level below prev, into the row.
-fn make_level(d: &[i16], w: usize, prev: &[i16], row: &mut [i16])
-    requires { ⌜ (w ≤ maxBoundaries) × (w * w ≤ length (now d)) × (length (now prev) ≡ w) × (length (now row) ≡ w) × StepsFit w (now d) (now prev) ⌝ }
-    ensures { λ _. ⌜ now (row .exit) ≡ listOf w (lower w (entry w (now (d .entry))) (λ v. getD (now (prev .entry)) v (pos 0))) ⌝ }
-{
-    network::copy_row(prev, row);
-    next_level(d, w, prev, row);
-}
-
-// Level k + 1, into its row behind that of level k. prev is room for a copy of level k.
-fn add_level(d: &[i16], w: usize, k: usize, prev: &mut [i16], levels: &mut [i16])
-    requires { ⌜ Weighed w (now d) × (w * w + w ≤ length (now levels)) × (k < w) × LevelsUpTo w (now d) (now levels) k × (w ≤ length (now prev)) ⌝ }
-    ensures { λ _. ⌜ LevelsUpTo w (now (d .entry)) (now (levels .exit)) (k + 1) ⌝ }
-{
-    let from = k * w;
-    let to = from + w;
-    network::copy_row(&levels[from..to], prev);
-    let end = to + w;
-    make_level(d, w, &prev[..w], &mut levels[to..end]);
-}
-
-// The levels 0 to w, row by row. Level 0 stands there already.
-fn fill_levels(d: &[i16], w: usize, levels: &mut [i16])
-    requires { ⌜ Weighed w (now d) × (w * w + w ≤ length (now levels)) × LevelsUpTo w (now d) (now levels) 0 ⌝ }
-    ensures { λ _. ⌜ LevelsUpTo w (now (d .entry)) (now (levels .exit)) w ⌝ }
-{
-    let mut prev = [0i16; network::MAX_BOUNDARIES];
-    for k in 0..w {
-        add_level(d, w, k, &mut prev, levels);
-    }
 }
 
 // What the step from u leaves v at level k + 1.
@@ -204,7 +158,7 @@ pub fn negative_cycle(d: &[i16], w: usize, out: &mut [u16]) -> usize
     ensures { λ r. ⌜ CycleAt w (now (d .entry)) (now (out .entry)) r (now (out .exit)) ⌝ }
 {
     let mut levels = [0i16; LEVEL_CELLS];
-    fill_levels(d, w, &mut levels);
+    network_levels::fill_levels(d, w, &mut levels);
     let mut walk = [0u16; WALK];
     let n = w + 1;
     find_cycle(d, w, &levels, &mut walk[..n], out)

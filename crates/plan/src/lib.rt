@@ -2,43 +2,11 @@ ghost use mathlib.Core.Path.{_≡_};
 ghost use Rattle.sheet.specs.Lists.{writtenLists, givenBy};
 ghost use Rattle.plan_rooms.specs.Rooms.{lent, decideRooms, seatRooms, decideLent, seatLent};
 ghost use Rattle.plan_answers.specs.Planning.{conclusion, conclusionIn, lookedBy, Settled, DecideSettled, SeatSettled};
-ghost use Rattle.plan_answers.specs.Reply.{replyOf, decisionReply, seatReply, looksTold, fitReply, seatedReply, seatedLooks};
+ghost use Rattle.plan_answers.specs.Reply.{replyOf, decisionReply, seatReply, looksTold};
 use plan_answers::Answer;
 use plan_answers::Decision;
-use plan_answers::Fit;
 use plan_answers::SeatAnswer;
-use plan_answers::SeatOutcome;
 use questions::Checked;
-
-// What solving gives, as an answer.
-fn answered(fit: Fit) -> Answer
-    ensures { λ r. ⌜ replyOf r ≡ fitReply fit ⌝ }
-{
-    match fit {
-        Fit::Fits => Answer::Plan,
-        Fit::None(k) => Answer::None(k),
-    }
-}
-
-fn decision_of(fit: Fit) -> Decision
-    ensures { λ r. ⌜ decisionReply r ≡ fitReply fit ⌝ }
-{
-    match fit {
-        Fit::Fits => Decision::Fits,
-        Fit::None(k) => Decision::None(k),
-    }
-}
-
-// What seating gives, as its answer.
-fn seat_answer(seated: SeatOutcome) -> SeatAnswer
-    ensures told { λ r. ⌜ seatReply r ≡ seatedReply seated ⌝ }
-    ensures looked { λ r. ⌜ looksTold r ≡ seatedLooks seated ⌝ }
-{
-    match seated {
-        SeatOutcome::Plan(looked) => SeatAnswer::Plan(looked),
-        SeatOutcome::None => SeatAnswer::None,
-    }
-}
 
 // Plans from lists. The questions come first; then the sheet gets a plan, or none and a ring.
 pub fn plan(
@@ -67,7 +35,7 @@ pub fn plan(
     let asked = plan_ask::ask(span, loader, first, last, from, to, low, high, rooms);
     match asked {
         Checked::No(refusal) => Answer::Refused(refusal),
-        Checked::Yes => answered(plan_solve::solve(
+        Checked::Yes => plan_replies::answered(plan_solve::solve(
             span,
             first,
             last,
@@ -107,7 +75,7 @@ pub fn decide(
     let asked = plan_ask::ask(span, loader, first, last, from, to, low, high, rooms);
     match asked {
         Checked::No(refusal) => Decision::Refused(refusal),
-        Checked::Yes => decision_of(plan_solve::decide(
+        Checked::Yes => plan_replies::decision_of(plan_solve::decide(
             span,
             first,
             last,
@@ -153,7 +121,7 @@ pub fn seat(
     let asked = plan_ask::ask(span, loader, first, last, from, to, low, high, rooms);
     match asked {
         Checked::No(refusal) => SeatAnswer::Refused(refusal),
-        Checked::Yes => seat_answer(plan_solve::seat(
+        Checked::Yes => plan_replies::seat_answer(plan_solve::seat(
             span,
             first,
             last,

@@ -16,7 +16,7 @@ use Rattle.network.specs.Network.{Weights, Potential, Feasible, around, distinc
 use Rattle.network.specs.NetworkLaws.{upto-of-every, around-same}
 use Rattle.network.specs.Table.{entry, cleared}
 use Rattle.network_pass.specs.Pass.{stopped}
-use Rattle.network_cycles.specs.Finder.{Infeasible, Weighed, CycleAt}
+use Rattle.network_levels.specs.Finder.{Infeasible, Weighed, CycleAt}
 use Rattle.sheet.specs.Sheet.{Sheet, top, boundaries, limit, isRing}
 use Rattle.limits.specs.LimitTable.{limitTable}
 use Rattle.limits.specs.LimitTableLaws.{boundaries-fit, limitTable-at}

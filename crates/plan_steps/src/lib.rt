@@ -26,7 +26,7 @@ pub fn close_limits(
         ⌜ Closed s (now (table .entry)) r (now (table .exit)) ⌝ }
 {
     limits::fill::fill_limits(span, first, last, from, to, low, high, table);
-    network_pass::pass(table, sheet::boundaries(span))
+    network_passes::pass(table, sheet::boundaries(span))
 }
 
 // The printed plan, from row 0 of the finished table. Answers how many units were looked at.

@@ -22,8 +22,8 @@ use Rattle.plan_ask.specs.Asking.{Listed}
 use Rattle.plan_ask.specs.SolvableLaws.{asked-lists}
 use Rattle.plan_answers.specs.Planning.{conclusion, Settled}
 use Rattle.plan_answers.specs.Reply as planning
-use Rattle.plan.specs.Statements.{SomeLawful, NoneLawful, AllCounts}
-use Rattle.plan.specs.Conditions as plans
+use Rattle.plan_conditions.specs.Statements.{SomeLawful, NoneLawful, AllCounts}
+use Rattle.plan_conditions.specs.Conditions as plans
 use Rattle.print_bytes.specs.Writing.{Room, Written}
 use Rattle.pages.specs.Page.{maxPage}
 use Rattle.pages.specs.PageBounds.{plan-short, none-short}

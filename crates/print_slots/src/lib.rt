@@ -5,10 +5,10 @@ ghost use Rattle.network.specs.Table.{maxBoundaries};
 ghost use Rattle.sheet.specs.Sizes.{maxSlots, boundariesOf};
 ghost use Rattle.print_bytes.specs.Writing.{Room, Written};
 ghost use Rattle.pages.specs.Page.{slotLines, rangeLines, leastFrom, greatestFrom};
-use print_bytes::put_range;
-use print_bytes::put_slot;
 use print_counts::greatest_of;
 use print_counts::least_of;
+use print_lines::put_range;
+use print_lines::put_slot;
 use slots::Slot;
 
 pub fn put_slots(page: &mut [u8], at: usize, span: usize, counts: &[u16], table: &[i16]) -> usize

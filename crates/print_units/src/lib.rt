@@ -2,8 +2,8 @@ ghost use mathlib.Core.Path.{_≡_};
 ghost use lib.ListN.{length};
 ghost use Rattle.print_bytes.specs.Writing.{Room, Written};
 ghost use Rattle.pages.specs.Page.{placedLine, unitLines};
-use print_bytes::put_carried;
-use print_bytes::put_unit;
+use print_lines::put_carried;
+use print_lines::put_unit;
 
 // The line of a unit with a slot: past the span it is carried.
 fn put_placed(

@@ -12,9 +12,10 @@ use Rattle.sheet.specs.declared.Sheet.{Sheet}
 use Rattle.forms.specs.declared.House.{House}
 use Rattle.read_line.specs.declared.Line.{Line}
 use Rattle.read_line.specs.declared.Line.the-variants as Line
-use Rattle.read_steps.specs.Steps.{sheetStep, ruleStep, counted, putBy, Chained, ChainedBy}
+use Rattle.read_steps.specs.Steps.{sheetStep, ruleStep, counted, putBy}
 use Rattle.read_steps.specs.declared.Step.{Step}
 use Rattle.read_steps.specs.declared.Step.the-variants.{No, On}
+use Rattle.read_unit.specs.UnitStep.{Chained, ChainedBy}
 use Rattle.read_questions.specs.Reading.{ListRooms, rooms}
 use Rattle.read_questions.specs.Steps.{stepOf, keptBy}
 use Rattle.read_questions.specs.ArrayLaws.{rooms-same}

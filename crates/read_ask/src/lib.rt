@@ -2,7 +2,7 @@ ghost use mathlib.Core.Path.{_≡_};
 ghost use lib.ListN.{take};
 ghost use Rattle.sheet.specs.Sizes.{maxUnits, maxRules};
 ghost use Rattle.read_form.specs.Grid.{Tables};
-ghost use Rattle.read_steps.specs.Steps.{Chained, ChainedBy};
+ghost use Rattle.read_unit.specs.UnitStep.{Chained, ChainedBy};
 ghost use Rattle.read_questions.specs.Reading.{rooms, replyOf};
 ghost use Rattle.read_questions.specs.Steps.{stepOf, keptBy, passReply, Holds, Kept};
 use forms::House;
@@ -42,7 +42,7 @@ fn line_step(
         Line::Note => Step::On(s),
         Line::Sheet(span) => read_steps::sheet_step(s, span),
         Line::Unit(loader, first, last) => {
-            read_steps::unit_step(
+            read_unit::unit_step(
                 house,
                 s,
                 loader,

@@ -28,9 +28,10 @@ use Rattle.read_notes.specs.Readers.{Rest, rest, unmatched, afterList, endOf, a
 use Rattle.read_notes.specs.ReaderLaws.{list-matched}
 use Rattle.read_notes.specs.declared.End.the-variants as End
 use Rattle.read_number.specs.Number.{maxNumber, readValue}
+use Rattle.read_scan.specs.Scan.{valued, withNumbers, Small}
 use Rattle.read_line.specs.Content.{noteMatched, bracketsMatch, valueAt, unitSaid, ruleSaid, formContent, contentOf}
 use Rattle.read_line.specs.Line.{said, lineOf}
-use Rattle.read_line.specs.Scan.{valued, withNumbers, Small, unitBy, ruleBy, lineSaid, unendedFault}
+use Rattle.read_line.specs.Said.{unitBy, ruleBy, lineSaid, unendedFault}
 use Rattle.read_line.specs.declared.Line.{Line}
 use Rattle.read_line.specs.declared.Line.the-variants.{Refused, Note, Sheet}
 

@@ -1,3 +1,3 @@
 pub mod Content
 pub mod Line
-pub mod Scan
+pub mod Said

@@ -11,9 +11,10 @@ use Rattle.sheet.specs.declared.Sheet.{Sheet}
 use Rattle.forms.specs.declared.House.{House}
 use Rattle.read_line.specs.declared.Line.{Line}
 use Rattle.read_line.specs.declared.Line.the-variants as Line
-use Rattle.read_steps.specs.Steps.{sheetStep, unitStep, ruleStep}
+use Rattle.read_steps.specs.Steps.{sheetStep, ruleStep}
 use Rattle.read_steps.specs.declared.Step.{Step}
 use Rattle.read_steps.specs.declared.Step.the-variants.{No, On}
+use Rattle.read_unit.specs.UnitStep.{unitStep}
 use Rattle.read_questions.specs.Reading.{sheetIn, passQuestions, ListRooms, rooms, Reply, concluded}
 use Rattle.read_questions.specs.declared.Reading.{Reading}
 use Rattle.read_questions.specs.declared.Reading.the-variants as Reading

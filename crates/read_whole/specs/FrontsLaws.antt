@@ -14,7 +14,7 @@ use Rattle.sheet.specs.Questions.{windowsOf, rulesOf, sheetOf, listsAgree, acce
 use Rattle.sheet.specs.declared.Sheet.{Sheet as Read}
 use Rattle.read_questions.specs.Reading.{ListRooms, read}
 use Rattle.lists.specs.Lists.{onFront}
-use Rattle.read.specs.Rooms.{leaves}
+use Rattle.read_rooms.specs.Rooms.{leaves}
 use Rattle.sheet.specs.Lists.{WrittenLists, writtenLists, givenBy, unitsOf, writtenBy, agree}
 use Rattle.plan_ask.specs.Asking.{Listed}
 use Rattle.read_whole.specs.Fronts.{fronts, Held}

@@ -19,7 +19,7 @@ use Rattle.forms.specs.declared.House.{House}
 use Rattle.read_questions.specs.Reading.{ListRooms, roomsForAll, refused, read, reading, questions, concluded, sheetIn}
 use Rattle.read_questions.specs.AcceptedLaws.{reading-accepts, reading-loaders}
 use Rattle.read_questions.specs.RefusalLaws.{asksText, reading-refusals}
-use Rattle.read.specs.Rooms.{sizesOf, leaves, roomsAfter}
+use Rattle.read_rooms.specs.Rooms.{sizesOf, leaves, roomsAfter}
 use Rattle.read_whole.specs.Fronts.{fronts, Held}
 use Rattle.read_whole.specs.FrontsLaws.{listsOf, held, fronts-are}
 

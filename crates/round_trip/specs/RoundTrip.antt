@@ -35,7 +35,7 @@ use Rattle.write.specs.Writing.{sheetAsked, outgoing}
 use Rattle.read_steps.specs.Steps.{lastPlace}
 use Rattle.read_questions.specs.Reading.{contents, hasSheet, sheetIn, lineQuestions, passQuestions, questions}
 use Rattle.read_questions.specs.Reading.{ListRooms, rooms, listsFit, reading, concluded}
-use Rattle.read.specs.Rooms.{sizesOf, leaves, roomsAfter}
+use Rattle.read_rooms.specs.Rooms.{sizesOf, leaves, roomsAfter}
 use Rattle.forms.specs.WrittenLines.{next-line, next-lines}
 use Rattle.round_trip.specs.WrittenContents.{LowKept, span-shown, unit-shown, rule-shown}
 use Rattle.round_trip.specs.Passing.{OutUnit, OutRule, Passes, lines-pass}

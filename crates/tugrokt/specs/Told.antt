@@ -12,7 +12,7 @@ use Rattle.plan_answers.specs.Reply as planning
 use Rattle.print_answer.specs.Printing as print
 use Rattle.print_answer.specs.Reply as printing
 use Rattle.read_questions.specs.Reading.{ListRooms, reading}
-use Rattle.read.specs.Rooms.{sizesOf, roomsAfter}
+use Rattle.read_rooms.specs.Rooms.{sizesOf, roomsAfter}
 use Rattle.write.specs.Writing.{writing, pageAfter}
 use Rattle.tugrokt_replies.specs.Numbers.{readingOf, planningOf, seatingOf, printingOf, writingOf}
 use Rattle.tugrokt_replies.specs.declared.planning.Planning.{Planning}

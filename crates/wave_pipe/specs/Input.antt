@@ -5,11 +5,11 @@ use Prim.Native.Nat.{ℕ}
 use lib.ListN.{take}
 use Rattle.forms.specs.declared.House.{House}
 use Rattle.wave_words.specs.declared.Query.{Query}
-use Rattle.answer.specs.Answer.{AnswerTo, Answered}
+use Rattle.answer_conditions.specs.Answer.{AnswerTo, Answered}
 use Rattle.print_bytes.specs.Writing.{withBytes}
-use Rattle.convert.specs.Converting.{replyOf, converting, converted}
-use Rattle.convert.specs.declared.Converted.{Converted}
-use Rattle.convert.specs.declared.Converted.the-variants as reply
+use Rattle.convert_lists.specs.Converting.{replyOf, converting, converted}
+use Rattle.convert_lists.specs.declared.Converted.{Converted}
+use Rattle.convert_lists.specs.declared.Converted.the-variants as reply
 
 -- an answer to what is asked of every input whose front is these bytes: all of it, or as much as so many places hold
 abbrev pub InputAnswered : House → Query → ℕ → List ℕ → List ℕ → List ℕ → ℕ → Type 0

@@ -5,7 +5,7 @@ ghost use Prim.Native.Nat.{_≤_};
 ghost use lib.ListN.{length, take};
 ghost use Rattle.sheet.specs.Sizes.{maxBytes};
 ghost use Rattle.wave_pipe.specs.Input.{InputAnswered, InputConverted, placeOf, lineOf};
-use convert::Converted;
+use convert_lists::Converted;
 use forms::House;
 use libc::STDERR_FILENO;
 use libc::STDIN_FILENO;

@@ -21,7 +21,7 @@ use Rattle.sheet_texts.specs.SheetText.{spanText, unitTexts, ruleTexts, sheetTe
 use Rattle.sheet_texts.specs.SheetTextLaws.{text-short}
 use Rattle.print_bytes.specs.Writing.{Written}
 use Rattle.print_bytes.specs.WritingLaws.{Pending, pending-nothing}
-use Rattle.write_lines.specs.Lines.{Stretches}
+use Rattle.write_entries.specs.Lines.{Stretches}
 
 -- ---- a line for each entry of a list, one after another
 

@@ -7,12 +7,12 @@ use denote.Ref.{now}
 use lib.ListN.{replicate}
 use Rattle.forms.specs.declared.House.{House}
 use Rattle.read_questions.specs.Reading.{ListRooms, rooms, roomsForAll, refused, read, reading, replyOf}
-use Rattle.read.specs.Rooms.{sizesOf}
+use Rattle.read_rooms.specs.Rooms.{sizesOf}
 use Rattle.sheet.specs.Sizes.{maxUnits, maxRules, maxBytes}
 use Rattle.wave_words.specs.declared.Query.{Query}
 use Rattle.print_bytes.specs.WritingLaws.{refused-short}
 use Rattle.read_whole.specs.WholeLaws.{refused-small, read-held}
-use Rattle.answer.specs.AnswerLaws.{refused-answer, read-answered}
+use Rattle.answer_conditions.specs.AnswerLaws.{refused-answer, read-answered}
 use Rattle.answer.proofs.answer.Statement.{statement}
 use Rattle.answer.proofs.answer.Tie as tie
 

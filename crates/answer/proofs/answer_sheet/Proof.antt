@@ -5,7 +5,7 @@ use Prim.Native.Nat.{ℕ}
 use denote.Ref.{now}
 use Rattle.sheet.specs.Questions.{sheetOf}
 use Rattle.wave_words.specs.declared.Query.{Query}
-use Rattle.answer.specs.Answer.{AnswerToSheet, Answered}
+use Rattle.answer_conditions.specs.Answer.{AnswerToSheet, Answered}
 use Rattle.answer.proofs.answer_sheet.Statement.{statement}
 use Rattle.answer.proofs.answer_sheet.Tie as tie
 

@@ -6,11 +6,11 @@ use native.Mathlib.Omega.{arith}
 use denote.Ref.{now}
 use lib.ListN.{replicate}
 use Rattle.read_questions.specs.Reading.{ListRooms, rooms, roomsForAll, refused, read, reading, replyOf}
-use Rattle.read.specs.Rooms.{sizesOf}
+use Rattle.read_rooms.specs.Rooms.{sizesOf}
 use Rattle.read_whole.specs.WholeLaws.{refused-small, read-held}
 use Rattle.sheet.specs.Sizes.{maxUnits, maxRules}
 use Rattle.print_bytes.specs.Writing.{withBytes}
-use Rattle.convert.specs.ConvertingLaws.{refused-converted, read-converted}
+use Rattle.convert_lists.specs.ConvertingLaws.{refused-converted, read-converted}
 use Rattle.convert.proofs.convert.Statement.{statement}
 use Rattle.convert.proofs.convert.Tie as tie
 

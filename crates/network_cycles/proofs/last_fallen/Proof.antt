@@ -6,7 +6,7 @@ use lib.ListN.{getD, take, drop}
 use lib.IntN.{pos}
 use Rattle.lists.specs.Slices.{part-at, part-length}
 use Rattle.network.specs.TableLaws.{row-inside}
-use Rattle.network_cycles.proofs.LevelSteps.{fallen-found}
+use Rattle.network_levels.specs.LevelSteps.{fallen-found}
 use borrow.Author.Needs.{needs}
 use Rattle.network_cycles.proofs.last_fallen.Statement.{statement}
 use Rattle.network_cycles.proofs.last_fallen.Tie as tie

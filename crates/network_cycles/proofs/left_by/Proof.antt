@@ -8,7 +8,7 @@ use mir.Facts.{toZ-ofZ}
 use borrow.Author.Needs.{needs}
 use Rattle.network.specs.Table.{entry}
 use Rattle.network.specs.TableLaws.{row-inside}
-use Rattle.network_cycles.proofs.LevelSteps.{level-inside, left-is, left-fits}
+use Rattle.network_levels.specs.LevelSteps.{level-inside, left-is, left-fits}
 use Rattle.network_cycles.proofs.left_by.Statement.{statement}
 use Rattle.network_cycles.proofs.left_by.Tie as tie
 

@@ -5,7 +5,7 @@ use mathlib.Core.Path.{_≡_, sym}
 use lib.ListN.{length, take, replicate}
 use lib.Seq.{length-take-le}
 use Rattle.network.specs.Table.{maxBoundaries}
-use Rattle.network_cycles.proofs.LevelSteps.{first-level, levels-fit}
+use Rattle.network_levels.specs.LevelSteps.{first-level, levels-fit}
 use borrow.Author.Needs.{needs}
 use Rattle.network_cycles.proofs.negative_cycle.Statement.{statement}
 use Rattle.network_cycles.proofs.negative_cycle.Tie as tie

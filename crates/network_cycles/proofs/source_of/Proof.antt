@@ -8,7 +8,7 @@ use borrow.Author.Needs.{needs}
 use mir.Syntax.{w16}
 use mir.Val.{SFits}
 use mir.Facts.{toZ-ofZ}
-use Rattle.network_cycles.proofs.LevelSteps.{leavesMore, level-inside, source-found, source-there}
+use Rattle.network_levels.specs.LevelSteps.{leavesMore, level-inside, source-found, source-there}
 use Rattle.network_cycles.proofs.source_of.Statement.{statement}
 use Rattle.network_cycles.proofs.source_of.Tie as tie
 

@@ -4,7 +4,7 @@ use native.Mathlib.Omega.{arith}
 use mathlib.Core.Path.{_≡_, sym, _∙_}
 use lib.ListN.{length}
 use Rattle.network.specs.Table.{maxBoundaries}
-use Rattle.network_cycles.specs.Finder.{Weighed}
+use Rattle.network_levels.specs.Finder.{Weighed}
 use Rattle.network_cycles.proofs.WalkSteps.{WalkInv, walk-start, walk-found, walk-next}
 use Rattle.network_cycles.proofs.walk_back.Statement.{statement}
 use Rattle.network_cycles.proofs.walk_back.Tie as tie

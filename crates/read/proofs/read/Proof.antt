@@ -9,9 +9,9 @@ use borrow.Author.Tests.{not-true, not-false}
 use Rattle.sheet.specs.Sizes.{maxUnits, maxRules, maxBytes}
 use Rattle.read_questions.specs.Reading.{ListRooms, rooms, listsFit, read, replyOf}
 use Rattle.read_questions.specs.Steps.{Holds, passReply, Kept, KeptNumbers}
-use Rattle.read.specs.Rooms.{sizesOf}
+use Rattle.read_rooms.specs.Rooms.{sizesOf}
 use Rattle.read_questions.specs.declared.Reading.{Reading}
-use Rattle.read.proofs.ReadingLaws.{answer-long, answer-no, answer-rooms, answer-read, rooms-kept, rooms-hold, arrays-hold, rooms-filled}
+use Rattle.read_rooms.specs.ReadingLaws.{answer-long, answer-no, answer-rooms, answer-read, rooms-kept, rooms-hold, arrays-hold, rooms-filled}
 use Rattle.read.proofs.read.Statement.{statement}
 use Rattle.read.proofs.read.Tie as tie
 

@@ -11,7 +11,7 @@ use Rattle.sheet.specs.declared.Sheet.{Sheet}
 use Rattle.loaders.specs.ChainLaws.{linked-none}
 use Rattle.forms.specs.Lines.{wholeLines}
 use Rattle.forms.specs.LinesLaws.{whole-within}
-use Rattle.read_steps.specs.Steps.{Chained, ChainedBy}
+use Rattle.read_unit.specs.UnitStep.{Chained, ChainedBy}
 use Rattle.read_steps.specs.declared.Step.{Step}
 use Rattle.read_steps.specs.declared.Step.the-variants.{No, On}
 use Rattle.read_questions.specs.Reading.{ListRooms, rooms, refused}

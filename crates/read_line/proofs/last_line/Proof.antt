@@ -9,9 +9,9 @@ use Rattle.forms.specs.Words.{lineFeed}
 use Rattle.read_form.specs.Kinds.{kindOf}
 use Rattle.read_form.specs.Grid.{kindOfCode, classOf, entryOf}
 use Rattle.read_form.specs.GridLaws.{feedless, grid-reads, kind-back}
-use Rattle.read_line.specs.Scan.{unendedFault}
+use Rattle.read_line.specs.Said.{unendedFault}
 use Rattle.read_line.specs.declared.Line.the-variants.{Refused}
-use Rattle.read_line.proofs.ScanLaws.{first-feedless}
+use Rattle.read_scan.specs.ScanLaws.{first-feedless}
 use Rattle.read_line.proofs.LineLaws.{note-bytes, line-unended}
 use borrow.Author.Needs.{needs}
 use Rattle.read_line.proofs.last_line.Statement.{statement}

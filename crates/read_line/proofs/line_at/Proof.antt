@@ -4,7 +4,8 @@ use mathlib.Core.Path.{refl, sym, ap, _∙_}
 use native.Mathlib.Omega.{arith}
 use lib.ListN.{length, replicate}
 use Rattle.forms.specs.LinesLaws.{line-part, whole-ended, whole-within, whole-next}
-use Rattle.read_line.specs.Scan.{ScannedAs, lineSaid}
+use Rattle.read_scan.specs.Scan.{ScannedAs}
+use Rattle.read_line.specs.Said.{lineSaid}
 use Rattle.read_line.proofs.LineLaws.{note-bytes, line-said, zeros-small}
 use Rattle.read_line.proofs.line_at.Statement.{statement}
 use Rattle.read_line.proofs.line_at.Tie as tie

@@ -5,7 +5,7 @@ use mathlib.Core.Bool.{Bool, cond}
 use mathlib.Core.List.{List}
 use Rattle.forms.specs.declared.House.{House}
 use Rattle.read_form.specs.declared.Kind.{Kind}
-use Rattle.read_line.specs.Scan.{lineSaid}
+use Rattle.read_line.specs.Said.{lineSaid}
 use Rattle.read_line.specs.declared.Line.{Line}
 use Rattle.read_line.specs.declared.Line.the-variants.{Refused, Note}
 use borrow.Author.Needs.{needs}

@@ -1,6 +1,6 @@
 -- What the house is decides how the numbers are meant.
 use mathlib.Core.Path.{sym, ap, _∙_}
-use Rattle.read_line.specs.Scan.{ruleBy}
+use Rattle.read_line.specs.Said.{ruleBy}
 use Rattle.read_line.specs.declared.Line.the-variants.{Rule}
 use borrow.Author.Needs.{needs}
 use Rattle.read_line.proofs.rule_line.Statement.{statement}

@@ -1,7 +1,7 @@
 -- What the kind is decides; of a note the brackets are asked first.
 use mathlib.Core.Path.{sym, ap, _∙_}
 use mathlib.Core.Bool.{cond}
-use Rattle.read_line.specs.Scan.{unendedFault}
+use Rattle.read_line.specs.Said.{unendedFault}
 use borrow.Author.Needs.{needs}
 use Rattle.read_line.proofs.unended.Statement.{statement}
 use Rattle.read_line.proofs.unended.Tie as tie

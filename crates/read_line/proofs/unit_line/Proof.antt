@@ -1,6 +1,6 @@
 -- What the house is decides how the numbers are meant.
 use mathlib.Core.Path.{sym, ap, _∙_}
-use Rattle.read_line.specs.Scan.{unitBy}
+use Rattle.read_line.specs.Said.{unitBy}
 use Rattle.read_line.specs.declared.Line.the-variants.{Unit}
 use borrow.Author.Needs.{needs}
 use Rattle.read_line.proofs.unit_line.Statement.{statement}

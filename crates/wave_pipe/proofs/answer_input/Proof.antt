@@ -8,9 +8,9 @@ use lib.Seq.{length-take-le}
 use Rattle.sheet.specs.Sizes.{maxBytes}
 use Rattle.forms.specs.declared.House.{House}
 use Rattle.wave_words.specs.declared.Query.{Query}
-use Rattle.answer.specs.Answer.{AnswerTo, Answered}
-use Rattle.answer.specs.AnswerLaws.{answered-inside}
-use Rattle.answer.specs.FirstBytesLaws.{first-bytes-decide}
+use Rattle.answer_conditions.specs.Answer.{AnswerTo, Answered}
+use Rattle.answer_conditions.specs.AnswerLaws.{answered-inside}
+use Rattle.answer_conditions.specs.FirstBytesLaws.{first-bytes-decide}
 use Rattle.wave_pipe.specs.Input.{InputAnswered}
 use Rattle.wave_pipe.proofs.answer_input.Statement.{statement}
 use Rattle.wave_pipe.proofs.answer_input.Tie as tie

@@ -8,9 +8,9 @@ use lib.Seq.{length-take-le}
 use Rattle.sheet.specs.Sizes.{maxBytes}
 use Rattle.forms.specs.declared.House.{House}
 use Rattle.print_bytes.specs.Writing.{withBytes}
-use Rattle.convert.specs.Converting.{replyOf, converting, converted}
+use Rattle.convert_lists.specs.Converting.{replyOf, converting, converted}
 use Rattle.convert.specs.Conversion.{first-bytes-decide}
-use Rattle.convert.specs.declared.Converted.{Converted}
+use Rattle.convert_lists.specs.declared.Converted.{Converted}
 use Rattle.wave_pipe.specs.Input.{InputConverted}
 use Rattle.wave_pipe.proofs.PipeLaws.{place-inside, line-small}
 use Rattle.wave_pipe.proofs.convert_input.Statement.{statement}

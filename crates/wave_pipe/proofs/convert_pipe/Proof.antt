@@ -4,7 +4,7 @@ use Prim.Native.Nat.{_≤_}
 use lib.ListN.{length}
 use lib.Seq.{length-take-le}
 use Rattle.sheet.specs.Sizes.{maxBytes}
-use Rattle.convert.specs.declared.Converted.{Converted}
+use Rattle.convert_lists.specs.declared.Converted.{Converted}
 use Rattle.wave_pipe.specs.Input.{placeOf, lineOf}
 use borrow.Author.Needs.{needs}
 use Rattle.wave_pipe.proofs.convert_pipe.Statement.{statement}

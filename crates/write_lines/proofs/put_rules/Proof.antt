@@ -11,7 +11,7 @@ use Rattle.sheet.specs.Questions.{rulesOf}
 use Rattle.sheet.specs.QuestionLaws.{rulesOf-length, rulesOf-at}
 use Rattle.sheet_texts.specs.SheetText.{ruleText, ruleTexts}
 use Rattle.print_bytes.specs.WritingLaws.{Pending, pending-whole, pending-room, pending-after}
-use Rattle.write_lines.specs.Lines.{ruleWith}
+use Rattle.write_entries.specs.Lines.{ruleWith}
 use Rattle.write_lines.specs.LinesLaws.{texts-next, texts-end}
 use Rattle.write_lines.proofs.put_rules.Statement.{statement}
 use Rattle.write_lines.proofs.put_rules.Tie as tie

@@ -12,7 +12,7 @@ use Rattle.sheet.specs.Lists.{unitsOf}
 use Rattle.sheet.specs.WrittenLaws.{noUnit, unitsOf-length, unitsOf-at}
 use Rattle.sheet_texts.specs.SheetText.{unitText, unitTexts}
 use Rattle.print_bytes.specs.WritingLaws.{Pending, pending-whole, pending-room, pending-after}
-use Rattle.write_lines.specs.Lines.{unitWith}
+use Rattle.write_entries.specs.Lines.{unitWith}
 use Rattle.write_lines.specs.LinesLaws.{texts-next, texts-end}
 use Rattle.write_lines.proofs.put_units.Statement.{statement}
 use Rattle.write_lines.proofs.put_units.Tie as tie
