@@ -28,7 +28,7 @@ front-count : (b : ℕ) (ls : List TextLine) → length (inFront b ls) ≤ suc (
 front-count b [] = omega arith
 front-count b (l ∷ ls) = omega arith
 
-line-count : (text : List ℕ) → length (lines text) ≤ length text
+pub line-count : (text : List ℕ) → length (lines text) ≤ length text
 unfolding lines
 line-count [] = omega arith
 line-count (b ∷ t) = go (eqb b lineFeed) (line-count t)
@@ -61,7 +61,7 @@ lines-known h n before (l ∷ ls) few =
 
 -- ---- rooms for every sheet
 
-all-fit : (u r : ℕ) → T (leb u maxUnits) → T (leb r maxRules) → T (listsFit u r roomsForAll)
+pub all-fit : (u r : ℕ) → T (leb u maxUnits) → T (leb r maxRules) → T (listsFit u r roomsForAll)
 all-fit u r hu hr =
     let a = leb u maxUnits in
     let b = leb r maxRules in

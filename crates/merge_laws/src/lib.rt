@@ -1,0 +1,1 @@
+// What is promised of merging two texts: theorems only.
