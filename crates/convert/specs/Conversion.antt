@@ -29,7 +29,8 @@ use Rattle.read_questions.specs.AcceptedLaws.{reading-accepts, reading-loaders}
 use Rattle.read_questions.specs.RefusalLaws.{asksText, reading-refusals}
 use Rattle.read_whole.specs.WholeLaws.{two-digits, too-long}
 use Rattle.round_trip.specs.RoundTrip.{text-accepted, text-read}
-use Rattle.convert_lists.specs.Converting.{asked, refusal, bytesBy, converted, replyBy, converting}
+use Rattle.write_fronts.specs.Outcome.{bytesBy, replyBy}
+use Rattle.convert_lists.specs.Converting.{asked, refusal, converted, converting}
 use Rattle.convert_lists.specs.ConvertingLaws.{asksHouse, house-refusals, refusal-then}
 
 module _ (from to : House) (input : List ℕ) where

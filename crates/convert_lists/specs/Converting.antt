@@ -2,14 +2,13 @@
 -- read (docs/RULES.md, "The order of the questions"). Definitions only.
 use mathlib.Core.List.{List, _++_}
 use Prim.Native.Nat.{ℕ}
-use lib.ListN.{length}
-use Rattle.questions.specs.Questions.{Question, Verdict, no, allYes, firstNo}
+use Rattle.questions.specs.Questions.{Question, Verdict, firstNo}
 use Rattle.forms.specs.declared.House.{House}
 use Rattle.sheet.specs.Sheet.{constraints}
 use Rattle.read_questions.specs.Reading.{questions, roomsForAll, sheetIn}
 use Rattle.write_ask.specs.HouseQuestions.{houseQuestions}
 use Rattle.sheet_texts.specs.SheetText.{sheetText}
-use Rattle.print_bytes.specs.Writing.{refusedLine}
+use Rattle.write_fronts.specs.Outcome.{bytesBy, Reply, sheet, refused, replyBy}
 use Rattle.convert_lists.specs.declared.Converted.{Converted}
 use Rattle.convert_lists.specs.declared.Converted.the-variants as Converted
 
@@ -21,28 +20,14 @@ asked from to text = questions from text roomsForAll ++ houseQuestions to (const
 unfoldable pub refusal : House → House → List ℕ → Verdict
 refusal from to text = firstNo (asked from to text)
 
--- what is written, by this verdict of a sheet with this text
-abbrev pub bytesBy : Verdict → List ℕ → List ℕ
-bytesBy (no q n) text = refusedLine q n
-bytesBy allYes text = text
-
 abbrev pub converted : House → House → List ℕ → List ℕ
 converted from to text = bytesBy (refusal from to text) (sheetText to (sheetIn from text))
 
 -- ---- the answer
 
--- a sheet or a refusal by this question at this line, and the place just past what was written
-pub data Reply : Type 0 where
-  sheet : (place : ℕ) → Reply
-  refused : (number line place : ℕ) → Reply
-
 abbrev pub replyOf : Converted → Reply
 replyOf (Converted.Sheet next) = sheet next
 replyOf (Converted.Refused f next) = refused (f .number) (f .line) next
-
-abbrev pub replyBy : Verdict → List ℕ → Reply
-replyBy (no q n) text = refused q n (length (refusedLine q n))
-replyBy allYes text = sheet (length text)
 
 abbrev pub converting : House → House → List ℕ → Reply
 converting from to text = replyBy (refusal from to text) (sheetText to (sheetIn from text))

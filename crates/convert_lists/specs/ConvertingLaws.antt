@@ -30,7 +30,8 @@ use Rattle.read_rooms.specs.Rooms.{sizesOf, roomsAfter}
 use Rattle.read_whole.specs.Fronts.{fronts}
 use Rattle.read_whole.specs.FrontsLaws.{given-back, written-back}
 use Rattle.read_whole.specs.WholeLaws.{first-no, all-yes, read-lists}
-use Rattle.convert_lists.specs.Converting.{refusal, bytesBy, converted, replyBy, converting}
+use Rattle.write_fronts.specs.Outcome.{bytesBy, replyBy}
+use Rattle.convert_lists.specs.Converting.{refusal, converted, converting}
 
 -- ---- what a house refuses: 17 or 18, at a place of its list
 

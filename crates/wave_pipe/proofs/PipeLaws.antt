@@ -11,7 +11,8 @@ use Rattle.forms.specs.declared.House.{House}
 use Rattle.read_questions.specs.Reading.{sheetIn}
 use Rattle.sheet_texts.specs.SheetText.{sheetText}
 use Rattle.print_bytes.specs.Writing.{withBytes}
-use Rattle.convert_lists.specs.Converting.{Reply, sheet, refused, replyOf, bytesBy, replyBy, refusal, converted, converting}
+use Rattle.write_fronts.specs.Outcome.{Reply, sheet, refused, bytesBy, replyBy}
+use Rattle.convert_lists.specs.Converting.{replyOf, refusal, converted, converting}
 use Rattle.convert.specs.Conversion.{conversion-refusals}
 use Rattle.convert_lists.specs.declared.Converted.{Converted}
 use Rattle.convert_lists.specs.declared.Converted.the-variants as reply
