@@ -1,1 +1,2 @@
 pub mod Join
+pub mod ClearedLaws

@@ -1,21 +1,18 @@
 -- Question 12 stands at the end; only where it is answered yes too are the rooms filled.
-use Prim.Native.Nat.{ℕ, _+_}
+use Prim.Native.Nat.{ℕ}
 use mathlib.Core.Path.{_≡_, refl, sym, ap, subst, _∙_}
 use mathlib.Core.Bool.{true}
 use mathlib.Core.List.{List}
-use lib.Dec.{lit≤}
-use lib.ListN.{replicate}
 use borrow.Author.Tests.{not-true, not-false}
-use Rattle.sheet.specs.Sizes.{maxUnits, maxRules}
 use Rattle.sheet.specs.declared.Sheet.{Sheet}
 use Rattle.read_questions.specs.Reading.{ListRooms, rooms, listsFit, read}
-use Rattle.read_questions.specs.Steps.{Holds}
 use Rattle.read_rooms.specs.Rooms.{sizesOf}
 use Rattle.read_rooms.specs.ReadingLaws.{rooms-hold}
 use Rattle.merge_questions.specs.Merging.{joinedReply}
 use Rattle.merge_questions.specs.declared.Joined.{Joined}
 use Rattle.merge_questions.specs.declared.Joined.the-variants as Told
 use Rattle.merge_join.specs.Join.{joinReply, MergedAtFront, LeavesMerged}
+use Rattle.merge_join.specs.ClearedLaws.{cleared-hold}
 use Rattle.merge.proofs.MergingLaws.{answer-no, answer-rooms, answer-read, rooms-kept, rooms-filled}
 use Rattle.merge.proofs.merge.Statement.{statement}
 use Rattle.merge.proofs.merge.Tie as tie
@@ -39,29 +36,11 @@ fill-call c = c .before .before .before .before .before .before .before .before 
 abbrev called-fits : tie.After-fill → tie.Else1
 called-fits c = c .before .before .before .before .before .before .before .before .before .before .before .before .before .before .before
 
--- the rooms that are lent, and the arrays: as they are made, and with the merged sheet
+-- the rooms that are lent, and the arrays with the merged sheet
 abbrev lent : tie.Start → ListRooms (List ℕ)
 lent z =
     let a = z .args in
     rooms (a .loader .now) (a .first .now) (a .last .now) (a .from .now) (a .to .now) (a .low .now) (a .high .now)
-
-abbrev cleared : ListRooms (List ℕ)
-cleared =
-    let units : List ℕ = replicate (maxUnits + maxUnits) 0 in
-    let rules : List ℕ = replicate (maxRules + maxRules) 0 in
-    rooms units units units rules rules rules rules
-
-cleared-hold : Holds (maxUnits + maxUnits) (maxRules + maxRules) cleared
-cleared-hold =
-    record {
-      in-loader = lit≤ tt;
-      in-first = lit≤ tt;
-      in-last = lit≤ tt;
-      in-from = lit≤ tt;
-      in-to = lit≤ tt;
-      in-low = lit≤ tt;
-      in-high = lit≤ tt;
-    }
 
 abbrev arrays : tie.After-join → ListRooms (List ℕ)
 arrays c =
