@@ -12,9 +12,12 @@ use Rattle.plan_answers.specs.Reply as planning
 use Rattle.print_answer.specs.Printing as print
 use Rattle.print_answer.specs.Reply as printing
 use Rattle.read_questions.specs.Reading.{ListRooms, reading}
-use Rattle.read_rooms.specs.Rooms.{sizesOf, roomsAfter}
+use Rattle.read_rooms.specs.Rooms.{sizesOf, leaves, roomsAfter}
+use Rattle.merge_questions.specs.Merging.{mergedIn, merging}
+use Rattle.merge_lines.specs.Lines.{foundLine}
 use Rattle.write.specs.Writing.{writing, pageAfter}
-use Rattle.tugrokt_replies.specs.Numbers.{readingOf, planningOf, seatingOf, printingOf, writingOf}
+use Rattle.tugrokt_replies.specs.Numbers.{readingOf, planningOf, seatingOf, printingOf, writingOf, lineOf}
+use Rattle.tugrokt_replies.specs.declared.line.Line.{Line}
 use Rattle.tugrokt_replies.specs.declared.planning.Planning.{Planning}
 use Rattle.tugrokt_replies.specs.declared.printing.Printing.{Printing}
 use Rattle.tugrokt_replies.specs.declared.reading.Reading.{Reading}
@@ -48,3 +51,10 @@ pub record PrintTold (l : WrittenLists) (before : Rooms) (page : List ℕ) (at :
 pub record WriteTold (h : House) (l : WrittenLists) (page : List ℕ) (at : ℕ) (numbers : Writing) (left : List ℕ) : Type 0 where
   pub told : numbers ≡ writingOf at (writing h l (length page) at)
   pub page-left : left ≡ pageAfter h l page at
+
+pub record MergeTold (one two : List ℕ) (before : ListRooms (List ℕ)) (numbers : Reading) (after : ListRooms (List ℕ)) : Type 0 where
+  pub told : numbers ≡ readingOf (merging one two (sizesOf before))
+  pub left : after ≡ leaves (merging one two (sizesOf before)) (mergedIn one two) before
+
+pub record LineTold (one two : List ℕ) (loader : ℕ) (numbers : Line) : Type 0 where
+  pub told : numbers ≡ lineOf (foundLine one two loader)

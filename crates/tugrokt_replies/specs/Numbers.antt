@@ -1,9 +1,12 @@
 -- Replies as numbers, for callers in other languages: 0 for what a reply does not have. Definitions only.
-use Prim.Native.Nat.{ℕ}
+use Prim.Native.Nat.{ℕ, _-_, _≤_}
 use Rattle.read_questions.specs.Reading as reading
 use Rattle.plan_answers.specs.Reply as planning
 use Rattle.print_answer.specs.Reply as printing
 use Rattle.write.specs.Writing as writing
+use Rattle.merge_lines.specs.declared.LineFound.{LineFound}
+use Rattle.merge_lines.specs.declared.LineFound.the-variants as found
+use Rattle.tugrokt_replies.specs.declared.line.Line.{Line}
 use Rattle.tugrokt_replies.specs.declared.reading.Reading.{Reading}
 use Rattle.tugrokt_replies.specs.declared.planning.Planning.{Planning}
 use Rattle.tugrokt_replies.specs.declared.printing.Printing.{Printing}
@@ -35,3 +38,15 @@ printingOf at (printing.none k next) = record { number = 0; line = 0; length = k
 abbrev pub writingOf : ℕ → writing.Reply → Writing
 writingOf at (writing.refused q n) = record { number = q; line = n; place = at }
 writingOf at (writing.text next) = record { number = 0; line = 0; place = next }
+
+-- the line of a unit, by where it starts and how long it is; which sheet a refusal is of is not told
+abbrev pub lineOf : LineFound → Line
+lineOf (found.Refused f s) = record { number = f .number; line = f .line; sheet = 0; start = 0; length = 0 }
+lineOf (found.First a e) = record { number = 0; line = 0; sheet = 1; start = a; length = e - a }
+lineOf (found.Second a e) = record { number = 0; line = 0; sheet = 2; start = a; length = e - a }
+
+-- a line does not end before it starts
+abbrev pub Rises : LineFound → Type 0
+Rises (found.Refused f s) = Unit {0}
+Rises (found.First a e) = a ≤ e
+Rises (found.Second a e) = a ≤ e
