@@ -21,9 +21,18 @@
  *     tugrokt_write_sheet     what tugrokt_plan asks but 12, then 15
  *     tugrokt_write_partner   what tugrokt_plan asks but 12, then 17, 18 and 15
  *
+ *     tugrokt_merge           what tugrokt_read asks but 12, of the first text and then of the second; then 19, 20, 9, 21, 10, 12
+ *     tugrokt_line_of         what tugrokt_merge asks but 12, then 27
+ *
  * 16 asks of each unit: is its loader number 1 to TUGROKT_MAX_LOADER and on no earlier unit? 13 asks whether the lists of units are
  * equally long, the loader numbers among them, and so are the lists of rules. 17 asks whether no unit may be carried, and 18 whether the
  * low of every rule is 0; a refusal by one of them has for its line the place of the first unit or rule at fault in its list, from 1.
+ *
+ * Of two texts, 19 asks whether their spans are equal, 20 whether no loader number is in both, 9 whether there are at most
+ * TUGROKT_MAX_UNITS units together, 21 whether on each stretch the largest low of all rules is at most the smallest high, and 10 whether
+ * there are at most TUGROKT_MAX_RULES stretches. A refusal by one of reading's questions names a line of the text that it is of, which is
+ * the second only where tugrokt_read takes the first. All others name a line of the second: 19 that of its span, 20, 9 and 10 the first
+ * at fault, 21 the last rule on the first such stretch, or 0 where the second has none on it. 27 asks whether the loader number is in either.
  *
  * A refused call changes nothing that it was lent. Places of a room past those that an answer needs never change.
  *
@@ -66,7 +75,7 @@ extern "C" {
 struct tugrokt_reading {
     size_t number;
     size_t line;
-    size_t span;  /* of the sheet that was read */
+    size_t span;  /* of the sheet that was read or merged */
     size_t units; /* the length of its lists of units */
     size_t rules; /* the length of its lists of rules */
 };
@@ -95,6 +104,14 @@ struct tugrokt_writing {
     size_t number;
     size_t line;  /* for 17 the place in the lists of units, for 18 that in the lists of rules, from 1 */
     size_t place; /* just past the text; as it was given where the call was refused */
+};
+
+struct tugrokt_line {
+    size_t number;
+    size_t line;
+    size_t sheet;  /* the text that holds the unit, 1 or 2; 0 where the call was refused */
+    size_t start;  /* of the unit's line in that text */
+    size_t length; /* of the line, without its line feed */
 };
 
 /*
@@ -200,6 +217,26 @@ struct tugrokt_writing tugrokt_write_partner(
     const uint16_t *from, size_t from_length, const uint16_t *to, size_t to_length,
     const uint16_t *low, size_t low_length, const uint16_t *high, size_t high_length,
     uint8_t *page, size_t page_length, size_t place);
+
+/*
+ * Makes one sheet of two texts, in the lists that tugrokt_read fills: the units of the first and then those of the second; and one rule
+ * for each stretch, in the order in which the stretches first appear over both, with the largest low and the smallest high of all rules
+ * on it, also of those that stand in one text. What it leaves, tugrokt_plan takes, and a plan is lawful for it exactly when it keeps to
+ * all windows and all rules of both. Rooms of TUGROKT_MAX_UNITS and TUGROKT_MAX_RULES places refuse no two sheets.
+ */
+struct tugrokt_reading tugrokt_merge(
+    const uint8_t *one, size_t one_length, const uint8_t *two, size_t two_length,
+    uint16_t *loader, size_t loader_length,
+    uint16_t *first, size_t first_length, uint16_t *last, size_t last_length,
+    uint16_t *from, size_t from_length, uint16_t *to, size_t to_length,
+    uint16_t *low, size_t low_length, uint16_t *high, size_t high_length);
+
+/*
+ * Where the line of the unit with this loader number stands in the texts of two sheets that tugrokt_merge takes: in the first where sheet
+ * is 1, else in the second, length bytes from start on, without its line feed. Nothing is copied.
+ */
+struct tugrokt_line tugrokt_line_of(
+    const uint8_t *one, size_t one_length, const uint8_t *two, size_t two_length, uint16_t loader);
 
 #ifdef __cplusplus
 }

@@ -3,11 +3,11 @@
 //!
 //! A slice passes as a pointer and its length, a reply as a struct by value.
 
-/// What reading replies. As in every reply, what it does not have is 0, and a later version's new fields stand at the end.
+/// What reading and merging reply. As in every reply, what it does not have is 0, and a later version's new fields stand at the end.
 #[repr(C)]
 #[derive(Clone, Copy, Debug, PartialEq, Eq)]
 pub struct Reading {
-    /// The number of the question that refused the text, and 0 for a sheet.
+    /// The number of the question that refused the text or the texts, and 0 for a sheet.
     pub number: usize,
     /// The line that a refusal names.
     pub line: usize,
@@ -67,6 +67,21 @@ pub struct Writing {
     pub line: usize,
     /// The place just past the text, and for a refusal the place that was given.
     pub place: usize,
+}
+
+/// Where the line of a unit stands in one of two texts.
+#[repr(C)]
+#[derive(Clone, Copy, Debug, PartialEq, Eq)]
+pub struct Line {
+    /// The number of the question that refused the call, and 0 for a line.
+    pub number: usize,
+    /// The line that a refusal names: of the first text where the first is refused, else of the second.
+    pub line: usize,
+    /// The text that holds the unit, 1 or 2, and 0 for a refusal.
+    pub sheet: usize,
+    /// The place of its line's first byte in that text, and how many bytes it has without its line feed.
+    pub start: usize,
+    pub length: usize,
 }
 
 extern "C" {
@@ -270,4 +285,37 @@ extern "C" {
         page_length: usize,
         place: usize,
     ) -> Writing;
+}
+
+extern "C" {
+    pub fn tugrokt_merge(
+        one: *const u8,
+        one_length: usize,
+        two: *const u8,
+        two_length: usize,
+        loader: *mut u16,
+        loader_length: usize,
+        first: *mut u16,
+        first_length: usize,
+        last: *mut u16,
+        last_length: usize,
+        from: *mut u16,
+        from_length: usize,
+        to: *mut u16,
+        to_length: usize,
+        low: *mut u16,
+        low_length: usize,
+        high: *mut u16,
+        high_length: usize,
+    ) -> Reading;
+}
+
+extern "C" {
+    pub fn tugrokt_line_of(
+        one: *const u8,
+        one_length: usize,
+        two: *const u8,
+        two_length: usize,
+        loader: u16,
+    ) -> Line;
 }

@@ -6,7 +6,7 @@
 //! A refused call changes nothing that it was lent.
 
 use crate::border;
-pub use crate::border::{Planning, Printing, Reading, Seating, Writing};
+pub use crate::border::{Line, Planning, Printing, Reading, Seating, Writing};
 
 /// The lists that planning, deciding, seating and writing take. Lists that belong together have equal length, or the call is refused (13).
 #[derive(Clone, Copy, Debug)]
@@ -56,7 +56,7 @@ pub struct SeatRooms<'a> {
     pub latest: &'a mut [u16],
 }
 
-/// The lists that reading fills.
+/// The lists that reading and merging fill.
 #[derive(Debug)]
 pub struct ListRooms<'a> {
     pub loader: &'a mut [u16],
@@ -293,4 +293,39 @@ pub fn write_sheet(lists: Lists, page: &mut [u8], place: usize) -> Writing {
 /// The same in the partner's form: no unit may be carried (17), and every low is 0 (18).
 pub fn write_partner(lists: Lists, page: &mut [u8], place: usize) -> Writing {
     write_by(border::tugrokt_write_partner, lists, page, place)
+}
+
+/// Merges two sheets into the front of the lists: the units of the first and then those of the second, and one rule for each stretch, in the
+/// order in which the stretches first appear, with the largest low and the smallest high of all rules on it.
+pub fn merge(one: &[u8], two: &[u8], lists: ListRooms) -> Reading {
+    let ListRooms { loader, first, last, from, to, low, high } = lists;
+    // SAFETY: each pointer comes from a reference with the length beside it, and the entry has no further demand.
+    unsafe {
+        border::tugrokt_merge(
+            one.as_ptr(),
+            one.len(),
+            two.as_ptr(),
+            two.len(),
+            loader.as_mut_ptr(),
+            loader.len(),
+            first.as_mut_ptr(),
+            first.len(),
+            last.as_mut_ptr(),
+            last.len(),
+            from.as_mut_ptr(),
+            from.len(),
+            to.as_mut_ptr(),
+            to.len(),
+            low.as_mut_ptr(),
+            low.len(),
+            high.as_mut_ptr(),
+            high.len(),
+        )
+    }
+}
+
+/// Where the line of the unit with this loader number stands in the two texts that merging takes. [`crate::line_of`] gives the line itself.
+pub fn line_of(one: &[u8], two: &[u8], loader: u16) -> Line {
+    // SAFETY: each pointer comes from a reference with the length beside it, and the entry has no further demand.
+    unsafe { border::tugrokt_line_of(one.as_ptr(), one.len(), two.as_ptr(), two.len(), loader) }
 }

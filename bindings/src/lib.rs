@@ -1,7 +1,7 @@
 //! The wave planner, called from Rust.
 //!
-//! [`Sheet`] reads, plans, decides, seats, prints and writes with rooms of its own; [`entry`] has the planner's open entries as they are, with
-//! every room lent by the caller. Only numbers, slices and structs of numbers cross the border.
+//! [`Sheet`] reads, plans, decides, seats, prints and writes with rooms of its own, and [`merge`] makes one of two; [`entry`] has the planner's
+//! open entries as they are, with every room lent by the caller. Only numbers, slices and structs of numbers cross the border.
 //!
 //! ```
 //! # fn main() -> Result<(), tugrokt::Refusal> {
@@ -33,6 +33,18 @@
 //! let sheet = tugrokt::Sheet::read_partner(b"(day 7)\n(job 4017 (start 3) (hours 2))\n(limit (from 1) (hours 3) (most 2))\n")?;
 //! assert_eq!(sheet.write()?, b"(sheet 7)\n(unit 4017 (window 3 4))\n(rule (slots 1 3) (count 0 2))\n");
 //! assert_eq!(tugrokt::Sheet::read_partner(&sheet.write_partner()?)?, sheet);
+//! # Ok(())
+//! # }
+//! ```
+//! Two sheets become one, and each unit's line is found where it stands:
+//!
+//! ```
+//! # fn main() -> Result<(), tugrokt::Refusal> {
+//! let one = b"(sheet 7)\n(unit 4017 (window 1 3))\n(rule (slots 1 3) (count 0 2))\n";
+//! let two = b"(note the other site)\n(sheet 7)\n(rule (slots 1 3) (count 1 4))\n(unit 40 (window 2 8))\n";
+//! let sheet = tugrokt::merge(one, two)?;
+//! assert_eq!(sheet.write()?, b"(sheet 7)\n(unit 4017 (window 1 3))\n(unit 40 (window 2 8))\n(rule (slots 1 3) (count 1 2))\n");
+//! assert_eq!(tugrokt::line_of(one, two, 40)?, b"(unit 40 (window 2 8))");
 //! # Ok(())
 //! # }
 //! ```
@@ -223,15 +235,16 @@ impl Sheet {
 
     /// Reads a sheet from its text.
     pub fn read(text: &[u8]) -> Result<Sheet, Refusal> {
-        Sheet::read_by(entry::read, text)
+        Sheet::filled_by(|lists| entry::read(text, lists))
     }
 
     /// Reads a partner's sheet from its text: a job is a unit whose window is its hours, and a limit a rule with the low 0.
     pub fn read_partner(text: &[u8]) -> Result<Sheet, Refusal> {
-        Sheet::read_by(entry::read_partner, text)
+        Sheet::filled_by(|lists| entry::read_partner(text, lists))
     }
 
-    fn read_by(reads: fn(&[u8], entry::ListRooms) -> entry::Reading, text: &[u8]) -> Result<Sheet, Refusal> {
+    /// The sheet that a call leaves in lists of its own, unless it is refused.
+    fn filled_by(fills: impl FnOnce(entry::ListRooms) -> entry::Reading) -> Result<Sheet, Refusal> {
         let units = || vec![0; MAX_UNITS];
         let rules = || vec![0; MAX_RULES];
         let (mut loader, mut first, mut last) = (units(), units(), units());
@@ -245,7 +258,7 @@ impl Sheet {
             low: &mut low,
             high: &mut high,
         };
-        let reply = reads(text, lists);
+        let reply = fills(lists);
         unless_refused(reply.number, reply.line)?;
         for list in [&mut loader, &mut first, &mut last] {
             list.truncate(reply.units);
@@ -337,6 +350,37 @@ impl Sheet {
         page.truncate(reply.place);
         Ok(page)
     }
+}
+
+/// One sheet of two: the units of the first and then those of the second, and one rule for each stretch, in the order in which the stretches
+/// first appear, with the largest low and the smallest high of all rules on it, also of those that stand in one text. A plan is lawful for it
+/// exactly when it keeps to all windows and all rules of both.
+///
+/// A refusal by one of reading's questions is of the first text or, where the first is a sheet, of the second. All others name a line of the
+/// second: different spans (19), a loader number that is in both (20), more than 300 units together (9), a stretch whose rules leave no count
+/// (21), more than 60 stretches (10).
+///
+/// ```
+/// let (one, two) = (b"(sheet 4)\n(unit 12 (window 1 3))\n", b"(sheet 4)\n(note)\n(unit 12 (window 1 4))\n");
+/// assert_eq!(tugrokt::merge(one, two), Err(tugrokt::Refusal { question: 20, line: 3 }));
+/// ```
+pub fn merge(one: &[u8], two: &[u8]) -> Result<Sheet, Refusal> {
+    Sheet::filled_by(|lists| entry::merge(one, two, lists))
+}
+
+/// The line of the unit with this loader number, without its line feed, as it stands in whichever of two texts that [`merge`] takes holds it: a
+/// part of that text, and no copy. Where neither holds such a unit, 27 refuses the call.
+///
+/// ```
+/// let (one, two) = (b"(sheet 4)\n(unit 4017 (window 1 3))\n", b"(sheet 4)\n(unit 40 (window 1 4))\n");
+/// assert_eq!(tugrokt::line_of(one, two, 40), Ok(&two[10..32]));
+/// assert_eq!(tugrokt::line_of(one, two, 401), Err(tugrokt::Refusal { question: 27, line: 0 }));
+/// ```
+pub fn line_of<'a>(one: &'a [u8], two: &'a [u8], loader: u16) -> Result<&'a [u8], Refusal> {
+    let entry::Line { number, line, sheet, start, length } = entry::line_of(one, two, loader);
+    unless_refused(number, line)?;
+    let text = if sheet == 1 { one } else { two };
+    Ok(&text[start..start + length])
 }
 
 /// Rooms that are long enough for one sheet.
