@@ -1,10 +1,11 @@
 //! Calls of the planner's open entries with marked rooms, and what must stand in every place afterwards.
 
 use crate::house::House;
+use crate::merging::{Found, Pair};
 use crate::questions::{planning_refusal, refusal, written, Call, Lengths, Lists};
-use crate::reading::{read_into, Refusal};
+use crate::reading::{fits_into, read_into, Refusal};
 use crate::sheet::{Sheet, Solved};
-use tugrokt::entry::{self, DecideRooms, Planning, Printing, Reading, SeatRooms, Seating, Writing};
+use tugrokt::entry::{self, DecideRooms, Line, Planning, Printing, Reading, SeatRooms, Seating, Writing};
 
 /// Marks that no answer has, other ones in neighbouring places.
 pub fn marked_u16(length: usize) -> Vec<u16> {
@@ -268,18 +269,19 @@ pub fn printing_fault(
         .or_else(|| refused_print_fault(&print(lists, lengths, end - 1, before), 15, lengths, before))
 }
 
-/// Reads a house's text into marked lists of these lengths, and says what is wrong.
-pub fn reading_fault(house: House, text: &[u8], units: [usize; 3], rules: [usize; 4]) -> Option<String> {
+/// Has a call fill marked lists of these lengths, and says what is wrong with what it replied and left.
+fn filled_fault(
+    expected: Result<Sheet, Refusal>,
+    units: [usize; 3],
+    rules: [usize; 4],
+    fills: impl FnOnce(entry::ListRooms) -> Reading,
+) -> Option<String> {
     let marked = || [units[0], units[1], units[2], rules[0], rules[1], rules[2], rules[3]].map(marked_u16);
     let mut rooms = marked();
     let mut expected_rooms = marked();
     let [loader, first, last, from, to, low, high] = &mut rooms;
-    let lists = entry::ListRooms { loader, first, last, from, to, low, high };
-    let reply = match house {
-        House::Ours => entry::read(text, lists),
-        House::Partner => entry::read_partner(text, lists),
-    };
-    let expected = match read_into(house, text, units, rules) {
+    let reply = fills(entry::ListRooms { loader, first, last, from, to, low, high });
+    let expected = match expected {
         Err(Refusal { number, line }) => Reading { number, line, span: 0, units: 0, rules: 0 },
         Ok(sheet) => {
             let lists = Lists::from(&sheet);
@@ -291,6 +293,39 @@ pub fn reading_fault(house: House, text: &[u8], units: [usize; 3], rules: [usize
         }
     };
     differ("reply", &reply, &expected).or_else(|| differ("lists", &rooms, &expected_rooms))
+}
+
+/// Reads a house's text into marked lists of these lengths, and says what is wrong.
+pub fn reading_fault(house: House, text: &[u8], units: [usize; 3], rules: [usize; 4]) -> Option<String> {
+    filled_fault(read_into(house, text, units, rules), units, rules, |lists| match house {
+        House::Ours => entry::read(text, lists),
+        House::Partner => entry::read_partner(text, lists),
+    })
+}
+
+/// Merges two texts into marked lists of these lengths, and says what is wrong. `merged` is the model's answer before 12.
+pub fn merging_fault(one: &[u8], two: &[u8], merged: &Result<Pair, Refusal>, units: [usize; 3], rules: [usize; 4]) -> Option<String> {
+    let expected = merged.as_ref().map_err(|refusal| *refusal).and_then(|pair| fits_into(pair.merged.clone(), units, rules));
+    filled_fault(expected, units, rules, |lists| entry::merge(one, two, lists))
+}
+
+/// Asks for the line of a loader in two texts, and says what is wrong, also with the part that the package hands back: it lies where it is
+/// found, in the text that holds it.
+pub fn line_fault(one: &[u8], two: &[u8], merged: &Result<Pair, Refusal>, loader: u16) -> Option<String> {
+    let expected = merged.as_ref().map_err(|refusal| *refusal).and_then(|pair| pair.line_of(loader as usize));
+    let (reply, part) = match &expected {
+        Err(Refusal { number, line }) => {
+            let refusal = tugrokt::Refusal { question: *number, line: *line };
+            (Line { number: *number, line: *line, sheet: 0, start: 0, length: 0 }, Err(refusal))
+        }
+        Ok(Found { text, spot }) => {
+            let part = &[one, two][text - 1][spot.bytes.clone()];
+            (Line { number: 0, line: 0, sheet: *text, start: spot.bytes.start, length: spot.bytes.len() }, Ok(part.as_ptr_range()))
+        }
+    };
+    differ("reply", &entry::line_of(one, two, loader), &reply)
+        .or_else(|| differ("part", &tugrokt::line_of(one, two, loader).map(<[u8]>::as_ptr_range), &part))
+        .map(|fault| format!("loader {loader}: {fault}"))
 }
 
 /// What one call of writing left.

@@ -1,6 +1,8 @@
 //! A reader of sheets, ours and the partner's, straight from docs/RULES.md: a line is split by hand, and each question is asked of it in
 //! turn.
 
+use std::ops::Range;
+
 use crate::house::House;
 use crate::questions::{is_count, is_new};
 use crate::sheet::{Rule, Sheet, Unit, MAX_RULES, MAX_SLOTS, MAX_UNITS};
@@ -95,6 +97,14 @@ fn all_numbers(digits: &[&[u8]]) -> Option<Vec<u16>> {
     digits.iter().map(|d| number(d)).collect()
 }
 
+/// What a line that is taken gives.
+enum Gives {
+    Nothing,
+    Span,
+    Unit,
+    Rule,
+}
+
 /// What the lines so far have given.
 struct Reader {
     house: House,
@@ -105,12 +115,12 @@ struct Reader {
 
 impl Reader {
     /// Asks one line its questions; the number of the first that is answered no.
-    fn take(&mut self, line: &[u8], fed: bool) -> Result<(), usize> {
+    fn take(&mut self, line: &[u8], fed: bool) -> Result<Gives, usize> {
         let ask = |yes: bool, question: usize| if yes { Ok(()) } else { Err(question) };
         ask(line.iter().all(|b| (32..=126).contains(b)), 2)?;
         if is_note(line) {
             ask(note_closes(line), 11)?;
-            return ask(fed, 3);
+            return ask(fed, 3).map(|()| Gives::Nothing);
         }
         ask(fed, 3)?;
         match form(self.house, line).ok_or(3usize)? {
@@ -119,6 +129,7 @@ impl Reader {
                 ask(self.span.is_none(), 5)?;
                 ask((1..=MAX_SLOTS).contains(&(span as usize)), 6)?;
                 self.span = Some(span as usize);
+                Ok(Gives::Span)
             }
             Form::Unit(digits) => {
                 let n = all_numbers(&digits).ok_or(4usize)?;
@@ -128,6 +139,7 @@ impl Reader {
                 ask(is_new(loader, &earlier), 16)?;
                 ask(self.units.len() < MAX_UNITS, 9)?;
                 self.units.push(Unit { loader, first, last });
+                Ok(Gives::Unit)
             }
             Form::Rule(digits) => {
                 let n = all_numbers(&digits).ok_or(4usize)?;
@@ -137,38 +149,69 @@ impl Reader {
                 ask(is_count(low, high), 8)?;
                 ask(self.rules.len() < MAX_RULES, 10)?;
                 self.rules.push(Rule { from, to, low, high });
+                Ok(Gives::Rule)
             }
         }
-        Ok(())
     }
+}
+
+/// Where a line stands in its text: its number, from 1, and its bytes without the line feed.
+#[derive(Clone, Debug, PartialEq, Eq)]
+pub struct Spot {
+    pub number: usize,
+    pub bytes: Range<usize>,
+}
+
+/// A sheet with the lines that give it: that of its span, and of each unit and each rule.
+#[derive(Clone, Debug, PartialEq, Eq)]
+pub struct Located {
+    pub sheet: Sheet,
+    pub span: Spot,
+    pub units: Vec<Spot>,
+    pub rules: Vec<Spot>,
 }
 
 /// The sheet of a house's text, or the refusal, up to question 12.
 pub fn read(house: House, text: &[u8]) -> Result<Sheet, Refusal> {
+    locate(house, text).map(|located| located.sheet)
+}
+
+/// The same, with the lines that give it.
+pub fn locate(house: House, text: &[u8]) -> Result<Located, Refusal> {
     if text.len() > MAX_BYTES {
         return Err(Refusal { number: 1, line: 0 });
     }
     let mut reader = Reader { house, span: None, units: vec![], rules: vec![] };
-    let mut rest = text;
-    let mut at = 0;
-    while !rest.is_empty() {
-        at += 1;
-        let (line, fed) = match rest.iter().position(|&b| b == b'\n') {
-            Some(end) => (&rest[..end], true),
-            None => (rest, false),
+    let (mut spans, mut units, mut rules) = (vec![], vec![], vec![]);
+    let (mut start, mut number) = (0, 0);
+    while start < text.len() {
+        number += 1;
+        let (end, fed) = match text[start..].iter().position(|&b| b == b'\n') {
+            Some(length) => (start + length, true),
+            None => (text.len(), false),
         };
-        reader.take(line, fed).map_err(|number| Refusal { number, line: at })?;
-        rest = &rest[line.len() + fed as usize..];
+        let spot = Spot { number, bytes: start..end };
+        match reader.take(&text[start..end], fed).map_err(|question| Refusal { number: question, line: number })? {
+            Gives::Nothing => (),
+            Gives::Span => spans.push(spot),
+            Gives::Unit => units.push(spot),
+            Gives::Rule => rules.push(spot),
+        }
+        start = end + fed as usize;
     }
-    match reader.span {
-        Some(span) => Ok(Sheet { span, units: reader.units, rules: reader.rules }),
-        None => Err(Refusal { number: 5, line: 0 }),
+    match (reader.span, spans.pop()) {
+        (Some(span), Some(spot)) => Ok(Located { sheet: Sheet { span, units: reader.units, rules: reader.rules }, span: spot, units, rules }),
+        _ => Err(Refusal { number: 5, line: 0 }),
     }
 }
 
-/// Reading into lists of these lengths: three for units, four for rules.
-pub fn read_into(house: House, text: &[u8], units: [usize; 3], rules: [usize; 4]) -> Result<Sheet, Refusal> {
-    let sheet = read(house, text)?;
+/// Does a sheet fit into lists of these lengths, three for units and four for rules? (Question 12.)
+pub fn fits_into(sheet: Sheet, units: [usize; 3], rules: [usize; 4]) -> Result<Sheet, Refusal> {
     let enough = units.iter().all(|&l| l >= sheet.units.len()) && rules.iter().all(|&l| l >= sheet.rules.len());
     if enough { Ok(sheet) } else { Err(Refusal { number: 12, line: 0 }) }
+}
+
+/// Reading into lists of these lengths.
+pub fn read_into(house: House, text: &[u8], units: [usize; 3], rules: [usize; 4]) -> Result<Sheet, Refusal> {
+    fits_into(read(house, text)?, units, rules)
 }

@@ -9,6 +9,9 @@ pub const PLAN: &str = "with a plan";
 pub const CARRIES: &str = "with a plan that carries units";
 pub const NONE: &str = "with none";
 
+/// One more than the number of the last question.
+const QUESTIONS: usize = 28;
+
 pub fn answer(sheet: &Sheet, solved: Option<&Solved>) -> &'static str {
     match solved {
         Some(solved) if solved.plan.iter().any(|&place| sheet.slot_at(place).is_none()) => CARRIES,
@@ -22,13 +25,13 @@ pub struct Tally {
     name: &'static str,
     seed: u64,
     answers: Vec<(&'static str, usize)>,
-    refused: [usize; 19],
+    refused: [usize; QUESTIONS],
 }
 
 impl Tally {
     /// A test that has no random cases has seed 0.
     pub fn new(name: &'static str, seed: u64) -> Tally {
-        Tally { name, seed, answers: vec![], refused: [0; 19] }
+        Tally { name, seed, answers: vec![], refused: [0; QUESTIONS] }
     }
 
     pub fn seed(&self) -> u64 {
