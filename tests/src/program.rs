@@ -7,6 +7,7 @@ use std::process::{Command, Stdio};
 use std::time::Duration;
 
 use crate::house::House;
+use crate::merging::{line_of, merge};
 use crate::questions::partner_refusal;
 use crate::reading::{read, refusal_page, Refusal};
 use crate::sheet::{Sheet, Solved};
@@ -114,6 +115,16 @@ pub fn converted(from: House, text: &[u8]) -> (Vec<u8>, String) {
             (refusal_page(refusal), format!("{kind} {}\n", refusal.line))
         }
     }
+}
+
+/// What the program writes for two texts with the word `merge`: the merged sheet as a text, or the refusal.
+pub fn merged_page(one: &[u8], two: &[u8]) -> Vec<u8> {
+    merge(one, two).map_or_else(refusal_page, |sheet| sheet.text())
+}
+
+/// The same with the word `line` and a loader number: the unit's line and a line feed, or the refusal.
+pub fn line_page(loader: usize, one: &[u8], two: &[u8]) -> Vec<u8> {
+    line_of(one, two, loader).map_or_else(refusal_page, |found| [&[one, two][found.text - 1][found.spot.bytes], b"\n"].concat())
 }
 
 fn differ(written: &[u8], expected: &[u8]) -> Option<String> {

@@ -73,7 +73,7 @@ fn the_word_is_handed_on() {
         assert_eq!((status, page.as_str()), (3, ""), "{words:?}");
         // The program's own lines with its words, and then the command's.
         let (usage, last) = said.strip_suffix('\n').unwrap().rsplit_once('\n').expect("two lines");
-        assert!(["plan", "fits", "partner", "from-partner", "to-partner"].iter().all(|word| usage.contains(word)), "{said}");
+        assert!(["plan", "fits", "partner", "from-partner", "to-partner", "merge", "line"].iter().all(|word| usage.contains(word)), "{said}");
         assert_eq!(last, format!("plan: there is no page for: {}", words.join(" ")));
     }
 }
@@ -107,6 +107,55 @@ fn sheets_of_the_partner() {
     let longest = Sheet::new(48, &[(10, 48); 300], &[(10, 48, 0, 300); 60]).numbered(&(9_700..=9_999).collect::<Vec<_>>());
     let expected = String::from_utf8(longest.text_for(House::Partner)).unwrap();
     assert_eq!(end(start_with(&["to-partner"], "to_partner_longest", &longest.text())), (0, expected, String::new()));
+}
+
+/// Starts the command with these words in a folder, and with nothing on standard input.
+fn start_in(folder: &Path, words: &[&str]) -> Child {
+    spawn(plan().args(words).current_dir(folder).stdin(Stdio::null()))
+}
+
+/// Two sheets are merged, and the line of a unit is shown: the status is 0 for a sheet or a line, 2 for a refusal, and 3 where a file cannot be
+/// read or the words are none. Names of files are those of the folder that the command is called in.
+#[test]
+fn two_sheets() {
+    let folder = Path::new(env!("CARGO_TARGET_TMPDIR")).join("two sheets");
+    fs::create_dir_all(&folder).unwrap();
+    let (one, two) = ("(sheet 4)\n(unit 4017 (window 1 4))\n", "(note)\n(sheet 4)\n(unit 40 (window 2 5))\n(rule (slots 1 4) (count 0 1))\n");
+    let files = [("one", one), ("two", two), ("again", "(sheet 4)\n(unit 40 (window 1 1))\n"), ("broken", "(sheet 49)\n")];
+    for (name, text) in files {
+        fs::write(folder.join(name), text).unwrap();
+    }
+    let merged = "(sheet 4)\n(unit 4017 (window 1 4))\n(unit 40 (window 2 5))\n(rule (slots 1 4) (count 0 1))\n";
+    let absolute = folder.join("two");
+    for (first, second) in [("one", "two"), ("./one", "../two sheets/two"), ("one", absolute.to_str().unwrap())] {
+        assert_eq!(end(start_in(&folder, &["merge", first, second])), (0, merged.into(), String::new()));
+        assert_eq!(end(start_in(&folder, &["line", "40", first, second])), (0, "(unit 40 (window 2 5))\n".into(), String::new()));
+    }
+    for (words, page) in [
+        (&["merge", "two", "again"][..], "(refused 20 (line 2))\n"),
+        (&["merge", "broken", "two"], "(refused 6 (line 1))\n"),
+        (&["line", "40", "two", "broken"], "(refused 6 (line 1))\n"),
+        (&["line", "41", "one", "two"], "(refused 27 (line 0))\n"),
+        (&["line", "65576", "one", "two"], "(refused 27 (line 0))\n"),
+    ] {
+        let (status, got, _) = end(start_in(&folder, words));
+        assert_eq!((status, got.as_str()), (2, page), "{words:?}");
+    }
+    let none: [&[&str]; 8] = [
+        &["merge", "one", "three"], &["merge", ".", "two"], &["line", "40", "three", "two"], &["line", "x", "one", "two"], &["line", "", "one", "two"],
+        &["merge", "one"], &["merge", "one", "two", "two"], &["line", "one", "two"],
+    ];
+    for words in none {
+        let (status, page, said) = end(start_in(&folder, words));
+        assert_eq!((status, page.as_str()), (3, ""), "{words:?}");
+        assert!(said.ends_with('\n'), "{words:?}: {said}");
+    }
+    // What is merged is planned.
+    let command = format!("'{0}/plan' merge one two | '{0}/plan'", env!("ROOT"));
+    let piped = spawn(Command::new("bash").args(["-c", &command]).current_dir(&folder).stdout(Stdio::piped()).stderr(Stdio::piped()));
+    let (status, page, said) = end(piped);
+    assert_eq!((status, said.as_str()), (0, ""));
+    assert!(page.starts_with("(answer plan 2)\n"), "{page}");
 }
 
 /// What cannot be read or written is said, and is no answer.

@@ -9,7 +9,7 @@ use std::time::Duration;
 
 use model::damage::{any_text, note_of_depth, valid, with_notes};
 use model::house::House;
-use model::program::{answer, answered_fault, asked_fault, converted, fault, output_fault, path, run, run_with, Asked};
+use model::program::{answer, answered_fault, asked_fault, converted, fault, line_page, merged_page, output_fault, path, run, run_with, Asked};
 use model::random::{any_sheet, largest_sheet, small_sheet, Random, Reach};
 use model::reading::read;
 use model::sheet::Sheet;
@@ -88,6 +88,7 @@ fn words() {
         "plan fits", "decide", "seat", "write", "partne", "partners", "partner ", " partner", "Partner", "PARTNER", "partnes", "pertner", "from", "to",
         "from-partne", "from-partners", "from-partner ", "from_partner", "from partner", "From-partner", "to-partne", "to-partners", "to-partner ",
         "to_partner",
+        "merg", "merges", "merge ", "Merge", "mergf", "lin", "lines", "line ", "Line", "lime",
         "to partner", "to-Partner", "no-partner", "fro-partner", "-partner", "topartner", "from-partner\n", "-h", "--help", "--", "(sheet 4)", &long,
     ];
     let two: [&[&str]; 16] = [
@@ -103,7 +104,7 @@ fn words() {
             let (page, said) = run_with(&words, text, &[], None);
             assert_eq!(page, b"", "{words:?}");
             assert!(said.ends_with('\n'), "{words:?}: {said}");
-            for word in ["plan", "fits", "partner", "from-partner", "to-partner"] {
+            for word in ["plan", "fits", "partner", "from-partner", "to-partner", "merge", "line"] {
                 assert!(said.split(|c: char| !c.is_ascii_lowercase() && c != '-').any(|part| part == word), "{words:?}: no {word} in {said}");
             }
         }
@@ -183,6 +184,18 @@ fn texts_of_the_check() {
         let name = folder.file_name().unwrap().to_str().unwrap().to_string();
         let words = fs::read_to_string(folder.join("args")).unwrap_or_default();
         let words: Vec<&str> = words.split_whitespace().collect();
+        // The files of `merge` and `line` lie beside the program.
+        let file = |name: &str| fs::read(folder.join("data").join(name)).unwrap_or_else(|e| panic!("{name}: {e}"));
+        let of_files = match words[..] {
+            ["merge", one, two] => Some(merged_page(&file(one), &file(two))),
+            ["line", loader, one, two] => Some(line_page(loader.parse().unwrap(), &file(one), &file(two))),
+            _ => None,
+        };
+        if let Some(expected) = of_files {
+            assert_eq!(String::from_utf8_lossy(&page), String::from_utf8_lossy(&expected), "{name}");
+            seen.push(name);
+            continue;
+        }
         let asked = Asked::ALL.into_iter().find(|asked| asked.words() == words).unwrap_or_else(|| panic!("{name}: {words:?}"));
         let text = fs::read(folder.join("stdin")).unwrap();
         if let Some((_, length)) = lengths.iter().find(|(known, _)| *known == name) {
