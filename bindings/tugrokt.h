@@ -32,7 +32,8 @@
  * TUGROKT_MAX_UNITS units together, 21 whether on each stretch the largest low of all rules is at most the smallest high, and 10 whether
  * there are at most TUGROKT_MAX_RULES stretches. A refusal by one of reading's questions names a line of the text that it is of, which is
  * the second only where tugrokt_read takes the first. All others name a line of the second: 19 that of its span, 20, 9 and 10 the first
- * at fault, 21 the last rule on the first such stretch, or 0 where the second has none on it. 27 asks whether the loader number is in either.
+ * at fault, 21 the last rule on the first such stretch, or 0 where the second has none on it. 27 asks whether the loader number is in
+ * either.
  *
  * A refused call changes nothing that it was lent. Places of a room past those that an answer needs never change.
  *

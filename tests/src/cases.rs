@@ -1,4 +1,5 @@
-//! P1 to P12, with their answers (docs/RULES.md, "Sheets to try"), and sheets for which the looks of seating are counted by hand.
+//! P1 to P12, with their answers (docs/RULES.md, "Sheets to try"), sheets for which the looks of seating are counted by hand, and two sheets that
+//! are merged.
 
 use crate::sheet::Sheet;
 
@@ -179,4 +180,26 @@ pub const P12_FITS_PAGE: &str = "(answer fits 2)
 (slot 1 (range 0 1))
 (slot 2 (range 0 1))
 (slot 3 (range 0 1))
+";
+
+/// Two sheets that share a stretch, and what they become.
+pub const PAIR: (&str, &str) = (
+    "(sheet 7)
+(unit 4017 (window 1 4))
+(rule (slots 1 3) (count 0 5))
+(unit 12 (window 7 8))
+",
+    "(note the other site)
+(sheet 7)
+(rule (slots 2 2) (count 0 1))
+(rule (slots 1 3) (count 1 2))
+(unit 40 (window 2 3))
+",
+);
+pub const MERGED: &str = "(sheet 7)
+(unit 4017 (window 1 4))
+(unit 12 (window 7 8))
+(unit 40 (window 2 3))
+(rule (slots 1 3) (count 1 2))
+(rule (slots 2 2) (count 0 1))
 ";

@@ -6,7 +6,9 @@ use std::process::{Command, Stdio};
 
 use model::cases::{self, Says};
 use model::house::House;
+use model::merging::{line_of, merge_into, Found};
 use model::questions::partner_refusal;
+use model::reading::read;
 use model::{enumerated, page, sheet};
 use tugrokt::{Answer, Decision, Refusal, Sheet};
 
@@ -79,6 +81,27 @@ fn texts() {
     let longest = sheet::Sheet::new(48, &[(10, 48); 300], &[(10, 48, 0, 300); 60]).numbered(&(9_700..=9_999).collect::<Vec<_>>());
     let text = Sheet::read(&longest.text()).unwrap().write_partner().unwrap();
     assert_eq!((text.len(), text), (tugrokt::MAX_TEXT, longest.text_for(House::Partner)));
+}
+
+/// Two sheets become one; a unit's line is a part of the text that holds it, with the lifetime of both.
+#[test]
+fn two_sheets() {
+    let (one, two) = cases::PAIR;
+    let (one, two) = (one.as_bytes().to_vec(), two.as_bytes().to_vec());
+    let merged = tugrokt::merge(&one, &two).unwrap();
+    assert_eq!(merged.write(), Ok(cases::MERGED.into()));
+    assert_eq!(Sheet::read(cases::MERGED.as_bytes()), Ok(merged.clone()));
+    assert!(matches!(merged.plan(), Ok(Answer::Plan(_))));
+    let lines: Vec<&[u8]> = merged.loader.iter().map(|&loader| tugrokt::line_of(&one, &two, loader).unwrap()).collect();
+    for (line, text) in lines.iter().zip([&one, &one, &two]) {
+        let (part, whole) = (line.as_ptr_range(), text.as_ptr_range());
+        assert!(whole.start <= part.start && part.end <= whole.end, "the line lies in its text");
+    }
+    assert_eq!(lines, [&b"(unit 4017 (window 1 4))"[..], b"(unit 12 (window 7 8))", b"(unit 40 (window 2 3))"]);
+    assert_eq!(tugrokt::line_of(&one, &two, 401), Err(Refusal { question: 27, line: 0 }));
+    assert_eq!(tugrokt::line_of(&one, b"(sheet 8)\n", 12), Err(Refusal { question: 19, line: 1 }));
+    assert_eq!(tugrokt::merge(&one, &one), Err(Refusal { question: 20, line: 2 }));
+    assert_eq!(tugrokt::merge(b"", &two), Err(Refusal { question: 5, line: 0 }));
 }
 
 #[test]
@@ -238,6 +261,26 @@ fn c_example(name: &str) -> PathBuf {
     c_program(&bindings().join(format!("examples/{name}.c")))
 }
 
+/// What C shows of merging a text with a sheet of its span and one unit, loader 9999, in rooms for so many units, and of three lines.
+fn merging_lines(text: &[u8], units: usize) -> Vec<String> {
+    let (span, loader) = read(House::Ours, text).map_or((0, 1), |sheet| (sheet.span, sheet.units.first().map_or(1, |unit| unit.loader)));
+    let other = format!("(sheet {span})\n(unit 9999 (window 1 1))\n");
+    let mut lines = Vec::new();
+    for (one, two) in [(text, other.as_bytes()), (other.as_bytes(), text)] {
+        lines.push(match merge_into(one, two, [units; 3], [tugrokt::MAX_RULES; 4]) {
+            Ok(sheet) => format!("merging 0 0 {span} {} {}", sheet.units.len(), sheet.rules.len()),
+            Err(refusal) => format!("merging {} {} 0 0 0 unchanged", refusal.number, refusal.line),
+        });
+        for loader in [loader, 9_999, 0] {
+            lines.push(match line_of(one, two, loader as usize) {
+                Ok(Found { text, spot }) => format!("line of {loader}: 0 0 {text} {} {} unchanged", spot.bytes.start, spot.bytes.len()),
+                Err(refusal) => format!("line of {loader}: {} {} 0 0 0 unchanged", refusal.number, refusal.line),
+            });
+        }
+    }
+    lines
+}
+
 /// Every field of every reply as C reads it, of plans, rings and refusals, and that a refused call leaves all that was lent.
 #[test]
 fn replies_from_c() {
@@ -245,7 +288,9 @@ fn replies_from_c() {
     let replies = |text: &[u8], [units, place, page]: [usize; 3]| {
         let (said, good) = run(Command::new(&program).args([units, place, page].map(|n| n.to_string())), text);
         assert!(good, "{said}");
-        said.lines().map(str::to_string).collect::<Vec<_>>()
+        let mut lines: Vec<String> = said.lines().map(str::to_string).collect();
+        assert_eq!(lines.split_off(9), merging_lines(text, units));
+        lines
     };
     for case in cases::all() {
         let text = case.sheet.text();
@@ -280,7 +325,9 @@ fn replies_from_c() {
         };
         let all = |lines: [String; 5], page: usize| lines.into_iter().chain(wrote(page)).collect::<Vec<_>>();
         let full = [read.clone(), planned.clone(), decided.clone(), seated.clone(), format!("printing 0 0 {ring} {end}")];
-        assert_eq!(replies(&text, [units, 7, end]), all(full, end), "{}", case.name);
+        assert_eq!(replies(&text, [units, 7, end]), all(full.clone(), end), "{}", case.name);
+        // One place more, for the unit that is merged in.
+        assert_eq!(replies(&text, [units + 1, 7, end]), all(full, end), "{}", case.name);
         let short = [read.clone(), planned, decided.clone(), seated, "printing 15 0 0 7 unchanged".to_string()];
         assert_eq!(replies(&text, [units, 7, end - 1]), all(short.clone(), end - 1), "{}", case.name);
         for house in House::BOTH {
@@ -370,6 +417,44 @@ fn converting_from_rust() {
     assert!(run(&mut examples, b"").1);
     let program = rust_folder().join("release/examples/convert");
     converts(|word, text| written(Command::new(&program).arg(word).stderr(Stdio::null()), text));
+}
+
+/// The examples that merge the sheets of two files, run with these names and, for a line, with a loader number.
+fn merges(name: &str, run: impl Fn(&[&str]) -> String) {
+    let folder = Path::new(env!("CARGO_TARGET_TMPDIR")).join(name);
+    std::fs::create_dir_all(&folder).unwrap();
+    let file = |name: &str, text: &str| {
+        std::fs::write(folder.join(name), text).unwrap();
+        folder.join(name).to_str().unwrap().to_string()
+    };
+    let (one, two, long) = (file("one", cases::PAIR.0), file("two", cases::PAIR.1), file("long", &"x".repeat(20_000)));
+    assert_eq!(run(&[&one, &two]), cases::MERGED);
+    for (loader, line) in [("4017", "(unit 4017 (window 1 4))\n"), ("40", "(unit 40 (window 2 3))\n"), ("4", "(refused 27 (line 0))\n")] {
+        assert_eq!(run(&[&one, &two, loader]), line);
+        assert_eq!(run(&[&two, &one, loader]), line);
+    }
+    assert_eq!(run(&[&one, &two, "69553"]), "(refused 27 (line 0))\n", "4017 in 16 bits");
+    for pair in [[&one, &long], [&long, &one]] {
+        assert_eq!(run(&pair.map(String::as_str)), "(refused 1 (line 0))\n");
+        assert_eq!(run(&[pair[0], pair[1], "12"]), "(refused 1 (line 0))\n");
+    }
+    assert_eq!(run(&[&one, &one]), "(refused 20 (line 2))\n");
+    assert_eq!(run(&[&one, "no such file"]), "");
+}
+
+#[test]
+fn merging_from_c() {
+    let program = c_example("merge");
+    merges("merging_from_c", |words| written(Command::new(&program).args(words).stderr(Stdio::null()), b""));
+}
+
+#[test]
+fn merging_from_rust() {
+    let mut examples = rust_examples();
+    examples.args(["build", "--offline", "--release", "--quiet", "--example", "merge"]);
+    assert!(run(&mut examples, b"").1);
+    let program = rust_folder().join("release/examples/merge");
+    merges("merging_from_rust", |words| written(Command::new(&program).args(words).stderr(Stdio::null()), b""));
 }
 
 #[test]

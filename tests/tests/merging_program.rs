@@ -14,7 +14,7 @@ use model::program::{answer, answered_fault, line_page, merged_page, path, run, 
 use model::random::Random;
 use model::sheet::Sheet;
 use model::tally::Tally;
-use model::{effort, seed};
+use model::{cases, effort, seed};
 
 /// What the program writes with these words, and what it says on standard error. It takes nothing from standard input.
 fn run_files<W: AsRef<OsStr>>(words: impl IntoIterator<Item = W>) -> (String, String) {
@@ -80,24 +80,9 @@ fn line_fault(name: &str, loader: usize, one: &[u8], two: &[u8]) -> Option<Strin
     (page != expected).then(|| format!("loader {loader}: got {page:?}, expected {expected:?}")).or_else(|| said_fault(one, &files, &page, &said))
 }
 
-const ONE: &str = "(sheet 7)
-(unit 4017 (window 1 4))
-(rule (slots 1 3) (count 0 5))
-(unit 12 (window 7 8))
-";
-const TWO: &str = "(note the other site)
-(sheet 7)
-(rule (slots 2 2) (count 0 1))
-(rule (slots 1 3) (count 1 2))
-(unit 40 (window 2 3))
-";
-const BOTH: &str = "(sheet 7)
-(unit 4017 (window 1 4))
-(unit 12 (window 7 8))
-(unit 40 (window 2 3))
-(rule (slots 1 3) (count 1 2))
-(rule (slots 2 2) (count 0 1))
-";
+const ONE: &str = cases::PAIR.0;
+const TWO: &str = cases::PAIR.1;
+const BOTH: &str = cases::MERGED;
 
 /// Two sheets and what they become; each unit's line; and the merged sheet goes on through a pipe to be planned.
 #[test]

@@ -1,12 +1,13 @@
 /*
- * Reads, plans, decides, seats, prints and writes, and shows each reply field by field, as C sees it.
+ * Reads, plans, decides, seats, prints, writes and merges, and shows each reply field by field, as C sees it.
  *
  *     replies UNITS PLACE PAGE <sheet
  *
  * The rooms for units have UNITS places, and the page has PAGE, printed on from PLACE. Then the lists are written in our form and in the
  * partner's, onto the page from PLACE on, and each text is read back into the same rooms; where it was refused, the whole input is read as
- * a partner's sheet. All that is lent lies in one block with a guard on either side, and a refused call must leave every byte of it, and
- * every call the lists that it only reads.
+ * a partner's sheet. Then the input is merged with a sheet of its span and one unit, loader 9999, as the first text and as the second, and
+ * the lines of its first unit, of 9999 and of 0 are asked for. All that is lent lies in one block with a guard on either side, and a
+ * refused call must leave every byte of it, and every call what it only reads.
  */
 #include <stdio.h>
 #include <stdlib.h>
@@ -16,7 +17,7 @@
 
 struct block {
     uint8_t guard_before[64];
-    uint8_t text[TUGROKT_MAX_BYTES + 1];
+    uint8_t text[TUGROKT_MAX_BYTES + 1], other[64];
     uint16_t loader[TUGROKT_MAX_UNITS], first[TUGROKT_MAX_UNITS], last[TUGROKT_MAX_UNITS];
     uint16_t from[TUGROKT_MAX_RULES], to[TUGROKT_MAX_RULES], low[TUGROKT_MAX_RULES], high[TUGROKT_MAX_RULES];
     int16_t table[TUGROKT_MAX_CELLS];
@@ -42,6 +43,7 @@ struct kept_planning { size_t before; struct tugrokt_planning reply; size_t afte
 struct kept_seating { size_t before; struct tugrokt_seating reply; size_t after; };
 struct kept_printing { size_t before; struct tugrokt_printing reply; size_t after; };
 struct kept_writing { size_t before; struct tugrokt_writing reply; size_t after; };
+struct kept_line { size_t before; struct tugrokt_line reply; size_t after; };
 
 #define MARK ((size_t)0xdeadbeef)
 
@@ -84,6 +86,35 @@ static int write_and_read(int partner, struct tugrokt_reading sheet, size_t text
     return written.before == MARK && written.after == MARK && again.before == MARK && again.after == MARK;
 }
 
+/* Asks where a loader's line stands in two texts. It writes nothing, so the block is as it was in any case. */
+static int show_line(const uint8_t *one, size_t one_length, const uint8_t *two, size_t two_length, uint16_t loader)
+{
+    struct kept_line found = { MARK, { MARK, MARK, MARK, MARK, MARK }, MARK };
+
+    before = lent;
+    found.reply = tugrokt_line_of(one, one_length, two, two_length, loader);
+    printf("line of %u: %zu %zu %zu %zu %zu%s\n", (unsigned)loader, found.reply.number, found.reply.line, found.reply.sheet,
+           found.reply.start, found.reply.length, left(1));
+    return found.before == MARK && found.after == MARK;
+}
+
+/* Merges two texts into the block's lists, and asks for three lines. */
+static int merge_and_find(const uint8_t *one, size_t one_length, const uint8_t *two, size_t two_length, size_t units, uint16_t loader)
+{
+    struct kept_reading merged = { MARK, { MARK, MARK, MARK, MARK, MARK }, MARK };
+    int kept;
+
+    before = lent;
+    merged.reply = tugrokt_merge(one, one_length, two, two_length, lent.loader, units, lent.first, units, lent.last, units, lent.from,
+                                 TUGROKT_MAX_RULES, lent.to, TUGROKT_MAX_RULES, lent.low, TUGROKT_MAX_RULES, lent.high,
+                                 TUGROKT_MAX_RULES);
+    show_reading("merging", merged.reply);
+    kept = show_line(one, one_length, two, two_length, loader);
+    kept = show_line(one, one_length, two, two_length, 9999) && kept;
+    kept = show_line(one, one_length, two, two_length, 0) && kept;
+    return kept && merged.before == MARK && merged.after == MARK;
+}
+
 int main(int argc, char **argv)
 {
     struct kept_reading read = { MARK, { MARK, MARK, MARK, MARK, MARK }, MARK };
@@ -91,7 +122,8 @@ int main(int argc, char **argv)
     struct kept_planning decided = { MARK, { MARK, MARK, MARK }, MARK };
     struct kept_seating seated = { MARK, { MARK, MARK, MARK, MARK }, MARK };
     struct kept_printing printed = { MARK, { MARK, MARK, MARK, MARK }, MARK };
-    size_t text_length, units, place, page, n, r;
+    size_t text_length, other_length, units, place, page, n, r;
+    uint16_t loader;
     int kept;
 
     if (argc != 4)
@@ -139,6 +171,11 @@ int main(int argc, char **argv)
 
     kept = write_and_read(0, read.reply, text_length, page, place);
     kept = write_and_read(1, read.reply, text_length, page, place) && kept;
+
+    loader = read.reply.units > 0 ? lent.loader[0] : 1;
+    other_length = (size_t)sprintf((char *)lent.other, "(sheet %zu)\n(unit 9999 (window 1 1))\n", read.reply.span);
+    kept = merge_and_find(lent.text, text_length, lent.other, other_length, units, loader) && kept;
+    kept = merge_and_find(lent.other, other_length, lent.text, text_length, units, loader) && kept;
 
     return kept && read.before == MARK && read.after == MARK && planned.before == MARK && planned.after == MARK &&
                    decided.before == MARK && decided.after == MARK && seated.before == MARK && seated.after == MARK &&
