@@ -2,9 +2,10 @@
 # Where the work goes: instructions a sheet by stage, counted by callgrind as `instructions.sh` counts them.
 #     bench/stages.sh [CASE..]          the largest sheets and the one that is hard to narrow, where none is named
 #
-# Reading, the pass and planning are jobs of their own (the planner's pass as the library for tests has it), printing is a page less planning, and
-# limits are what their function takes. The rest of planning is seating and narrowing, or the ring. Of it, `seats` and `cuts` (the search
-# for least cuts) are what their functions take; the compiler leaves no function for the planner's seats, nor for what else narrowing does.
+# Reading, the pass, planning, merging two halves and finding a line in them are jobs of their own (the planner's pass as the library for tests
+# has it), printing is a page less planning, and limits are what their function takes. The rest of planning is seating and narrowing, or the
+# ring. Of it, `seats` and `cuts` (the search for least cuts) are what their functions take; the compiler leaves no function for the planner's
+# seats, nor for what else narrowing does.
 set -euo pipefail
 cd "$(dirname "${BASH_SOURCE[0]}")"
 cargo build --offline --release --quiet
@@ -28,7 +29,7 @@ declare -A took
 printf '%-14s %-10s %10s %10s %7s\n' instructions stage planner plain ratio
 for name in ${@:-largest-tight largest-none narrowing}; do
     for side in planner plain; do
-        for job in read pass plan print whole; do
+        for job in read pass plan print whole merge line; do
             took[$side-$job]=$(a_sheet - "$name" $side $job)
         done
         for stage in limits seats cuts; do
@@ -38,7 +39,7 @@ for name in ${@:-largest-tight largest-none narrowing}; do
         took[$side-rest]=$((took[$side-plan] - took[$side-limits] - took[$side-pass]))
         took[$side-printing]=$((took[$side-print] - took[$side-plan]))
     done
-    for stage in read limits pass rest seats cuts printing whole; do
+    for stage in read limits pass rest seats cuts printing whole merge line; do
         awk -v name="$name" -v stage=$stage -v p="${took[planner-$stage]}" -v q="${took[plain-$stage]}" 'BEGIN {
             indent = stage == "seats" || stage == "cuts" ? "  " : ""
             printf "%-14s %-10s %10s %10s %7s\n", name, indent stage, p ? p : "-", q ? q : "-", p && q ? sprintf("%.2f", p / q) : "-" }'

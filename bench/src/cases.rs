@@ -12,14 +12,17 @@ pub struct Case {
     /// The sheets as a partner can have them, without carried units and lows, and their texts.
     pub partner_texts: Vec<Vec<u8>>,
     pub partner_sheets: Vec<plain::Sheet>,
+    /// Each sheet as two, with half of its units and half of its rules each, and the loader number whose line is asked for: the last unit's.
+    pub pairs: Vec<[Vec<u8>; 2]>,
+    pub wanted: Vec<u16>,
 }
 
 /// Sheets as in Chabert and Demassey, section 4, by their number of units, rules and slots; the largest sheets, loose, tight, and with no plan by
 /// one unit; the largest tight sheets again, with loader numbers that share few remainders, and such with windows past the wave; sheets whose
-/// narrowing has much to do; and the smallest.
-pub const NAMES: [&str; 15] = [
+/// narrowing has much to do; the largest tight sheets with notes to the longest texts; and the smallest.
+pub const NAMES: [&str; 16] = [
     "paper-10", "paper-16", "paper-24", "paper-32", "largest-loose", "largest-tight", "largest-none", "loaders", "carried", "narrowing", "distinct",
-    "chain-2", "chain-4", "staircase", "smallest",
+    "chain-2", "chain-4", "staircase", "longest", "smallest",
 ];
 
 /// The dearest sheet that a search for costly narrowing found.
@@ -35,7 +38,7 @@ pub fn make(name: &str) -> Case {
         "paper-24" => of_paper(24),
         "paper-32" => of_paper(32),
         "largest-loose" => largest(3),
-        "largest-tight" => largest(0),
+        "largest-tight" | "longest" => largest(0),
         "largest-none" => largest(0).into_iter().map(none_by_one).collect(),
         "loaders" => largest(0).into_iter().map(|sheet| sheet.numbered(&of_few_remainders())).collect(),
         "carried" => reaching(0, Reach::PastWave),
@@ -49,10 +52,34 @@ pub fn make(name: &str) -> Case {
     };
     let partner_texts: Vec<Vec<u8>> = sheets.iter().map(|sheet| sheet.kept_by(House::Partner).text_for(House::Partner)).collect();
     let partner_sheets: Vec<plain::Sheet> = partner_texts.iter().map(|text| plain::read_partner(text).expect("a partner's sheet")).collect();
-    let texts: Vec<Vec<u8>> = sheets.iter().map(Sheet::text).collect();
+    let text = |sheet: &Sheet| if name == "longest" { with_notes(sheet) } else { sheet.text() };
+    let texts: Vec<Vec<u8>> = sheets.iter().map(text).collect();
+    let pairs = sheets.iter().map(|sheet| halves(sheet).map(|half| text(&half))).collect();
+    let wanted = sheets.iter().map(|sheet| sheet.units.last().map_or(1, |unit| unit.loader)).collect();
     let sheets: Vec<plain::Sheet> = texts.iter().map(|text| plain::read(text).expect("a sheet")).collect();
     let limits = sheets.iter().map(|sheet| plain::limits(sheet, &plain::windows_inside(sheet))).collect();
-    Case { name: name.into(), texts, sheets, limits, partner_texts, partner_sheets }
+    Case { name: name.into(), texts, sheets, limits, partner_texts, partner_sheets, pairs, wanted }
+}
+
+/// The first half of a sheet's units and rules, and the rest.
+fn halves(sheet: &Sheet) -> [Sheet; 2] {
+    let (units, rules) = (sheet.units.split_at(sheet.units.len() / 2), sheet.rules.split_at(sheet.rules.len() / 2));
+    [(units.0, rules.0), (units.1, rules.1)].map(|(units, rules)| Sheet { span: sheet.span, units: units.to_vec(), rules: rules.to_vec() })
+}
+
+/// A sheet's text with notes of equal length between its lines, up to the longest text that is read.
+fn with_notes(sheet: &Sheet) -> Vec<u8> {
+    let text = sheet.text();
+    let lines: Vec<&[u8]> = text.split_inclusive(|&b| b == b'\n').collect();
+    let room = tugrokt::MAX_BYTES - text.len();
+    let length = room / lines.len();
+    let note = |length: usize| format!("(note {})\n", "x".repeat(length - "(note )\n".len())).into_bytes();
+    // What is left over goes to the last.
+    let longest = room - length * (lines.len() - 1);
+    let notes = (1..=lines.len()).map(|i| note(if i < lines.len() { length } else { longest }));
+    let text: Vec<u8> = lines.iter().zip(notes).flat_map(|(line, note)| [line.to_vec(), note].concat()).collect();
+    assert_eq!(text.len(), tugrokt::MAX_BYTES);
+    text
 }
 
 /// 300 loader numbers of four digits, in any order.

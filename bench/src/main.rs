@@ -21,7 +21,8 @@ use cases::Case;
 
 /// What is measured: from a text to lists, and from a partner's text to lists; from lists to a partner's text; the pass alone, over a copy of the sheet's
 /// limits; from lists to the rooms (table, seats, narrowed windows or ring); from lists to table or ring alone; from lists to table, seats and narrowed
-/// windows, and no ring; from lists to a page, so that `print` less `plan` is printing; from a text to a page.
+/// windows, and no ring; from lists to a page, so that `print` less `plan` is printing; from a text to a page; from the texts of two halves to the lists of
+/// the whole, and to the line of its last unit.
 #[derive(Clone, Copy, PartialEq)]
 enum Job {
     Read,
@@ -33,9 +34,11 @@ enum Job {
     Seat,
     Print,
     Whole,
+    Merge,
+    Line,
 }
 
-const JOBS: [(Job, &str); 9] = [
+const JOBS: [(Job, &str); 11] = [
     (Job::Read, "read"),
     (Job::Partner, "partner"),
     (Job::Write, "write"),
@@ -45,6 +48,8 @@ const JOBS: [(Job, &str); 9] = [
     (Job::Seat, "seat"),
     (Job::Print, "print"),
     (Job::Whole, "whole"),
+    (Job::Merge, "merge"),
+    (Job::Line, "line"),
 ];
 
 /// A side does a job on each sheet of a case.
@@ -57,6 +62,10 @@ trait Side {
     fn page(&mut self, text: &[u8]) -> Vec<u8>;
     /// A partner's text, read and written again.
     fn written_again(&mut self, text: &[u8]) -> Vec<u8>;
+    /// Two texts merged.
+    fn merged(&mut self, pair: &[Vec<u8>; 2]) -> plain::Sheet;
+    /// The line of a loader in two texts that can be merged, if it is in them.
+    fn line<'a>(&mut self, pair: &'a [Vec<u8>; 2], loader: u16) -> Option<&'a [u8]>;
 }
 
 struct Plain;
@@ -74,6 +83,8 @@ impl Side for Plain {
                 Job::Seat => drop(black_box(self.seats(black_box(sheet)))),
                 Job::Print => drop(black_box(plain::print(sheet, &self.answer(black_box(sheet))))),
                 Job::Whole => drop(black_box(self.page(black_box(text)))),
+                Job::Merge => drop(black_box(self.merged(black_box(&case.pairs[i])))),
+                Job::Line => drop(black_box(self.line(black_box(&case.pairs[i]), case.wanted[i]))),
             }
         }
     }
@@ -101,6 +112,14 @@ impl Side for Plain {
 
     fn written_again(&mut self, text: &[u8]) -> Vec<u8> {
         self.write(&plain::read_partner(text).expect("the cases are sheets"))
+    }
+
+    fn merged(&mut self, [one, two]: &[Vec<u8>; 2]) -> plain::Sheet {
+        plain::merge(one, two).expect("the halves can be merged")
+    }
+
+    fn line<'a>(&mut self, [one, two]: &'a [Vec<u8>; 2], loader: u16) -> Option<&'a [u8]> {
+        plain::line_of(one, two, loader).ok()
     }
 }
 
@@ -152,6 +171,13 @@ mod planner {
 
         fn read(&mut self, text: &[u8]) -> Reading {
             self.read_by(entry::read, text)
+        }
+
+        fn merge(&mut self, [one, two]: &[Vec<u8>; 2]) -> Reading {
+            let [loader, first, last, from, to, low, high] = &mut self.lists;
+            let reply = entry::merge(one, two, ListRooms { loader, first, last, from, to, low, high });
+            assert_eq!(reply.number, 0, "the halves can be merged");
+            reply
         }
 
         fn write(&mut self, lists: Lists) -> usize {
@@ -233,6 +259,8 @@ mod planner {
                     Job::Seat => drop(black_box(self.seat(black_box(sheet)))),
                     Job::Print => drop(black_box(self.print(black_box(sheet)))),
                     Job::Whole => drop(black_box(self.whole(black_box(text)))),
+                    Job::Merge => drop(black_box(self.merge(black_box(&case.pairs[i])))),
+                    Job::Line => drop(black_box(self.line(black_box(&case.pairs[i]), case.wanted[i]))),
                 }
             }
         }
@@ -271,6 +299,18 @@ mod planner {
             let place = self.write(Lists { span, loader, first, last, from, to, low, high });
             self.page[..place].to_vec()
         }
+
+        fn merged(&mut self, pair: &[Vec<u8>; 2]) -> plain::Sheet {
+            let Reading { span, units, rules, .. } = self.merge(pair);
+            let [loader, first, last, from, to, low, high] = self.lists.clone();
+            let [loader, first, last] = [&loader[..units], &first[..units], &last[..units]].map(<[u16]>::to_vec);
+            let [from, to, low, high] = [&from[..rules], &to[..rules], &low[..rules], &high[..rules]].map(<[u16]>::to_vec);
+            plain::Sheet { span, loader, first, last, from, to, low, high }
+        }
+
+        fn line<'a>(&mut self, [one, two]: &'a [Vec<u8>; 2], loader: u16) -> Option<&'a [u8]> {
+            tugrokt::line_of(one, two, loader).ok()
+        }
     }
 }
 
@@ -304,8 +344,8 @@ fn measure(case: &Case, sides: &mut [(&'static str, Box<dyn Side>)]) -> Vec<Vec<
     least
 }
 
-/// Both sides give the same answer and print the same page, or show different rings of one sheet; each decides and seats as it plans, and both
-/// look at as many units.
+/// Both sides give the same answer and print the same page, or show different rings of one sheet; each decides and seats as it plans, both
+/// look at as many units, and both merge its halves to the same lists and find the same line in them.
 fn compare(case: &Case, sides: &mut [(&'static str, Box<dyn Side>)]) {
     for (i, sheet) in case.sheets.iter().enumerate() {
         let answers: Vec<plain::Answer> = sides.iter_mut().map(|side| side.1.answer(sheet)).collect();
@@ -318,6 +358,10 @@ fn compare(case: &Case, sides: &mut [(&'static str, Box<dyn Side>)]) {
             let text = &case.partner_texts[i];
             assert!(side.written_again(text) == *text, "{}: the {name} writes another text of a partner's sheet {i}", case.name);
         }
+        let merged: Vec<plain::Sheet> = sides.iter_mut().map(|side| side.1.merged(&case.pairs[i])).collect();
+        assert_eq!(merged[0], merged[1], "{}: the two sides merge the halves of sheet {i} differently", case.name);
+        let lines: Vec<_> = sides.iter_mut().map(|side| side.1.line(&case.pairs[i], case.wanted[i]).map(<[u8]>::as_ptr_range)).collect();
+        assert_eq!(lines[0], lines[1], "{}: the two sides find another line of sheet {i}", case.name);
         let mut looked = Vec::new();
         for (answer, (name, side)) in answers.into_iter().zip(sides.iter_mut()) {
             let decision = match &answer {
