@@ -1,11 +1,12 @@
-//! Every example of docs/FORMAT.md: the sheet goes in, exactly the answer comes out, or the sheet in the other house's form.
+//! Every example of docs/FORMAT.md: the sheet goes in, exactly the answer comes out, or the sheet in the other house's form; or two sheets go in,
+//! and one comes out, or the line of a unit.
 
 use std::fs;
 use std::path::Path;
 
 use model::house::House;
 use model::page;
-use model::program::{run, run_with, Asked};
+use model::program::{line_page, merged_page, run, run_with, Asked};
 use model::reading::{refusal_page, Refusal};
 use model::sheet::{Sheet, Solved};
 use tugrokt::{Answer, Decision};
@@ -16,6 +17,8 @@ struct Example {
     /// A sheet of ours, or a partner's.
     house: House,
     text: Vec<u8>,
+    /// The second sheet, for an example of two.
+    second: Option<Vec<u8>>,
     /// What follows it: the name of each block, and its text.
     results: Vec<(String, String)>,
 }
@@ -24,8 +27,24 @@ struct Example {
 const OF_OURS: [&str; 4] = ["answer", "fits", "to-partner", "standard-error"];
 /// The same of a partner's.
 const OF_PARTNER: [&str; 2] = ["answer", "from-partner"];
+/// And of two sheets of ours; a block `line 40` has the line of loader 40.
+const OF_TWO: [&str; 1] = ["merge"];
+
+/// The loader number of a block's name.
+fn loader_of(kind: &str) -> Option<usize> {
+    kind.strip_prefix("line ").map(|loader| loader.parse().expect("a loader number"))
+}
 
 impl Example {
+    /// May this block follow?
+    fn knows(&self, kind: &str) -> bool {
+        match (self.house, &self.second) {
+            (House::Ours, Some(_)) => OF_TWO.contains(&kind) || loader_of(kind).is_some(),
+            (House::Ours, None) => OF_OURS.contains(&kind),
+            (House::Partner, _) => OF_PARTNER.contains(&kind),
+        }
+    }
+
     fn result(&self, name: &str) -> Option<&str> {
         self.results.iter().find(|(kind, _)| kind == name).map(|(_, block)| block.as_str())
     }
@@ -59,13 +78,17 @@ fn examples() -> Vec<Example> {
             (None, Some(kind @ ("sheet" | "partner"))) => {
                 assert!(all.iter().all(|e| !e.results.is_empty()), "line {i}: nothing follows the sheet before");
                 let house = if kind == "sheet" { House::Ours } else { House::Partner };
-                all.push(Example { line: i + 1, house, text: vec![], results: vec![] });
+                all.push(Example { line: i + 1, house, text: vec![], second: None, results: vec![] });
                 open = Some((kind, String::new()));
+            }
+            (None, Some("second")) => {
+                let example = all.last().unwrap_or_else(|| panic!("line {}: no first sheet", i + 1));
+                assert!(example.house == House::Ours && example.second.is_none() && example.results.is_empty(), "line {}: a second sheet", i + 1);
+                open = Some(("second", String::new()));
             }
             (None, Some(kind)) => {
                 let example = all.last().unwrap_or_else(|| panic!("line {}: no sheet before {kind}", i + 1));
-                let known: &[&str] = if example.house == House::Ours { &OF_OURS } else { &OF_PARTNER };
-                assert!(known.contains(&kind) && example.result(kind).is_none(), "line {}: a block {kind}", i + 1);
+                assert!(example.knows(kind) && example.result(kind).is_none(), "line {}: a block {kind}", i + 1);
                 open = Some((kind, String::new()));
             }
             (Some((kind, block)), Some("")) => {
@@ -73,11 +96,12 @@ fn examples() -> Vec<Example> {
                 assert!(!block.is_empty(), "line {}: an empty block", i + 1);
                 match *kind {
                     "sheet" | "partner" => example.text = std::mem::take(block).into_bytes(),
+                    "second" => example.second = Some(std::mem::take(block).into_bytes()),
                     _ => example.results.push((kind.to_string(), std::mem::take(block))),
                 }
                 open = None;
             }
-            (Some(("sheet" | "partner", block)), None) => block.push_str(&line_of_sheet(line)),
+            (Some(("sheet" | "partner" | "second", block)), None) => block.push_str(&line_of_sheet(line)),
             (Some((_, block)), None) => *block += &format!("{line}\n"),
             (Some(_), Some(_)) => panic!("line {}: a block in a block", i + 1),
             (None, None) => (),
@@ -166,6 +190,19 @@ fn check_conversions(convert: fn(House, &[u8]) -> (Vec<u8>, String)) {
     }
 }
 
+/// What two sheets become, and the lines of their units.
+fn check_merging(merge: fn(&[u8], &[u8]) -> Vec<u8>, line: fn(usize, &[u8], &[u8]) -> Vec<u8>) {
+    for example in examples() {
+        let (one, Some(two)) = (&example.text, &example.second) else { continue };
+        example.check("merge", &merge(one, two));
+        for (kind, _) in &example.results {
+            if let Some(loader) = loader_of(kind) {
+                example.check(kind, &line(loader, one, two));
+            }
+        }
+    }
+}
+
 /// There is an example of each kind of answer, of each question that a sheet of ours can fail, and of what a partner's sheet can be.
 #[test]
 fn the_examples_cover_every_answer() {
@@ -186,6 +223,13 @@ fn the_examples_cover_every_answer() {
     assert!(has(&shown(House::Partner, "from-partner"), "(sheet "));
     for start in ["(day ", "(refused 17 ", "(refused 18 "] {
         assert!(has(&shown(House::Ours, "to-partner"), start), "no example of a sheet to the partner with {start}");
+    }
+    for start in ["(sheet ", "(refused 19 ", "(refused 20 ", "(refused 21 "] {
+        assert!(has(&shown(House::Ours, "merge"), start), "no example of two sheets with {start}");
+    }
+    let lines: Vec<String> = all.iter().flat_map(|e| &e.results).filter(|(kind, _)| loader_of(kind).is_some()).map(|(_, block)| block.clone()).collect();
+    for start in ["(unit ", "(refused 27 "] {
+        assert!(has(&lines, start), "no example of a unit's line with {start}");
     }
     assert!(has(&shown(House::Ours, "standard-error"), "unit ") && has(&shown(House::Ours, "standard-error"), "rule "));
 }
@@ -225,4 +269,31 @@ fn by_the_program() {
         let asked = if house == House::Ours { Asked::ToPartner } else { Asked::FromPartner };
         run_with(asked.words(), text, &[], None)
     });
+}
+
+#[test]
+fn by_merging() {
+    check_merging(
+        |one, two| tugrokt::merge(one, two).and_then(|sheet| sheet.write()).unwrap_or_else(page_of_refusal),
+        |loader, one, two| match tugrokt::line_of(one, two, loader as u16) {
+            Ok(line) => [line, b"\n"].concat(),
+            Err(refusal) => page_of_refusal(refusal),
+        },
+    );
+    check_merging(merged_page, line_page);
+}
+
+/// What the program writes with these words for two files.
+fn by_files(words: &[&str], one: &[u8], two: &[u8]) -> Vec<u8> {
+    let files = [("first.sheet", one), ("second.sheet", two)].map(|(name, text)| {
+        let path = Path::new(env!("CARGO_TARGET_TMPDIR")).join(format!("format-{name}"));
+        fs::write(&path, text).unwrap();
+        path.to_str().unwrap().to_string()
+    });
+    run_with(&[words, &[&files[0], &files[1]]].concat(), b"", &[], None).0
+}
+
+#[test]
+fn by_merging_files() {
+    check_merging(|one, two| by_files(&["merge"], one, two), |loader, one, two| by_files(&["line", &loader.to_string()], one, two));
 }
