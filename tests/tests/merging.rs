@@ -483,6 +483,47 @@ fn a_text_with_itself() {
     }
 }
 
+/// All pairs of texts with at most two lines beside the span's, which may stand behind a note or be another: every reply, every place, and the
+/// lines of three loaders.
+#[test]
+fn all_small_pairs() {
+    const FORMS: [&str; 10] = [
+        "(note)\n",
+        "(unit 1 (window 1 2))\n",
+        "(unit 2 (window 2 3))\n",
+        "(unit 12 (window 1 1))\n",
+        "(unit 1 (window 2 1))\n",
+        "(rule (slots 1 1) (count 0 1))\n",
+        "(rule (slots 1 1) (count 1 2))\n",
+        "(rule (slots 1 1) (count 2 2))\n",
+        "(rule (slots 1 2) (count 0 0))\n",
+        "(rule (slots 1 2) (count 1 1))\n",
+    ];
+    let mut all = Vec::new();
+    for head in ["(sheet 2)\n", "(note)\n(sheet 2)\n", "(sheet 3)\n"] {
+        let one = FORMS.map(|line| format!("{head}{line}"));
+        all.extend(one.iter().flat_map(|text| FORMS.map(|line| format!("{text}{line}"))));
+        all.extend(one);
+        all.push(head.to_string());
+    }
+    let names = ["merging all small pairs, the first refused", "merging all small pairs, the second refused", "merging all small pairs"];
+    let mut tallies = Tallies::new(names, 0);
+    for (one, two) in all.iter().flat_map(|one| all.iter().map(move |two| (one.as_bytes(), two.as_bytes()))) {
+        let answer = pair(one, two);
+        tallies.add(one, two, &answer);
+        let fault = merging_fault(one, two, &answer, [4; 3], [4; 4]);
+        let fault = [1, 2, 12].into_iter().fold(fault, |fault, loader| fault.or_else(|| line_fault(one, two, &answer, loader)));
+        assert_eq!(fault, None, "{:?} and {:?}", String::from_utf8_lossy(one), String::from_utf8_lossy(two));
+    }
+    tallies.report();
+    for number in [19, 20] {
+        assert!(tallies.both.refused_by(number) > 0, "{number} refuses nothing");
+    }
+    for answer in [CROSSED, CROSSED_BEFORE, MERGED] {
+        assert!(tallies.both.count(answer) > 0, "none {answer}");
+    }
+}
+
 /// Loaders to ask for: all that there are, their neighbours, numbers that begin alike, and such as no sheet has. Of many units only some.
 fn asked_loaders(r: &mut Random, answer: &Result<Pair, Refusal>) -> Vec<u16> {
     let Ok(pair) = answer else { return vec![0, r.between(1, 9_999) as u16, u16::MAX] };
