@@ -98,7 +98,13 @@ pub fn line_of(one: &[u8], two: &[u8], loader: usize) -> Result<Found, Refusal> 
     pair(one, two)?.line_of(loader)
 }
 
-/// The text that a refusal of merging is of: the first where the first is no sheet, else the second.
-pub fn text_at_fault(one: &[u8]) -> usize {
-    if locate(House::Ours, one).is_err() { 1 } else { 2 }
+/// The text that a refusal of merging is of, 1 or 2: the first where the first is no sheet, and by 21 where all rules on the stretch are the
+/// first's, so that there is no line to name; else the second. Of 27 it is neither, 0.
+pub fn text_at_fault(one: &[u8], refusal: Refusal) -> usize {
+    match refusal {
+        Refusal { number: 27, .. } => 0,
+        _ if locate(House::Ours, one).is_err() => 1,
+        Refusal { number: 21, line: 0 } => 1,
+        _ => 2,
+    }
 }

@@ -4,7 +4,7 @@
 use model::calls::{line_fault, merging_fault, planning_fault};
 use model::enumerated::{self, count, is_lawful};
 use model::house::House;
-use model::merging::{line_of, merge, merge_into, pair, text_at_fault, Found, Pair};
+use model::merging::{line_of, merge, merge_into, pair, Found, Pair};
 use model::pairs::{sheets, texts};
 use model::questions::{lists_refusal, Lengths, Lists};
 use model::random::{loaders, sheet_up_to, Random};
@@ -39,7 +39,7 @@ impl Tallies {
 
     fn add(&mut self, one: &[u8], two: &[u8], answer: &Result<Pair, Refusal>) {
         let number = answer.as_ref().map_or_else(|refusal| refusal.number, |_| 0);
-        if text_at_fault(one) == 1 {
+        if read(House::Ours, one).is_err() {
             self.first.add(number, MERGED);
         } else if read(House::Ours, two).is_err() {
             self.second.add(number, MERGED);

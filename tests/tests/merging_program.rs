@@ -9,9 +9,11 @@ use std::process::{Command, Stdio};
 
 use model::house::House;
 use model::merging::{merge, pair, text_at_fault};
+use model::page::{self, Page};
 use model::pairs::texts;
 use model::program::{answer, answered_fault, line_page, merged_page, path, run, Asked};
 use model::random::Random;
+use model::reading::Refusal;
 use model::sheet::Sheet;
 use model::tally::Tally;
 use model::{cases, effort, seed};
@@ -48,18 +50,14 @@ fn turned_down<W: AsRef<OsStr> + std::fmt::Debug>(words: &[W]) -> String {
 }
 
 /// What is said of a page: nothing beside a sheet or a line, and beside a refusal the file that it is of and not the other.
-fn said_fault(one: &[u8], [first, second]: &[String; 2], page: &str, said: &str) -> Option<String> {
-    let fine = if !page.starts_with("(refused ") {
-        said.is_empty()
-    } else if page.starts_with("(refused 27 ") {
-        // The loader is in neither.
-        said.is_empty() || said.ends_with('\n')
-    } else if page == "(refused 21 (line 0))\n" {
-        // The rules are all of the first, and the line is none of the second.
-        (said.contains(first) || said.contains(second)) && said.ends_with('\n')
-    } else {
-        let (of, other) = if text_at_fault(one) == 1 { (first, second) } else { (second, first) };
-        said.contains(of.as_str()) && !said.contains(other.as_str()) && said.ends_with('\n')
+fn said_fault(one: &[u8], files: &[String; 2], page: &str, said: &str) -> Option<String> {
+    let fine = match page::parse(page.as_bytes()) {
+        Some(Page::Refused { number, line }) => match text_at_fault(one, Refusal { number, line }) {
+            // The loader is in neither.
+            0 => said.is_empty() || said.ends_with('\n'),
+            of => said.contains(&files[of - 1]) && !said.contains(&files[2 - of]) && said.ends_with('\n'),
+        },
+        _ => said.is_empty(),
     };
     (!fine).then(|| format!("it said {said:?} beside {page:?}"))
 }
@@ -119,20 +117,20 @@ fn refusals() {
         (ONE.into(), TWO.replace("unit 40 ", "unit 12 ").into(), "(refused 20 (line 5))\n", 2),
         (units(1, 200), units(501, 101), "(refused 9 (line 102))\n", 2),
         (ONE.into(), TWO.replace("count 1 2", "count 6 9").into(), "(refused 21 (line 4))\n", 2),
-        (TWO.replace("slots 2 2) (count 0 1", "slots 1 3) (count 3 4").into(), ONE.replace("slots 1 3", "slots 1 1").into(), "(refused 21 (line 0))\n", 2),
+        (TWO.replace("slots 2 2) (count 0 1", "slots 1 3) (count 3 4").into(), ONE.replace("slots 1 3", "slots 1 1").into(), "(refused 21 (line 0))\n", 1),
         (rules(0, 60), rules(59, 2), "(refused 10 (line 3))\n", 2),
         (ONE.into(), ONE.into(), "(refused 20 (line 2))\n", 2),
         (ONE.into(), b"(day 7)\n".to_vec(), "(refused 3 (line 1))\n", 2),
     ];
     for (i, (one, two, page, of)) in pairs.iter().enumerate() {
         let files = files(&format!("refused{i}"), one, two);
+        assert_eq!(text_at_fault(one, merge(one, two).unwrap_err()), *of);
         assert_eq!(merged_page(one, two), page.as_bytes());
         // A line asks the same, whether the loader is there or not, and whatever number it is.
         for words in [vec!["merge"], vec!["line", "12"], vec!["line", "4"], vec!["line", "99999999999999999999"]] {
             let (got, said) = run_files(words.iter().copied().chain(files.iter().map(String::as_str)));
             assert_eq!(&got, page, "{words:?}");
             assert_eq!(said_fault(one, &files, page, &said), None, "{words:?}");
-            assert_eq!(text_at_fault(one), *of);
         }
     }
 }
