@@ -1,0 +1,2 @@
+pub mod MergeText
+pub mod MergedText
