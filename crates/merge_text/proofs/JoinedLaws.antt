@@ -74,5 +74,6 @@ module _ (one two : List ℕ) where
     pub sheet-told : let bytes = sheetText Ours (writtenBy (fronts s m)) in
         (replyBy allYes bytes ≡ mergingText one two) × (bytes ≡ mergedText one two)
     sheet-told =
-        let is : sheetText Ours (writtenBy (fronts s m)) ≡ text = ap (λ l. sheetText Ours (writtenBy l)) lists ∙ ap (sheetText Ours) (written-back (mergedIn one two)) in
+        let is : sheetText Ours (writtenBy (fronts s m)) ≡ text =
+        ap (λ l. sheetText Ours (writtenBy l)) lists ∙ ap (sheetText Ours) (written-back (mergedIn one two)) in
         (ap₂ replyBy (sym (accepts .verdict)) is, ap₂ bytesBy (sym (accepts .verdict)) is)

@@ -2,7 +2,7 @@
 -- made one"). Definitions only.
 use mathlib.Core.List.{List}
 use Prim.Native.Nat.{ℕ}
-use Rattle.questions.specs.Questions.{Verdict, firstNo}
+use Rattle.questions.specs.Questions.{firstNo}
 use Rattle.forms.specs.declared.House.the-variants.{Ours}
 use Rattle.sheet_texts.specs.SheetText.{sheetText}
 use Rattle.merge_questions.specs.Merging.{mergeQuestions, mergedIn}

@@ -58,7 +58,8 @@ put-refused-requires : tie.Need-put-refused-requires
 put-refused-requires c κs =
     let d = c .before .before in
     let p = refused-call d in
-    refusal-small (one p) (two p) _ _ (refused-told d)
+    let r = refusal-small (one p) (two p) _ _ (refused-told d) in
+    (omega (arith, r .0), omega (arith, r .1))
 
 put-fronts-requires : tie.Need-put-fronts-requires
 put-fronts-requires c κs =
