@@ -20,7 +20,7 @@ use Rattle.sheet.specs.declared.Sheet.{Sheet}
 use Rattle.read_questions.specs.Reading.{concluded}
 use Rattle.merge_sheets.specs.Merge.{mergedRules, merged}
 use Rattle.merge_rules.specs.Columns.{Columns, AtFront}
-use Rattle.merge_rules.specs.ColumnsLaws.{rules-back}
+use Rattle.sheet.specs.WrittenLaws.{rules-back}
 use Rattle.merge_rules.specs.CountLaws.{stretch-count}
 use Rattle.merge_questions.specs.Merging.{unitQuestions, ruleQuestions, joinQuestions, blamed}
 use Rattle.merge_questions.specs.declared.Joined.the-variants as Joined

@@ -1,18 +1,13 @@
--- Rules in columns are the rules again, and what stands at the front of an array is as long as what was put there.
+-- What stands at the front of an array is the column that was put there.
 -- Key idea: an array with a column at its front is that column and then the rest of what it was.
-use mathlib.Core.Path.{_≡_, refl, sym, ap, _∙_}
-use mathlib.Core.List.{List, [], _∷_, map}
+use mathlib.Core.Path.{_≡_, sym, ap, _∙_}
+use mathlib.Core.List.{List, map}
 use Prim.Native.Nat.{ℕ, _≤_}
 use native.Mathlib.Omega.{arith}
 use lib.ListN.{length, take, drop, length-append, length-map}
 use lib.Seq.{take-at}
 use Rattle.lists.specs.Lists.{onFront}
 use Rattle.sheet.specs.Sheet.{Rule}
-use Rattle.sheet.specs.Questions.{rulesOf}
-
-pub rules-back : (rs : List Rule) → rulesOf (map (λ r. r .from) rs) (map (λ r. r .to) rs) (map (λ r. r .low) rs) (map (λ r. r .high) rs) ≡ rs
-rules-back [] = refl
-rules-back (x ∷ xs) = ap (λ r. x ∷ r) (rules-back xs)
 
 module _ (f : Rule → ℕ) (rs : List Rule) (k : ℕ) (room array : List ℕ) (e : k ≡ length rs) (a : array ≡ onFront (map f rs) room) where
   -- as many places as there are rules are their column

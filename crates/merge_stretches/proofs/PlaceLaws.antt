@@ -15,7 +15,8 @@ use Rattle.sheet.specs.Sheet.{Rule}
 use Rattle.sheet.specs.Questions.{rulesOf}
 use Rattle.merge_sheets.specs.Merge.{mergedRules}
 use Rattle.merge_sheets.specs.CombineLaws.{mergedRules-few}
-use Rattle.merge_rules.specs.ColumnsLaws.{rules-back, front-is}
+use Rattle.sheet.specs.WrittenLaws.{rules-back}
+use Rattle.merge_rules.specs.ColumnsLaws.{front-is}
 use Rattle.questions.specs.Questions.{firstNo}
 use Rattle.merge_questions.specs.Merging.{tooManyAt, stretchQuestions, ruleQuestions}
 use Rattle.merge_stretches.specs.Stretches.{LinesAs}

@@ -1,7 +1,7 @@
 -- From the answer of the pass to that of the call: questions 1 and 12 stand at the two ends, and what is left in the rooms.
 -- Key idea: the first no of two lists of questions is that of the first, or else that of the second.
 use Prim.Native.Nat.{ℕ, _≤_, _<_}
-use mathlib.Core.Path.{_≡_, refl, sym, ap, ap₂, subst, _∙_}
+use mathlib.Core.Path.{_≡_, sym, ap, ap₂, subst, _∙_}
 use mathlib.Core.Bool.{Bool, true, false, _&&_, cond}
 use mathlib.Core.List.{List, [], _∷_, map, map-map}
 use native.Mathlib.Omega.{arith}
@@ -19,6 +19,7 @@ use Rattle.sheet.specs.declared.Sheet.{Sheet}
 use Rattle.lists.specs.Members.{and-left, and-right}
 use Rattle.read_questions.specs.Reading.{sheetIn, ListRooms, listsFit, passQuestions, questions, Reply, refused, read, concluded, reading}
 use Rattle.read_questions.specs.Steps.{Holds, columns, passReply, KeptNumbers}
+use Rattle.read_questions.specs.ConcludedLaws.{Accepted, concluded-read, concluded-no}
 use Rattle.read_questions.specs.ArrayLaws.{rooms-same, column-front, SameSizes, set-sizes, still-holds}
 use Rattle.read_rooms.specs.Rooms.{sizesOf, leaves, roomsAfter, filled}
 
@@ -44,26 +45,12 @@ module _ (h : House) (t : List ℕ) (sizes : ListRooms ℕ) where
 
     pub answer-no : (q n : ℕ) → refused q n ≡ passReply h t → refused q n ≡ reading h t sizes
     unfolding passReply call-answer
-    answer-no q n e = go (firstNo (passQuestions h t)) e ∙ sym is-answer
-      where
-        go : (v : Verdict) → refused q n ≡ concluded v (sheetIn h t) → refused q n ≡ call-answer v
-        go (no q′ n′) e = e
-        go allYes e = let z : _≡_ {A = ℕ} 0 1 = cc in absurd (omega arith)
+    answer-no q n e = sym (is-answer ∙ ap call-answer (concluded-no (firstNo (passQuestions h t)) (sheetIn h t) q n e))
 
     module _ (p u r : ℕ) (e : read p u r ≡ passReply h t) where
-      record PassYes : Type 0 where
-        verdict : firstNo (passQuestions h t) ≡ allYes
-        span : p ≡ sheetIn h t .span
-        units : u ≡ length (sheetIn h t .units)
-        rules : r ≡ length (sheetIn h t .rules)
-
-      passed : PassYes
+      passed : Accepted (firstNo (passQuestions h t)) (sheetIn h t) p u r
       unfolding passReply
-      passed = go (firstNo (passQuestions h t)) refl e
-        where
-          go : (v : Verdict) → firstNo (passQuestions h t) ≡ v → read p u r ≡ concluded v (sheetIn h t) → PassYes
-          go (no q′ n′) k e = let z : _≡_ {A = ℕ} 0 1 = cc in absurd (omega arith)
-          go allYes k e = record { verdict = k; span = cc; units = cc; rules = cc }
+      passed = concluded-read (firstNo (passQuestions h t)) (sheetIn h t) p u r e
 
       fit-is : fit ≡ listsFit u r sizes
       fit-is = let g = passed in ap₂ (λ (a b : ℕ). listsFit a b sizes) (sym (g .units)) (sym (g .rules))
@@ -132,7 +119,7 @@ module _ (h : House) (s : Sheet) (t : List ℕ) (arrays arrays′ : ListRooms (L
       (rule-room (λ r. r .low) (arrays .low) (m .low) (all .in-low)) (rule-room (λ r. r .high) (arrays .high) (m .high) (all .in-high))
       ∙ ap (λ (a : Reply). leaves a (sheetIn h t) m) (answer-read h t (sizesOf m) short (s .span) (s .units) (s .rules) e f)
     where
-      g : PassYes h t (sizesOf m) short (s .span) (s .units) (s .rules) e
+      g : Accepted (firstNo (passQuestions h t)) (sheetIn h t) (s .span) (s .units) (s .rules)
       g = passed h t (sizesOf m) short (s .span) (s .units) (s .rules) e
 
       unit-room : (f : SheetUnit → ℕ) (array room : List ℕ) → maxUnits ≤ length array

@@ -2,32 +2,25 @@
 -- Key idea: a sheet in parallel lists is the sheet again, and the front of a room is what was put onto it.
 use mathlib.Core.Path.{_≡_, refl, sym, ap, _∙_, subst}
 use mathlib.Core.Bool.{_&&_}
-use mathlib.Core.List.{List, [], _∷_, map}
+use mathlib.Core.List.{List, map}
 use Prim.Native.Nat.{ℕ, _≤_}
 use native.Mathlib.Omega.{arith}
 use lib.Dec.{T, eqb, eqb-refl}
 use lib.ListN.{length, take, drop, length-append, length-map}
 use lib.Seq.{take-at}
 use Rattle.lists.specs.Members.{both}
-use Rattle.sheet.specs.Sheet.{Window, Rule, Sheet, SheetUnit, WrittenSheet, constraints, loaders}
-use Rattle.sheet.specs.Questions.{windowsOf, rulesOf, sheetOf, listsAgree, accepted, loadersFit}
+use Rattle.sheet.specs.Sheet.{Sheet, SheetUnit, WrittenSheet, constraints, loaders}
+use Rattle.sheet.specs.Questions.{sheetOf, listsAgree, accepted, loadersFit}
 use Rattle.sheet.specs.declared.Sheet.{Sheet as Read}
 use Rattle.read_questions.specs.Reading.{ListRooms, read}
 use Rattle.lists.specs.Lists.{onFront}
 use Rattle.read_rooms.specs.Rooms.{leaves}
 use Rattle.sheet.specs.Lists.{WrittenLists, writtenLists, givenBy, unitsOf, writtenBy, agree}
+use Rattle.sheet.specs.WrittenLaws.{windows-back, units-back, rules-back}
 use Rattle.plan_ask.specs.Asking.{Listed}
 use Rattle.read_whole.specs.Fronts.{fronts, Held}
 
 -- ---- a sheet in parallel lists is the sheet again
-
-windows-back : (ws : List Window) → windowsOf (map (λ w. w .first) ws) (map (λ w. w .last) ws) ≡ ws
-windows-back [] = refl
-windows-back (w ∷ ws) = ap (λ r. w ∷ r) (windows-back ws)
-
-rules-back : (rs : List Rule) → rulesOf (map (λ r. r .from) rs) (map (λ r. r .to) rs) (map (λ r. r .low) rs) (map (λ r. r .high) rs) ≡ rs
-rules-back [] = refl
-rules-back (x ∷ xs) = ap (λ r. x ∷ r) (rules-back xs)
 
 -- the lists of a sheet
 abbrev pub listsOf : WrittenSheet → WrittenLists
@@ -41,10 +34,6 @@ unfolding sheetOf
 given-back w = rw (windows-back (constraints w .units), rules-back (w .rules)) refl
 
 -- as it is written, too
-units-back : (us : List SheetUnit) → unitsOf (map (λ u. u .loader) us) (map (λ u. u .window) us) ≡ us
-units-back [] = refl
-units-back (u ∷ us) = ap (λ r. u ∷ r) (units-back us)
-
 pub written-back : (w : WrittenSheet) → writtenBy (listsOf w) ≡ w
 written-back w =
     ap (λ (s : Sheet). record { span = s .span; units = unitsOf (loaders w) (s .units); rules = s .rules }) (given-back w)

@@ -1,6 +1,6 @@
 -- Reading with rooms for every sheet: the first no decides, or the lists hold the text's sheet at their fronts.
 -- Key idea: every list is long enough for a sheet that reading accepts, so that 12 is never a no.
-use mathlib.Core.Path.{_≡_, refl, sym, ap, ap₂, _∙_, subst}
+use mathlib.Core.Path.{_≡_, sym, ap, _∙_, subst}
 use mathlib.Core.Logic.{_⊎_, inl, inr, ⊎-elim}
 use mathlib.Core.Bool.{Bool, true, false, _||_}
 use mathlib.Core.List.{List}
@@ -17,6 +17,7 @@ use Rattle.questions.specs.FirstNoLaws.{no-here}
 use Rattle.sheet.specs.Sizes.{maxBytes}
 use Rattle.forms.specs.declared.House.{House}
 use Rattle.read_questions.specs.Reading.{ListRooms, roomsForAll, refused, read, reading, questions, concluded, sheetIn}
+use Rattle.read_questions.specs.ConcludedLaws.{Accepted, concluded-read, concluded-no}
 use Rattle.read_questions.specs.AcceptedLaws.{reading-accepts, reading-loaders}
 use Rattle.read_questions.specs.RefusalLaws.{asksText, reading-refusals}
 use Rattle.read_rooms.specs.Rooms.{sizesOf, leaves, roomsAfter}
@@ -49,11 +50,7 @@ module _ (h : House) (input : List ℕ) (m : ListRooms (List ℕ)) (sizes : size
 
   module _ (number line : ℕ) (e : refused number line ≡ reading h input (sizesOf m)) where
     pub first-no : verdict ≡ no number line
-    first-no = go verdict (e ∙ decided)
-      where
-        go : (v : Verdict) → refused number line ≡ concluded v (sheetIn h input) → v ≡ no number line
-        go (no q n) f = let a : q ≡ number = cc in let b : n ≡ line = cc in ap₂ no a b
-        go allYes f = let z : _≡_ {A = ℕ} 0 1 = cc in absurd (omega arith)
+    first-no = concluded-no verdict (sheetIn h input) number line (e ∙ decided)
 
     pub refused-small : (number < 100) × (line ≤ maxBytes)
     refused-small =
@@ -62,24 +59,11 @@ module _ (h : House) (input : List ℕ) (m : ListRooms (List ℕ)) (sizes : size
 
   module _ (t : Read) (e : read (t .span) (t .units) (t .rules) ≡ reading h input (sizesOf m))
       (after : ListRooms (List ℕ)) (lists : after ≡ roomsAfter h input m) where
+    accepts : Accepted verdict (sheetIn h input) (t .span) (t .units) (t .rules)
+    accepts = concluded-read verdict (sheetIn h input) (t .span) (t .units) (t .rules) (e ∙ decided)
+
     pub all-yes : verdict ≡ allYes
-    all-yes = go verdict (e ∙ decided)
-      where
-        go : (v : Verdict) → read (t .span) (t .units) (t .rules) ≡ concluded v (sheetIn h input) → v ≡ allYes
-        go (no q n) f = let z : _≡_ {A = ℕ} 0 1 = cc in absurd (omega arith)
-        go allYes f = refl
-
-    same : read (t .span) (t .units) (t .rules) ≡ read (sheetIn h input .span) (length (sheetIn h input .units)) (length (sheetIn h input .rules))
-    same = e ∙ decided ∙ ap (λ v. concluded v (sheetIn h input)) all-yes
-
-    span-same : t .span ≡ sheetIn h input .span
-    span-same = let q = same in cc
-
-    units-same : t .units ≡ length (sheetIn h input .units)
-    units-same = let q = same in cc
-
-    rules-same : t .rules ≡ length (sheetIn h input .rules)
-    rules-same = let q = same in cc
+    all-yes = accepts .verdict
 
     left-is : after ≡ leaves (read 0 0 0) (sheetIn h input) m
     left-is = lists ∙ ap (λ a. leaves a (sheetIn h input) m) (sym e)
@@ -88,8 +72,9 @@ module _ (h : House) (input : List ℕ) (m : ListRooms (List ℕ)) (sizes : size
     pub read-held : Held t after
     read-held =
         subst (Held t) (sym left-is)
-        (held (sheetIn h input) t span-same units-same rules-same m (reading-accepts h input roomsForAll all-yes) (reading-loaders h input roomsForAll all-yes))
+        (held (sheetIn h input) t (accepts .span) (accepts .units) (accepts .rules) m (reading-accepts h input roomsForAll all-yes)
+        (reading-loaders h input roomsForAll all-yes))
 
     -- just these
     pub read-lists : fronts t after ≡ listsOf (sheetIn h input)
-    read-lists = ap (fronts t) left-is ∙ fronts-are (sheetIn h input) t span-same units-same rules-same m
+    read-lists = ap (fronts t) left-is ∙ fronts-are (sheetIn h input) t (accepts .span) (accepts .units) (accepts .rules) m

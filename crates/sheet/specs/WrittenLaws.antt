@@ -63,6 +63,20 @@ module _ (l : WrittenLists) (as-many : length (l .loader) ≡ length (givenBy l 
   pub written-loaders : loaders (writtenBy l) ≡ l .loader
   written-loaders = units-loaders (l .loader) (givenBy l .units) as-many
 
+-- ---- the windows, units and rules again, from their lists
+
+pub windows-back : (ws : List Window) → windowsOf (map (λ w. w .first) ws) (map (λ w. w .last) ws) ≡ ws
+windows-back [] = refl
+windows-back (w ∷ ws) = ap (λ r. w ∷ r) (windows-back ws)
+
+pub units-back : (us : List SheetUnit) → unitsOf (map (λ u. u .loader) us) (map (λ u. u .window) us) ≡ us
+units-back [] = refl
+units-back (u ∷ us) = ap (λ r. u ∷ r) (units-back us)
+
+pub rules-back : (rs : List Rule) → rulesOf (map (λ r. r .from) rs) (map (λ r. r .to) rs) (map (λ r. r .low) rs) (map (λ r. r .high) rs) ≡ rs
+rules-back [] = refl
+rules-back (r ∷ rs) = ap (λ xs. r ∷ xs) (rules-back rs)
+
 -- ---- the lists again, from the windows and rules that they make
 
 pub record WindowLists (first last : List ℕ) : Type 0 where
