@@ -1,22 +1,23 @@
-use borrow.Author.Needs.{needs}
+-- The call of find_line, with its reply as numbers; a line that was found lies within its text, and so does not end before it starts.
+use Prim.Native.Nat.{ℕ}
+use mathlib.Core.Path.{_≡_, sym, ap, subst, _∙_}
+use mathlib.Core.List.{List}
+use Rattle.merge_lines.specs.Lines.{foundLine}
+use Rattle.merge_lines.specs.LinesLaws.{Inside, found-inside}
+use Rattle.merge_lines.specs.declared.LineFound.{LineFound}
+use Rattle.merge_lines.specs.declared.LineFound.the-variants.{Refused, First, Second}
+use Rattle.tugrokt_replies.specs.Numbers.{lineOf, Rises}
 use Rattle.tugrokt.proofs.merging.tugrokt_line_of.Statement.{statement}
 use Rattle.tugrokt.proofs.merging.tugrokt_line_of.Tie as tie
-use Rattle.tugrokt.proofs.merging.tugrokt_line_of.Reads as reads
-use Rattle.tugrokt.proofs.merging.tugrokt_line_of.Lts as lts
-use Rattle.merge_lines.proofs.find_line.Reads as find-line-reads
-use Rattle.tugrokt_replies.proofs.line.numbers_of.Reads as numbers-of-reads
 
--- src/merging.rt:35:9
-find-line-requires : tie.Need-find-line-requires
-find-line-requires c κs = search needs
+rises : (one two : List ℕ) (k : ℕ) (found : LineFound) → Inside one two k found → Rises found
+rises one two k (Refused f s) h = tt
+rises one two k (First a e) h = h .0
+rises one two k (Second a e) h = h .0
 
--- src/merging.rt:36:5
-numbers-of-requires : tie.Need-numbers-of-requires
-numbers-of-requires c κs = ?
-
--- src/merging.rt:31:1
-returns : tie.Need-returns
-returns c = ?
+found-rises : (one two : List ℕ) (k : ℕ) (found : LineFound) → found ≡ foundLine one two k → Rises found
+found-rises one two k found e = subst Rises (sym e) (rises one two k (foundLine one two k) (found-inside one two k))
 
 pub tugrokt-line-of-spec : {M : Type 1} → statement M
-tugrokt-line-of-spec = tie.close (tie.spec find-line-requires numbers-of-requires returns)
+tugrokt-line-of-spec = tie.close (tie.spec (λ c κs. tt) (λ c κs. found-rises _ _ _ _ (c .find-line .ensures))
+    (λ c. record { told = c .numbers-of .ensures ∙ ap lineOf (c .before .find-line .ensures) }))
