@@ -28,13 +28,10 @@ fn read_words() -> Asked {
     if count < 2 {
         return Asked::Answer(House::Ours, Query::Plan);
     }
-    if 2 < count {
-        return Asked::Unknown;
-    }
     // A longer word comes as none, which asks for nothing.
     let mut word = [0u8; MAX_WORD];
     let n = os::arg(1, &mut word);
-    wave_words::asked_by(&word[..n])
+    wave_words::asked_by(&word[..n], count - 2)
 }
 
 // How many bytes were read, and whether a read failed on the way.
@@ -161,6 +158,8 @@ pub fn run() {
     match asked {
         Asked::Answer(house, query) => answer_pipe(house, query),
         Asked::Convert(from, to) => convert_pipe(from, to),
+        Asked::Merge => show_usage(),
+        Asked::Line => show_usage(),
         Asked::Unknown => show_usage(),
     }
 }

@@ -9,24 +9,31 @@ use Rattle.wave_words.specs.declared.Query.the-variants.{Plan, Fits}
 use Rattle.wave_words.specs.declared.Asked.{Asked}
 use Rattle.wave_words.specs.declared.Asked.the-variants as asked
 
--- a word and what it asks for
+-- a word, how many further words it takes, and what it then asks for
 pub record Word : Type 0 where
   pub bytes : List ℕ
+  pub takes : ℕ
   pub asks : Asked
 
 abbrev pub words : List Word
 words =
-    record { bytes = text "plan"; asks = asked.Answer Ours Plan } ∷
-    record { bytes = text "fits"; asks = asked.Answer Ours Fits } ∷
-    record { bytes = text "partner"; asks = asked.Answer Partner Plan } ∷
-    record { bytes = text "from-partner"; asks = asked.Convert Partner Ours } ∷
-    record { bytes = text "to-partner"; asks = asked.Convert Ours Partner } ∷
+    record { bytes = text "plan"; takes = 0; asks = asked.Answer Ours Plan } ∷
+    record { bytes = text "fits"; takes = 0; asks = asked.Answer Ours Fits } ∷
+    record { bytes = text "partner"; takes = 0; asks = asked.Answer Partner Plan } ∷
+    record { bytes = text "from-partner"; takes = 0; asks = asked.Convert Partner Ours } ∷
+    record { bytes = text "to-partner"; takes = 0; asks = asked.Convert Ours Partner } ∷
+    record { bytes = text "merge"; takes = 2; asks = asked.Merge } ∷
+    record { bytes = text "line"; takes = 3; asks = asked.Line } ∷
     []
 
--- what the first of these that is the word asks for, and where none is, nothing that the program does
-abbrev pub FoundIn : List Word → Asked → List ℕ → Type 0
-FoundIn [] asks word = asks ≡ asked.Unknown
-FoundIn (w ∷ ws) asks word = ((word ≡ w .bytes) × (asks ≡ w .asks)) ⊎ ((word ≡ w .bytes → ⊥) × FoundIn ws asks word)
+-- that the word, with so many more, is this one
+abbrev pub Calls : Word → List ℕ → ℕ → Type 0
+Calls w word more = (word ≡ w .bytes) × (more ≡ w .takes)
 
-abbrev pub AsksFor : Asked → List ℕ → Type 0
-AsksFor asks word = FoundIn words asks word
+-- what the first of these that is the word asks for, and where none is, nothing that the program does
+abbrev pub FoundIn : List Word → Asked → List ℕ → ℕ → Type 0
+FoundIn [] asks word more = asks ≡ asked.Unknown
+FoundIn (w ∷ ws) asks word more = (Calls w word more × (asks ≡ w .asks)) ⊎ ((Calls w word more → ⊥) × FoundIn ws asks word more)
+
+abbrev pub AsksFor : Asked → List ℕ → ℕ → Type 0
+AsksFor asks word more = FoundIn words asks word more

@@ -14,10 +14,13 @@ pub enum Query {
     Fits,
 }
 
-// What the words ask for: an answer to a sheet of a house, or a sheet of one house in the form of another; or that they are none that the program takes.
+// What the words ask for: an answer to a sheet of a house, a sheet of one house in the form of another, two sheets as one, or the line of a unit of two
+// sheets; or that they are none that the program takes.
 pub enum Asked {
     Answer(House, Query),
     Convert(House, House),
+    Merge,
+    Line,
     Unknown,
 }
 
@@ -37,24 +40,40 @@ fn same(a: &[u8], b: &[u8]) -> bool
     true
 }
 
-// What a word asks for.
-pub fn asked_by(word: &[u8]) -> Asked
-    ensures { λ r. ⌜ AsksFor r (now (word .entry)) ⌝ }
+// Whether the word is this one, with as many further words as it takes.
+fn called(word: &[u8], more: usize, name: &[u8], takes: usize) -> bool
+    ensures { λ r. ⌜ T r ↔ ((now (word .entry) ≡ now (name .entry)) × (more ≡ takes)) ⌝ }
 {
-    if same(word, b"plan") {
+    if more != takes {
+        return false;
+    }
+    same(word, name)
+}
+
+// What a word asks for that is followed by so many more.
+pub fn asked_by(word: &[u8], more: usize) -> Asked
+    ensures { λ r. ⌜ AsksFor r (now (word .entry)) more ⌝ }
+{
+    if called(word, more, b"plan", 0) {
         return Asked::Answer(House::Ours, Query::Plan);
     }
-    if same(word, b"fits") {
+    if called(word, more, b"fits", 0) {
         return Asked::Answer(House::Ours, Query::Fits);
     }
-    if same(word, b"partner") {
+    if called(word, more, b"partner", 0) {
         return Asked::Answer(House::Partner, Query::Plan);
     }
-    if same(word, b"from-partner") {
+    if called(word, more, b"from-partner", 0) {
         return Asked::Convert(House::Partner, House::Ours);
     }
-    if same(word, b"to-partner") {
+    if called(word, more, b"to-partner", 0) {
         return Asked::Convert(House::Ours, House::Partner);
+    }
+    if called(word, more, b"merge", 2) {
+        return Asked::Merge;
+    }
+    if called(word, more, b"line", 3) {
+        return Asked::Line;
     }
     Asked::Unknown
 }
