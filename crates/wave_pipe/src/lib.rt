@@ -8,7 +8,6 @@ ghost use Rattle.wave_pipe.specs.Input.{InputAnswered, InputConverted, p
 use convert_lists::Converted;
 use forms::House;
 use libc::STDERR_FILENO;
-use libc::STDIN_FILENO;
 use libc::STDOUT_FILENO;
 use print_page::MAX_PAGE;
 use sheet::Sheet;
@@ -32,37 +31,6 @@ fn read_words() -> Asked {
     let mut word = [0u8; MAX_WORD];
     let n = os::arg(1, &mut word);
     wave_words::asked_by(&word[..n], count - 2)
-}
-
-// How many bytes were read, and whether a read failed on the way.
-struct Input {
-    length: usize,
-    failed: bool,
-}
-
-// Reads until the input ends or the buffer is full. A read may be short, as of a pipe or a terminal.
-fn read_text(buffer: &mut [u8]) -> Input
-    ensures { λ r. ⌜ r .length ≤ length (now (buffer .exit)) ⌝ }
-{
-    let mut done: usize = 0;
-    while done < buffer.len() {
-        let got = libc::read(STDIN_FILENO, &mut buffer[done..]);
-        if got < 0 {
-            return Input {
-                length: done,
-                failed: true,
-            };
-        }
-        let n = io::count(got, &buffer[done..]);
-        if n == 0 {
-            break;
-        }
-        done += n;
-    }
-    Input {
-        length: done,
-        failed: false,
-    }
 }
 
 // The answer to what is asked of the whole input, by the n bytes that the buffer took of it.
@@ -117,9 +85,8 @@ fn show_fault(number: usize, line: usize)
 // From standard input to standard output.
 fn answer_pipe(house: House, query: Query) {
     let mut text = [0u8; TEXT_BYTES];
-    let input = read_text(&mut text);
+    let input = wave_files::read_stdin(&mut text);
     if input.failed {
-        os::fail(b"read");
         return;
     }
     let mut page = [0u8; MAX_PAGE];
@@ -129,9 +96,8 @@ fn answer_pipe(house: House, query: Query) {
 
 fn convert_pipe(from: House, to: House) {
     let mut text = [0u8; TEXT_BYTES];
-    let input = read_text(&mut text);
+    let input = wave_files::read_stdin(&mut text);
     if input.failed {
-        os::fail(b"read");
         return;
     }
     let mut page = [0u8; MAX_TEXT];

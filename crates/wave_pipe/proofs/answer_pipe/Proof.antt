@@ -6,5 +6,5 @@ use Rattle.wave_pipe.proofs.answer_pipe.Statement.{statement}
 use Rattle.wave_pipe.proofs.answer_pipe.Tie as tie
 
 pub answer-pipe-spec : {M : Type 1} → statement M
-answer-pipe-spec = tie.close (tie.spec (λ c. refl) (λ c κs. tt) (λ c. refl) (λ c κs. tt) (λ c. tt) (λ c κs. search needs)
+answer-pipe-spec = tie.close (tie.spec (λ c. refl) (λ c κs. tt) (λ c. tt) (λ c κs. search needs)
     (λ c. c .answer-input .ensures .1) (λ c. sym (length-take-le _ _ (c .before .answer-input .ensures .1))) (λ c κs. tt) (λ c. tt))

@@ -18,7 +18,7 @@ line-small : (c : tie.After-convert-input) (r : Converted) → c .convert-input 
 line-small c r e = subst (λ x. lineOf x ≤ maxBytes) e (c .convert-input .ensures .1 .1)
 
 pub convert-pipe-spec : {M : Type 1} → statement M
-convert-pipe-spec = tie.close (tie.spec (λ c. refl) (λ c κs. tt) (λ c. refl) (λ c κs. tt) (λ c. tt) (λ c κs. search needs) (λ c. c .match .keys1)
+convert-pipe-spec = tie.close (tie.spec (λ c. refl) (λ c κs. tt) (λ c. tt) (λ c κs. search needs) (λ c. c .match .keys1)
     (λ c. place-inside (c .before .before .before) _ (c .before .converted .given .1))
     (λ c. sym (length-take-le _ _ (place-inside (c .before .before .before .before) _ (c .before .before .converted .given .1)))) (λ c κs. tt)
     (λ c. c .match .keys2)

@@ -3,16 +3,16 @@ use mathlib.Core.Path.{_≡_}
 use Prim.Native.Nat.{_-_, _≤_}
 use lib.ListN.{length}
 use borrow.Author.Needs.{needs}
-use Rattle.wave_pipe.proofs.read_text.Statement.{statement}
-use Rattle.wave_pipe.proofs.read_text.Tie as tie
+use Rattle.wave_files.proofs.read_all.Statement.{statement}
+use Rattle.wave_files.proofs.read_all.Tie as tie
 
 abbrev Inv-loop : tie.InvT-loop
-Inv-loop buffer₀ done₀ buffer done = (length buffer ≡ length buffer₀) × (done ≤ length buffer)
+Inv-loop file buffer₀ done₀ buffer done = (length buffer ≡ length buffer₀) × (done ≤ length buffer)
 
 abbrev μ-loop : tie.MeasureT-loop
-μ-loop buffer₀ done₀ buffer done = length buffer - done
+μ-loop file buffer₀ done₀ buffer done = length buffer - done
 
-pub read-text-spec : {M : Type 1} → statement M
-read-text-spec = tie.close (tie.spec Inv-loop μ-loop (λ c. search needs) (λ c. search needs) (λ c. search needs) (λ c. search needs) (λ c κs. tt)
+pub read-all-spec : {M : Type 1} → statement M
+read-all-spec = tie.close (tie.spec Inv-loop μ-loop (λ c. search needs) (λ c. search needs) (λ c. search needs) (λ c. search needs) (λ c κs. tt)
     (λ c. search needs) (λ c. search needs) (λ c. search needs) (λ c. search needs) (λ c. search needs) (λ c κs. tt) (λ c. search needs)
     (λ c. search needs) (λ c. search needs) (λ c. search needs) (λ c. search needs) (λ c. search needs) (λ c. search needs))
