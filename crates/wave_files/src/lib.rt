@@ -75,7 +75,7 @@ fn read_file(name: &[u8], buffer: &mut [u8]) -> Input
 }
 
 // The file that the i-th word names. No file has a name as long as PATH_MAX, so a word that does not fit is none.
-pub fn read_named(i: usize, buffer: &mut [u8]) -> Input
+fn read_named(i: usize, buffer: &mut [u8]) -> Input
     ensures { λ r. ⌜ r .length ≤ length (now (buffer .exit)) ⌝ }
 {
     let mut name = [0u8; PATH_MAX];
@@ -88,6 +88,33 @@ pub fn read_named(i: usize, buffer: &mut [u8]) -> Input
         };
     }
     read_file(&name[..n], buffer)
+}
+
+// How many bytes were read of the first of two files and of the second, and whether one of them could not be read.
+pub struct Inputs {
+    pub first: usize,
+    pub second: usize,
+    pub failed: bool,
+}
+
+// The files that the i-th word and the j-th one name. Where the first cannot be read, the second is left alone.
+pub fn read_two(i: usize, one: &mut [u8], j: usize, two: &mut [u8]) -> Inputs
+    ensures { λ r. ⌜ (r .first ≤ length (now (one .exit))) × (r .second ≤ length (now (two .exit))) ⌝ }
+{
+    let first = read_named(i, one);
+    if first.failed {
+        return Inputs {
+            first: 0,
+            second: 0,
+            failed: true,
+        };
+    }
+    let second = read_named(j, two);
+    Inputs {
+        first: first.length,
+        second: second.length,
+        failed: second.failed,
+    }
 }
 
 // A word on standard error, and the i-th word of the program behind it.

@@ -1,24 +1,19 @@
-// What the program does: it reads a sheet from standard input and writes to standard output what its word asks for, an answer or the sheet in the form of
-// the other house. The contracts of the C functions say nothing of the bytes that come and go; what is promised is what a word asks for, the answer to the
-// bytes that were read, and that all ends and does nothing undefined.
+// What the program does: it reads a sheet from standard input, or two from files, and writes to standard output what its word asks for. The contracts of the C
+// functions say nothing of the bytes that come and go; what is promised is what a word asks for, and of the bytes that were read what `wave_inputs` says; and
+// that all ends and does nothing undefined.
 ghost use Prim.Native.Nat.{_≤_};
-ghost use lib.ListN.{length, take};
 ghost use Rattle.sheet.specs.Sizes.{maxBytes};
-ghost use Rattle.wave_pipe.specs.Input.{InputAnswered, InputConverted, placeOf, lineOf};
 use convert_lists::Converted;
 use forms::House;
 use libc::STDERR_FILENO;
 use libc::STDOUT_FILENO;
 use print_page::MAX_PAGE;
-use sheet::Sheet;
 use wave_faults::MAX_FAULT;
+use wave_inputs::TEXT_BYTES;
 use wave_words::Asked;
 use wave_words::MAX_WORD;
 use wave_words::Query;
 use write_lines::MAX_TEXT;
-
-// One byte more than the longest text that is read, so that a longer text is known for one without its rest.
-pub const TEXT_BYTES: usize = Sheet::MAX_BYTES + 1;
 
 // What the program was started for: a plan where no word is given.
 fn read_words() -> Asked {
@@ -31,40 +26,6 @@ fn read_words() -> Asked {
     let mut word = [0u8; MAX_WORD];
     let n = os::arg(1, &mut word);
     wave_words::asked_by(&word[..n], count - 2)
-}
-
-// The answer to what is asked of the whole input, by the n bytes that the buffer took of it.
-pub fn answer_input(
-    house: House,
-    query: Query,
-    buffer: &[u8; TEXT_BYTES],
-    n: usize,
-    page: &mut [u8; MAX_PAGE],
-) -> usize
-    requires { ⌜ n ≤ length (now buffer) ⌝ }
-    ensures { λ r. let text = now (buffer .entry) in
-        ⌜ InputAnswered house query (length text) (take n text) (now (page .entry)) (now (page .exit)) r ⌝ }
-    ensures { λ r. ⌜ r ≤ length (now (page .exit)) ⌝ }
-{
-    let text: &[u8] = buffer;
-    answer::answer(house, query, &text[..n], page)
-}
-
-// The whole input in the form of the other house, by the n bytes that the buffer took of it.
-pub fn convert_input(
-    from: House,
-    to: House,
-    buffer: &[u8; TEXT_BYTES],
-    n: usize,
-    page: &mut [u8; MAX_TEXT],
-) -> Converted
-    requires { ⌜ n ≤ length (now buffer) ⌝ }
-    ensures { λ r. let text = now (buffer .entry) in
-        ⌜ InputConverted from to (length text) (take n text) (now (page .entry)) (now (page .exit)) r ⌝ }
-    ensures { λ r. ⌜ (placeOf r ≤ length (now (page .exit))) × (lineOf r ≤ maxBytes) ⌝ }
-{
-    let text: &[u8] = buffer;
-    convert::convert(from, to, &text[..n], page)
 }
 
 fn write_page(page: &[u8]) {
@@ -90,7 +51,7 @@ fn answer_pipe(house: House, query: Query) {
         return;
     }
     let mut page = [0u8; MAX_PAGE];
-    let end = answer_input(house, query, &text, input.length, &mut page);
+    let end = wave_inputs::answer_input(house, query, &text, input.length, &mut page);
     write_page(&page[..end]);
 }
 
@@ -101,7 +62,7 @@ fn convert_pipe(from: House, to: House) {
         return;
     }
     let mut page = [0u8; MAX_TEXT];
-    let converted = convert_input(from, to, &text, input.length, &mut page);
+    let converted = wave_inputs::convert_input(from, to, &text, input.length, &mut page);
     match converted {
         Converted::Sheet(end) => write_page(&page[..end]),
         Converted::Refused(refusal, end) => {

@@ -5,7 +5,7 @@ use lib.ListN.{length}
 use lib.Seq.{length-take-le}
 use Rattle.sheet.specs.Sizes.{maxBytes}
 use Rattle.convert_lists.specs.declared.Converted.{Converted}
-use Rattle.wave_pipe.specs.Input.{placeOf, lineOf}
+use Rattle.wave_inputs.specs.Input.{placeOf, lineOf}
 use borrow.Author.Needs.{needs}
 use Rattle.wave_pipe.proofs.convert_pipe.Statement.{statement}
 use Rattle.wave_pipe.proofs.convert_pipe.Tie as tie

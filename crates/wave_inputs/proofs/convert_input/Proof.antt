@@ -11,10 +11,10 @@ use Rattle.print_bytes.specs.Writing.{withBytes}
 use Rattle.convert_lists.specs.Converting.{replyOf, converting, converted}
 use Rattle.convert.specs.Conversion.{first-bytes-decide}
 use Rattle.convert_lists.specs.declared.Converted.{Converted}
-use Rattle.wave_pipe.specs.Input.{InputConverted}
-use Rattle.wave_pipe.proofs.PipeLaws.{place-inside, line-small}
-use Rattle.wave_pipe.proofs.convert_input.Statement.{statement}
-use Rattle.wave_pipe.proofs.convert_input.Tie as tie
+use Rattle.wave_inputs.specs.Input.{InputConverted}
+use Rattle.wave_inputs.proofs.InputLaws.{place-inside, line-small}
+use Rattle.wave_inputs.proofs.convert_input.Statement.{statement}
+use Rattle.wave_inputs.proofs.convert_input.Tie as tie
 
 -- what the front is converted to, the input is
 module _ (from to : House) (places : ℕ) (front page left : List ℕ) (r : Converted) where

@@ -16,7 +16,7 @@ use Rattle.convert_lists.specs.Converting.{replyOf, refusal, converted, convert
 use Rattle.convert.specs.Conversion.{conversion-refusals}
 use Rattle.convert_lists.specs.declared.Converted.{Converted}
 use Rattle.convert_lists.specs.declared.Converted.the-variants as reply
-use Rattle.wave_pipe.specs.Input.{placeOf, lineOf}
+use Rattle.wave_inputs.specs.Input.{placeOf, lineOf}
 
 abbrev placeIn : Reply → ℕ
 placeIn (sheet next) = next

@@ -11,9 +11,9 @@ use Rattle.wave_words.specs.declared.Query.{Query}
 use Rattle.answer_conditions.specs.Answer.{AnswerTo, Answered}
 use Rattle.answer_conditions.specs.AnswerLaws.{answered-inside}
 use Rattle.answer_conditions.specs.FirstBytesLaws.{first-bytes-decide}
-use Rattle.wave_pipe.specs.Input.{InputAnswered}
-use Rattle.wave_pipe.proofs.answer_input.Statement.{statement}
-use Rattle.wave_pipe.proofs.answer_input.Tie as tie
+use Rattle.wave_inputs.specs.Input.{InputAnswered}
+use Rattle.wave_inputs.proofs.answer_input.Statement.{statement}
+use Rattle.wave_inputs.proofs.answer_input.Tie as tie
 
 -- an answer to the front is one to the input
 module _ (h : House) (query : Query) (places : ℕ) (front page left : List ℕ) (next : ℕ) where
