@@ -1,0 +1,2 @@
+pub mod LinePage
+pub mod LinePageLaws
