@@ -3,10 +3,14 @@ ghost use Prim.Native.Nat.{_≤_};
 ghost use lib.ListN.{length, take};
 ghost use Rattle.sheet.specs.Sizes.{maxBytes};
 ghost use Rattle.wave_inputs.specs.Input.{InputAnswered, InputConverted, placeOf, lineOf};
+ghost use Rattle.wave_inputs.specs.Input.{InputsMerged, mergedPlace, InputsShown, shownPlace};
 use convert_lists::Converted;
 use forms::House;
+use merge_text::Merged;
 use print_page::MAX_PAGE;
 use sheet::Sheet;
+use wave_line_page::MAX_LINE;
+use wave_line_page::Shown;
 use wave_words::Query;
 use write_lines::MAX_TEXT;
 
@@ -45,4 +49,41 @@ pub fn convert_input(
 {
     let text: &[u8] = buffer;
     convert::convert(from, to, &text[..n], page)
+}
+
+// Two whole inputs as one sheet, by the n bytes and the m bytes that the buffers took of them.
+pub fn merge_inputs(
+    one: &[u8; TEXT_BYTES],
+    n: usize,
+    two: &[u8; TEXT_BYTES],
+    m: usize,
+    page: &mut [u8; MAX_TEXT],
+) -> Merged
+    requires { ⌜ (n ≤ length (now one)) × (m ≤ length (now two)) ⌝ }
+    ensures { λ r. let first = now (one .entry) in let second = now (two .entry) in
+        ⌜ InputsMerged (length first) (take n first) (take m second) (now (page .entry)) (now (page .exit)) r ⌝ }
+    ensures { λ r. ⌜ mergedPlace r ≤ length (now (page .exit)) ⌝ }
+{
+    let first: &[u8] = one;
+    let second: &[u8] = two;
+    merge_text::merge_text(&first[..n], &second[..m], page)
+}
+
+// The line of a unit of two whole inputs, likewise.
+pub fn line_inputs(
+    one: &[u8; TEXT_BYTES],
+    n: usize,
+    two: &[u8; TEXT_BYTES],
+    m: usize,
+    loader: u16,
+    page: &mut [u8; MAX_LINE],
+) -> Shown
+    requires { ⌜ (n ≤ length (now one)) × (m ≤ length (now two)) ⌝ }
+    ensures { λ r. let first = now (one .entry) in let second = now (two .entry) in
+        ⌜ InputsShown (length first) (take n first) (take m second) loader (now (page .entry)) (now (page .exit)) r ⌝ }
+    ensures { λ r. ⌜ shownPlace r ≤ length (now (page .exit)) ⌝ }
+{
+    let first: &[u8] = one;
+    let second: &[u8] = two;
+    wave_line_page::line_page(&first[..n], &second[..m], loader, page)
 }

@@ -7,13 +7,20 @@ use convert_lists::Converted;
 use forms::House;
 use libc::STDERR_FILENO;
 use libc::STDOUT_FILENO;
+use merge_text::Merged;
 use print_page::MAX_PAGE;
 use wave_faults::MAX_FAULT;
 use wave_inputs::TEXT_BYTES;
+use wave_line_page::MAX_LINE;
+use wave_line_page::Shown;
+use wave_loader::Loader;
 use wave_words::Asked;
 use wave_words::MAX_WORD;
 use wave_words::Query;
 use write_lines::MAX_TEXT;
+
+// As long as the system lets a word be, so that a number of any digits is known for one.
+const MAX_DIGITS: usize = 131072;
 
 // What the program was started for: a plan where no word is given.
 fn read_words() -> Asked {
@@ -72,12 +79,86 @@ fn convert_pipe(from: House, to: House) {
     }
 }
 
+// Which file a refusal is of, by the places of the two names among the words, on standard error. Only 27 is of neither.
+fn show_blamed(sheet: usize, first: usize, second: usize) {
+    match sheet {
+        1 => wave_files::say_name(b"wave: the refusal is of the first sheet, ", first),
+        2 => wave_files::say_name(b"wave: the refusal is of the second sheet, ", second),
+        _ => {
+            io::write_all(
+                STDERR_FILENO,
+                b"wave: no unit of the two sheets has this loader number\n",
+            );
+        }
+    }
+}
+
+// From two files to standard output. The words behind `merge` are their names.
+fn merge_files() {
+    let mut one = [0u8; TEXT_BYTES];
+    let mut two = [0u8; TEXT_BYTES];
+    let inputs = wave_files::read_two(2, &mut one, 3, &mut two);
+    if inputs.failed {
+        return;
+    }
+    let mut page = [0u8; MAX_TEXT];
+    let merged = wave_inputs::merge_inputs(&one, inputs.first, &two, inputs.second, &mut page);
+    match merged {
+        Merged::Sheet(end) => write_page(&page[..end]),
+        Merged::Refused(_, sheet, end) => {
+            write_page(&page[..end]);
+            show_blamed(sheet, 2, 3);
+        }
+    }
+}
+
+// The names are the last words behind `line`.
+fn find_line(loader: u16) {
+    let mut one = [0u8; TEXT_BYTES];
+    let mut two = [0u8; TEXT_BYTES];
+    let inputs = wave_files::read_two(3, &mut one, 4, &mut two);
+    if inputs.failed {
+        return;
+    }
+    let mut page = [0u8; MAX_LINE];
+    let shown = wave_inputs::line_inputs(
+        &one,
+        inputs.first,
+        &two,
+        inputs.second,
+        loader,
+        &mut page,
+    );
+    match shown {
+        Shown::Line(end) => write_page(&page[..end]),
+        Shown::Refused(sheet, end) => {
+            write_page(&page[..end]);
+            show_blamed(sheet, 3, 4);
+        }
+    }
+}
+
+fn line_files() {
+    let mut word = [0u8; MAX_DIGITS];
+    let n = os::arg(2, &mut word);
+    let named = wave_loader::loader_of(&word[..n]);
+    match named {
+        Loader::Number(loader) => find_line(loader),
+        Loader::NoNumber => wave_files::say_name(
+            b"wave: LOADER must be one or more digits, not ",
+            2,
+        ),
+    }
+}
+
 // The words there are, on standard error.
 fn show_usage() {
     io::write_all(
         STDERR_FILENO,
         b"usage: wave [plan|fits|partner|from-partner|to-partner] < SHEET\n",
     );
+    io::write_all(STDERR_FILENO, b"       wave merge FIRST SECOND\n");
+    io::write_all(STDERR_FILENO, b"       wave line LOADER FIRST SECOND\n");
 }
 
 pub fn run() {
@@ -85,8 +166,8 @@ pub fn run() {
     match asked {
         Asked::Answer(house, query) => answer_pipe(house, query),
         Asked::Convert(from, to) => convert_pipe(from, to),
-        Asked::Merge => show_usage(),
-        Asked::Line => show_usage(),
+        Asked::Merge => merge_files(),
+        Asked::Line => line_files(),
         Asked::Unknown => show_usage(),
     }
 }
