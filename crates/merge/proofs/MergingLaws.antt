@@ -8,14 +8,14 @@ use lib.ListN.{length}
 use Rattle.lists.specs.Lists.{onFront}
 use Rattle.questions.specs.Questions.{ask, Verdict, no, allYes, firstNo}
 use Rattle.questions.specs.FirstNoLaws.{first-then}
-use Rattle.sheet.specs.Sheet.{Window, SheetUnit, WrittenSheet, constraints}
+use Rattle.sheet.specs.Sheet.{Window, WrittenSheet, constraints}
 use Rattle.sheet.specs.declared.Sheet.{Sheet}
 use Rattle.read_questions.specs.Reading.{ListRooms, rooms, listsFit, Reply, refused, read, concluded}
 use Rattle.read_questions.specs.ArrayLaws.{rooms-same}
 use Rattle.read_questions.specs.ConcludedLaws.{concluded-read, concluded-no}
 use Rattle.read_rooms.specs.Rooms.{sizesOf, leaves, filled}
 use Rattle.merge_questions.specs.Merging.{mergeQuestions, mergedIn, merging}
-use Rattle.merge_join.specs.Join.{joinReply, frontsOf, MergedAtFront}
+use Rattle.merge_join.specs.Join.{joinReply, MergedAtFront}
 
 module _ (one two : List ℕ) where
   abbrev w : WrittenSheet

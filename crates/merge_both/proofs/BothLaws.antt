@@ -2,18 +2,18 @@
 -- Key idea: the parts of the lists that the calls are lent are the two sheets' own numbers, so that what they ask is what is asked of the sheets; and the
 -- first no of one list of questions behind another is the first's, or else the second's.
 use Prim.Native.Nat.{ℕ, _+_, _-_, _≤_}
-use mathlib.Core.Path.{_≡_, refl, sym, ap, ap₂, subst, _∙_}
+use mathlib.Core.Path.{_≡_, refl, sym, ap, ap₂, _∙_}
 use mathlib.Core.Bool.{_&&_, cond}
 use mathlib.Core.List.{List, _++_, map}
 use native.Mathlib.Omega.{arith}
 use lib.Dec.{eqb}
 use lib.ListN.{length, take, drop, length-append, length-map}
 use lib.Seq.{take-at, drop-at}
-use Rattle.lists.specs.Lists.{onFront, howMany}
+use Rattle.lists.specs.Lists.{howMany}
 use Rattle.questions.specs.Questions.{Verdict, no, allYes, firstNo}
 use Rattle.questions.specs.FirstNoLaws.{first-then}
 use Rattle.questions.specs.declared.Refusal.{Refusal}
-use Rattle.sheet.specs.Sizes.{maxUnits, maxRules}
+use Rattle.sheet.specs.Sizes.{maxUnits}
 use Rattle.sheet.specs.Sheet.{Rule, WrittenSheet, loaders, onStretch}
 use Rattle.sheet.specs.Questions.{rulesOf}
 use Rattle.sheet.specs.declared.Sheet.{Sheet}
@@ -25,7 +25,7 @@ use Rattle.merge_rules.specs.CountLaws.{stretch-count}
 use Rattle.merge_questions.specs.Merging.{unitQuestions, ruleQuestions, joinQuestions, blamed}
 use Rattle.merge_questions.specs.declared.Joined.the-variants as Joined
 use Rattle.merge_stretches.specs.Stretches.{LinesAs}
-use Rattle.merge_both.specs.Both.{BothRead, RulesIn, AsksBoth}
+use Rattle.merge_both.specs.Both.{BothRead, AsksBoth}
 use Rattle.merge_both.proofs.PartLaws.{both-fit, first-part, second-part, column-past}
 
 module _ (wa wb : WrittenSheet) (a b : Sheet) (two numbers : List ℕ) (given room : Columns) (h : BothRead wa wb a b two numbers given room) where

@@ -2,20 +2,18 @@
 -- Key idea: the second text's numbers are set behind the first's, which is as if those of both had been set one after the other.
 use Prim.Native.Nat.{ℕ, _+_, _≤_}
 use mathlib.Core.Path.{_≡_, refl, sym, ap, subst, _∙_}
-use mathlib.Core.List.{List, [], _∷_, _++_, map, map-append}
+use mathlib.Core.List.{List, _++_, map, map-append}
 use native.Mathlib.Omega.{arith}
-use lib.Dec.{leb, lit≤}
+use lib.Dec.{lit≤}
 use lib.ListN.{length, take, replicate, length-take, length-append, length-map}
 use lib.Seq.{sets}
-use Rattle.lists.specs.Members.{right}
-use Rattle.questions.specs.Questions.{ask, allYes, firstNo, AllYes}
-use Rattle.questions.specs.FirstNoLaws.{yes-every, yes-front}
-use Rattle.sheet.specs.Sizes.{maxUnits, maxRules, maxBytes}
-use Rattle.sheet.specs.Sheet.{SheetUnit, Rule, WrittenSheet, loaders}
+use Rattle.questions.specs.Questions.{firstNo}
+use Rattle.questions.specs.FirstNoLaws.{yes-every}
+use Rattle.sheet.specs.Sizes.{maxUnits, maxRules}
+use Rattle.sheet.specs.Sheet.{SheetUnit, Rule, WrittenSheet}
 use Rattle.sheet.specs.declared.Sheet.{Sheet}
-use Rattle.forms.specs.Lines.{lines}
 use Rattle.forms.specs.declared.House.the-variants.{Ours}
-use Rattle.read_questions.specs.Reading.{sheetIn, contents, hasSheet, lineQuestions, passQuestions, ListRooms, rooms, read}
+use Rattle.read_questions.specs.Reading.{sheetIn, ListRooms, rooms, read}
 use Rattle.read_questions.specs.Steps.{Holds, columns, setAt}
 use Rattle.read_questions.specs.ArrayLaws.{rooms-same, column-front, columns-more, SameSizes, set-sizes, still-holds}
 use Rattle.read_questions.specs.ConcludedLaws.{Accepted, concluded-read}
@@ -24,6 +22,7 @@ use Rattle.merge_sheets.specs.Merge.{mergedRules, merged}
 use Rattle.merge_rules.specs.Columns as Rules
 use Rattle.merge_rules.specs.ColumnsLaws.{front-is, front-holds}
 use Rattle.merge_read.specs.Behind.{textQuestions, textReply, NumbersBehind}
+use Rattle.merge_read.specs.BehindLaws.{lines-asked}
 use Rattle.merge_both.specs.Both.{Counted, BothRead, RulesLeft, LeavesRules}
 use Rattle.merge_questions.specs.declared.Joined.{Joined}
 use Rattle.merge_questions.specs.declared.Joined.the-variants as Joined
@@ -36,11 +35,6 @@ pub accepted : (text : List ℕ) (s : Sheet) → read (s .span) (s .units) (s .r
     → Accepted (firstNo (textQuestions Ours text)) (sheetIn Ours text) (s .span) (s .units) (s .rules)
 unfolding textReply
 accepted text s = concluded-read (firstNo (textQuestions Ours text)) (sheetIn Ours text) (s .span) (s .units) (s .rules)
-
-lines-asked : (text : List ℕ) → firstNo (textQuestions Ours text) ≡ allYes → AllYes (lineQuestions Ours 1 [] (lines text))
-lines-asked text e =
-    yes-front (lineQuestions Ours 1 [] (lines text)) (ask 5 0 (hasSheet (contents Ours (lines text))) ∷ [])
-    (right (leb (length text) maxBytes) _ (yes-every (textQuestions Ours text) e))
 
 -- ---- both
 
@@ -159,7 +153,7 @@ module _ (one : List ℕ) (a : Sheet) (m₀ m₁ : ListRooms (List ℕ)) (long :
         low = omega (arith, rules-few);
         high = omega (arith, rules-few);
       };
-      lines = stretch-count two (lines-asked two (accepted two b eb .verdict));
+      lines = stretch-count two (lines-asked Ours two (yes-every (textQuestions Ours two) (accepted two b eb .verdict)));
     }
 
     -- and with the combined rules the merged sheet stands at the fronts

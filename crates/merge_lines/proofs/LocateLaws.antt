@@ -6,7 +6,6 @@ use mathlib.Core.List.{List}
 use lib.ListN.{length}
 use borrow.Author.Tests.{lt-ltb, le-ltb}
 use denote.Ref.{RefT}
-use Rattle.questions.specs.declared.Refusal.{Refusal}
 use Rattle.read_places.specs.declared.Spot.{Spot}
 use Rattle.merge_lines.specs.Lines.{foundLine, locatedBy, PartAsked}
 use Rattle.merge_lines.specs.LinesLaws.{Inside, found-inside}

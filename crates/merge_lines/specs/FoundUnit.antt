@@ -11,11 +11,11 @@ use Rattle.questions.specs.FirstNoLaws.{yes-every, every-yes, yes-front, yes-ba
 use Rattle.forms.specs.declared.House.the-variants.{Ours}
 use Rattle.read_questions.specs.Reading.{sheetIn}
 use Rattle.read_places.specs.LineOfUnit.{LineOfUnit, line-says}
+use Rattle.merge_read.specs.BehindLaws.{lines-asked}
 use Rattle.merge_sheets.specs.Merge.{merged}
 use Rattle.merge_questions.specs.Merging.{mergeQuestions, mergedIn}
 use Rattle.merge_laws.specs.Merged.{first-asked, second-asked}
 use Rattle.merge_lines.specs.Lines.{hasLoader, questionsOfLine, spotOf}
-use Rattle.merge_lines.specs.LinesLaws.{lines-asked}
 
 module _ (one two : List ℕ) (k : ℕ) (e : firstNo (questionsOfLine one two k) ≡ allYes) where
   merge-yes : firstNo (mergeQuestions one two) ≡ allYes
@@ -38,12 +38,12 @@ module _ (one two : List ℕ) (k : ℕ) (e : firstNo (questionsOfLine one two k)
   pub first-says : hasLoader one k ≡ true → SaysUnit one
   unfolding merged
   first-says h =
-      let l = line-says one (lines-asked one (first-asked one two merge-yes)) k (subst T (sym h) tt) in
+      let l = line-says one (lines-asked Ours one (first-asked one two merge-yes)) k (subst T (sym h) tt) in
       record { line = l; merges = Memᴰ·append-left (sheetIn Ours two .units) (l .listed) }
 
   pub second-says : hasLoader one k ≡ false → SaysUnit two
   unfolding merged
   second-says h =
       let has : T (hasLoader two k) = subst (λ (b : Bool). T (b || hasLoader two k)) h either in
-      let l = line-says two (lines-asked two (second-asked one two merge-yes)) k has in
+      let l = line-says two (lines-asked Ours two (second-asked one two merge-yes)) k has in
       record { line = l; merges = Memᴰ·append-right (sheetIn Ours one .units) (l .listed) }

@@ -1,24 +1,22 @@
 -- A line that was found stands in its text; and where the merge's questions are all yes, a text has a line for a loader number exactly where its sheet has
 -- the unit.
 -- Key idea: what a text's lines say is what its sheet has, unit by unit.
-use Prim.Native.Nat.{ℕ, _≤_, _<_}
-use mathlib.Core.Path.{_≡_, refl, sym, ap, ap₂, subst, _∙_}
+use Prim.Native.Nat.{ℕ, _≤_}
+use mathlib.Core.Path.{_≡_, refl, sym, ap, ap₂, _∙_}
 use mathlib.Core.Bool.{Bool, true, false, _||_, cond, true≢false}
-use mathlib.Core.List.{List, [], _∷_, _++_}
-use lib.Dec.{leb, ltb}
+use mathlib.Core.List.{List, [], _∷_}
+use lib.Dec.{ltb}
 use lib.ListN.{length}
-use Rattle.lists.specs.Members.{right}
 use Rattle.questions.specs.Questions.{ask, Verdict, no, allYes, firstNo, AllYes}
-use Rattle.questions.specs.FirstNoLaws.{first-then, every-yes, yes-front}
+use Rattle.questions.specs.FirstNoLaws.{first-then, every-yes}
 use Rattle.questions.specs.declared.Refusal.{Refusal}
-use Rattle.sheet.specs.Sizes.{maxBytes}
-use Rattle.forms.specs.Lines.{lines}
 use Rattle.forms.specs.declared.House.the-variants.{Ours}
-use Rattle.read_questions.specs.Reading.{contents, hasSheet, lineQuestions, refused, read}
+use Rattle.read_questions.specs.Reading.{refused, read}
 use Rattle.read_questions.specs.ConcludedLaws.{concluded-read, concluded-no}
 use Rattle.read_places.specs.PlacesLaws.{loader-found, spot-found, spot-inside}
 use Rattle.read_places.specs.declared.Wanted.the-variants as Wanted
 use Rattle.merge_read.specs.Behind.{textQuestions}
+use Rattle.merge_read.specs.BehindLaws.{lines-asked}
 use Rattle.merge_questions.specs.Merging.{mergeQuestions, mergedIn, blamed, blamedSheet}
 use Rattle.merge_join.specs.Join.{joinReply}
 use Rattle.merge_laws.specs.Merged.{first-asked, second-asked}
@@ -28,12 +26,8 @@ use Rattle.merge_lines.specs.declared.LineFound.the-variants.{Refused, F
 
 -- ---- a text whose questions are all yes
 
-pub lines-asked : (text : List ℕ) → AllYes (textQuestions Ours text) → AllYes (lineQuestions Ours 1 [] (lines text))
-lines-asked text h =
-    yes-front (lineQuestions Ours 1 [] (lines text)) (ask 5 0 (hasSheet (contents Ours (lines text))) ∷ []) (right (leb (length text) maxBytes) _ h)
-
 found-has : (text : List ℕ) → AllYes (textQuestions Ours text) → (k : ℕ) → ltb 0 (spotOf text k .number) ≡ hasLoader text k
-found-has text h k = spot-found (Wanted.Loader k) text 0 ∙ sym (loader-found text (lines-asked text h) k)
+found-has text h k = spot-found (Wanted.Loader k) text 0 ∙ sym (loader-found text (lines-asked Ours text h) k)
 
 -- ---- both texts
 module _ (one two : List ℕ) (k : ℕ) where

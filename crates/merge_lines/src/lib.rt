@@ -1,7 +1,5 @@
 // The line of a unit of two sheets, where it stands.
 ghost use mathlib.Core.Path.{_≡_};
-ghost use mathlib.Core.Bool.{cond};
-ghost use lib.Dec.{ltb};
 ghost use Rattle.merge_lines.specs.Lines.{spotOf, locatedBy, foundLine, PartAsked};
 use merge_join::BOTH_RULES;
 use merge_join::BOTH_UNITS;

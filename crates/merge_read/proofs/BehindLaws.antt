@@ -1,8 +1,8 @@
 -- The arrays after a text was read into their parts from a place on.
 -- Key idea: what is set at the front of the part that starts at a place is set in the whole from that place on; what holds of one array holds of all seven.
 use Prim.Native.Nat.{ℕ, _+_, _-_, _≤_, _<_}
-use mathlib.Core.Path.{_≡_, refl, sym, ap, ap₂, subst, _∙_}
-use mathlib.Core.List.{List, [], _∷_, _++_, map, append-nil, append-assoc}
+use mathlib.Core.Path.{_≡_, sym, ap, ap₂, _∙_}
+use mathlib.Core.List.{List, [], _++_, map, append-nil, append-assoc}
 use native.Mathlib.Omega.{arith}
 use native.Mathlib.Nat.{zero-add}
 use lib.ListN.{length, take, drop, length-map, length-drop, drop-of-length-le}
@@ -14,7 +14,7 @@ use Rattle.sheet.specs.Sizes.{maxUnits, maxRules, maxBytes}
 use Rattle.forms.specs.declared.House.{House}
 use Rattle.forms.specs.declared.House.the-variants.{Ours}
 use Rattle.read_questions.specs.Reading.{sheetIn, passQuestions, ListRooms, rooms, refused, replyOf, concluded}
-use Rattle.read_questions.specs.Steps.{Holds, columns, setAt, passReply, Kept}
+use Rattle.read_questions.specs.Steps.{Holds, passReply, Kept}
 use Rattle.read_questions.specs.ArrayLaws.{rooms-same}
 use Rattle.read_questions.specs.ConcludedLaws.{concluded-read}
 use Rattle.read_questions.specs.declared.Reading.{Reading}

@@ -1,7 +1,7 @@
 -- The combined rules at the fronts of the arrays, and the rule that makes too many stretches.
 -- Key idea: as many rules as a sheet may have make no more stretches, so the rule that makes too many is the second sheet's.
 use Prim.Native.Nat.{ℕ, suc, _-_, _≤_, _<_}
-use mathlib.Core.Path.{_≡_, sym, ap, ap₂, _∙_}
+use mathlib.Core.Path.{_≡_, sym, ap₂, _∙_}
 use mathlib.Core.List.{List, map}
 use native.Mathlib.Omega.{arith}
 use native.Mathlib.Decide.{decLe}

@@ -23,7 +23,7 @@ use Rattle.read_places.specs.Places.{spots, noSpot}
 use Rattle.read_places.specs.declared.Spot.{Spot}
 use Rattle.read_places.specs.declared.Wanted.{Wanted}
 use Rattle.read_places.specs.declared.Wanted.the-variants as Wanted
-use Rattle.merge_questions.specs.Merging.{lineAt, lastLine, firstCrossed, stretchQuestions}
+use Rattle.merge_questions.specs.Merging.{lineAt, lastLine, stretchQuestions}
 use Rattle.merge_questions.specs.FirstLaws.{first-same, firstIn, none-first, head-first}
 
 -- ---- the last of no lines, and of as many as were counted

@@ -1,17 +1,14 @@
 // Questions 21 and 10 of two sheets that are to be one, and the combined rules.
 ghost use mathlib.Core.Path.{_≡_};
 ghost use mathlib.Core.List.{map};
-ghost use Prim.Native.Nat.{ℕ, _≤_};
+ghost use Prim.Native.Nat.{_≤_};
 ghost use lib.ListN.{length, take, drop};
-ghost use Rattle.lists.specs.Lists.{onFront, howMany};
+ghost use Rattle.lists.specs.Lists.{onFront};
 ghost use Rattle.lists.specs.Counts.{count};
 ghost use Rattle.questions.specs.Questions.{verdictOf, firstNo};
 ghost use Rattle.sheet.specs.Sizes.{maxRules};
-ghost use Rattle.sheet.specs.Sheet.{onStretch};
 ghost use Rattle.sheet.specs.Questions.{rulesOf};
 ghost use Rattle.merge_sheets.specs.Merge.{mergedRules};
-ghost use Rattle.merge_rules.specs.Columns.{stretchAt};
-ghost use Rattle.read_places.specs.Places.{spots};
 ghost use Rattle.read_places.specs.declared.Wanted.the-variants as Wanted;
 ghost use Rattle.merge_questions.specs.Merging.{lastLine, stretchQuestions, ruleQuestions};
 ghost use Rattle.merge_stretches.specs.Stretches.{LinesAs, verdictBy, CountIs};

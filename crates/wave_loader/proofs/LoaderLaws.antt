@@ -10,7 +10,7 @@ use lib.ListN.{length, getD, drop, drop-of-length-le}
 use lib.Seq.{drop-cons}
 use Rattle.lists.specs.Lists.{every}
 use Rattle.sheet.specs.Sizes.{maxLoader}
-use Rattle.forms.specs.Form.{isDigit, some, valueFrom}
+use Rattle.forms.specs.Form.{isDigit, valueFrom}
 use Rattle.wave_loader.specs.declared.Loader.{Loader}
 use Rattle.wave_loader.specs.declared.Loader.the-variants.{Number, NoNumber}
 use Rattle.wave_loader.specs.Named.{capped, loaderNamed}

@@ -1,9 +1,8 @@
 -- The calls are lent the two sheets' own numbers.
-use Prim.Native.Nat.{ℕ, _+_, _≤_}
+use Prim.Native.Nat.{ℕ}
 use mathlib.Core.Path.{_≡_, refl, sym, ap, subst, _∙_}
 use mathlib.Core.List.{List}
 use native.Mathlib.Omega.{arith}
-use lib.ListN.{length}
 use lib.Seq.{length-take-le}
 use borrow.Author.Needs.{needs}
 use Rattle.questions.specs.Questions.{allYes, firstNo, verdictOf}
@@ -13,8 +12,8 @@ use Rattle.merge_rules.specs.Columns.{Columns, columns, AtFront}
 use Rattle.merge_questions.specs.Merging.{unitQuestions, ruleQuestions}
 use Rattle.merge_stretches.specs.declared.Stretches.{Stretches}
 use Rattle.merge_stretches.specs.Stretches.{verdictBy, CountIs}
-use Rattle.merge_both.specs.Both.{BothRead, AsksBoth}
-use Rattle.merge_both.proofs.BothLaws.{numbers-fit, ones-are, units-few, units-asked, from-long, to-long, low-long, high-long, all-rules, second-lines}
+use Rattle.merge_both.specs.Both.{BothRead}
+use Rattle.merge_both.proofs.BothLaws.{numbers-fit, units-few, units-asked, from-long, to-long, low-long, high-long, all-rules, second-lines}
 use Rattle.merge_both.proofs.BothLaws.{rules-asked, refused-units, refused-rules, merged-as}
 use Rattle.merge_both.proofs.ask_both.Statement.{statement}
 use Rattle.merge_both.proofs.ask_both.Tie as tie

@@ -1,5 +1,5 @@
 -- The code's test is the definition's.
-use mathlib.Core.Path.{_≡_, refl}
+use mathlib.Core.Path.{refl}
 use borrow.Author.Tests.{eq-eqb, ne-eqb}
 use Rattle.merge_both.proofs.blamed.Statement.{statement}
 use Rattle.merge_both.proofs.blamed.Tie as tie

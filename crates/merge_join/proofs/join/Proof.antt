@@ -14,7 +14,7 @@ use Rattle.read_questions.specs.declared.Reading.{Reading}
 use Rattle.read_questions.specs.declared.Reading.the-variants as Told
 use Rattle.merge_read.specs.Behind.{textReply, NumbersBehind, KeptBehind}
 use Rattle.merge_rules.specs.Columns as Rules
-use Rattle.merge_both.specs.Both.{BothRead, AsksBoth}
+use Rattle.merge_both.specs.Both.{BothRead}
 use Rattle.merge_join.proofs.JoinLaws.{first-refused, second-refused, both-asked}
 use Rattle.merge_join.proofs.ReadLaws.{accepted, holds-both, holds-fewer, holds-second, both-read, joined-left}
 use Rattle.merge_join.proofs.join.Statement.{statement}

@@ -1,5 +1,5 @@
 -- A refusal of the merge is one of the line; else the line is looked for in both texts.
-use mathlib.Core.Path.{_≡_, refl, sym, ap, _∙_}
+use mathlib.Core.Path.{refl, sym, ap, _∙_}
 use borrow.Author.Needs.{needs}
 use Rattle.merge_questions.specs.Merging.{joinedReply, joinedBlame}
 use Rattle.merge_join.specs.ClearedLaws.{cleared-hold}

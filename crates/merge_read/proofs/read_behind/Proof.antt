@@ -1,10 +1,8 @@
 -- The parts of the arrays behind what stands there are long enough for a sheet, and come back with its numbers at their fronts.
-use Prim.Native.Nat.{ℕ, _≤_}
+use Prim.Native.Nat.{ℕ}
 use mathlib.Core.Path.{_∙_}
 use mathlib.Core.List.{List}
-use lib.ListN.{length}
 use borrow.Author.Needs.{needs}
-use Rattle.sheet.specs.Sizes.{maxBytes}
 use Rattle.forms.specs.declared.House.the-variants.{Ours}
 use Rattle.read_questions.specs.Reading.{ListRooms, rooms}
 use Rattle.merge_read.proofs.BehindLaws.{answer-long, answer-short, parts-hold, kept-behind}

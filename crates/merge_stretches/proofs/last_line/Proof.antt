@@ -1,6 +1,5 @@
 -- The lines are as many as the rules that were counted.
 use mathlib.Core.Path.{_∙_, sym}
-use native.Mathlib.Omega.{arith}
 use borrow.Author.Needs.{needs}
 use Rattle.merge_stretches.proofs.StretchLaws.{no-line, counted-line}
 use Rattle.merge_stretches.proofs.last_line.Statement.{statement}

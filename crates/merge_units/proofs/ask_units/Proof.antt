@@ -1,14 +1,11 @@
 -- Each test of the code is a question's, in their order.
-use Prim.Native.Nat.{ℕ, _≤_, _<_}
-use mathlib.Core.Path.{_≡_, sym, ap, _∙_}
-use mathlib.Core.List.{List}
+use Prim.Native.Nat.{ℕ}
+use mathlib.Core.Path.{sym, ap, _∙_}
 use native.Mathlib.Omega.{arith}
-use lib.ListN.{length}
 use borrow.Author.Needs.{needs}
-use Rattle.lists.specs.First.{firstPlace}
 use Rattle.questions.specs.Questions.{no}
 use Rattle.read_places.specs.declared.Wanted.the-variants as Wanted
-use Rattle.merge_questions.specs.Merging.{lineAt, sharedAt}
+use Rattle.merge_questions.specs.Merging.{lineAt}
 use Rattle.merge_units.proofs.UnitLaws.{no-19, no-20, no-9, all-yes}
 use Rattle.merge_units.proofs.ask_units.Statement.{statement}
 use Rattle.merge_units.proofs.ask_units.Tie as tie

@@ -1,6 +1,5 @@
 -- The line is that of the place that was found.
 use mathlib.Core.Path.{ap}
-use borrow.Author.Needs.{needs}
 use Rattle.questions.specs.Questions.{no}
 use Rattle.read_places.specs.declared.Spot.{Spot}
 use Rattle.merge_units.proofs.refuse.Statement.{statement}

@@ -1,5 +1,4 @@
 -- A digit's byte is at least that of 0.
-use native.Mathlib.Omega.{arith}
 use lib.Dec.{leb}
 use borrow.Author.Tests.{leb-true}
 use borrow.Author.Needs.{needs}

@@ -1,5 +1,4 @@
 -- Case by case: the line is its variant, and so its numbers are the variant's.
-use Prim.Native.Nat.{ℕ, _≤_}
 use borrow.Author.Needs.{needs}
 use mathlib.Core.Path.{_≡_, sym, ap, subst}
 use Rattle.merge_lines.specs.declared.LineFound.{LineFound}
