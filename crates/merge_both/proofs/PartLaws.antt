@@ -22,7 +22,3 @@ module _ (xs ys l : List ℕ) (i k : ℕ) (lx : length xs ≡ i) (ly : length ys
       let n : i + k - i ≡ k = omega arith in
       ap (λ (m : ℕ). take m (drop i l)) n
       ∙ sym (drop-at (take i l) (take k (drop i l)) i (length-take-le i l (omega (arith, both-fit)))) ∙ ap (drop i) both ∙ drop-at xs ys i lx
-
--- a column of two lists of rules, past the first's
-pub column-past : {A : Type 0} (f : A → ℕ) (xs ys : List A) (i : ℕ) → i ≡ length xs → drop i (map f (xs ++ ys)) ≡ map f ys
-column-past f xs ys i e = ap (drop i) (map-append f xs ys) ∙ drop-at (map f xs) (map f ys) i (length-map xs f ∙ sym e)

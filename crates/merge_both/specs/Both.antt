@@ -3,14 +3,11 @@ use Prim.Native.Nat.{ℕ, _+_, _≤_}
 use mathlib.Core.Path.{_≡_}
 use mathlib.Core.List.{List, _++_, map}
 use lib.ListN.{length, take}
-use Rattle.lists.specs.Lists.{howMany}
 use Rattle.questions.specs.Questions.{allYes, firstNo}
 use Rattle.sheet.specs.Sizes.{maxUnits, maxRules}
-use Rattle.sheet.specs.Sheet.{Rule, WrittenSheet, loaders, onStretch}
+use Rattle.sheet.specs.Sheet.{Rule, WrittenSheet, loaders}
 use Rattle.sheet.specs.declared.Sheet.{Sheet}
 use Rattle.read_questions.specs.Reading.{concluded}
-use Rattle.read_places.specs.Places.{spots}
-use Rattle.read_places.specs.declared.Wanted.the-variants as Wanted
 use Rattle.merge_sheets.specs.Merge.{merged}
 use Rattle.merge_rules.specs.Columns.{Columns, AtFront}
 use Rattle.merge_questions.specs.Merging.{joinQuestions, blamed, joinedReply, joinedBlame}
@@ -39,14 +36,13 @@ pub record Rooms (n : ℕ) (c : Columns) : Type 0 where
   pub low : n ≤ length (c .low)
   pub high : n ≤ length (c .high)
 
--- two sheets that were read, the second from this text: the loader numbers, then the rules in columns, and columns for the combined rules
-pub record BothRead (wa wb : WrittenSheet) (a b : Sheet) (two numbers : List ℕ) (given room : Columns) : Type 0 where
+-- two sheets that were read: the loader numbers, then the rules in columns, and columns for the combined rules
+pub record BothRead (wa wb : WrittenSheet) (a b : Sheet) (numbers : List ℕ) (given room : Columns) : Type 0 where
   pub first : Counted a wa
   pub second : Counted b wb
   pub loader : take (a .units + b .units) numbers ≡ loaders wa ++ loaders wb
   pub rules : RulesIn (wa .rules ++ wb .rules) (a .rules + b .rules) given
   pub rooms : Rooms (a .rules + b .rules) room
-  pub lines : (f t : ℕ) → length (spots (Wanted.Stretch f t) two) ≡ howMany (onStretch f t) (wb .rules)
 
 -- of a merged sheet: its numbers of units and rules, and the combined rules at the front of the columns
 pub record RulesLeft (s : Sheet) (wa wb : WrittenSheet) (before now : Columns) : Type 0 where

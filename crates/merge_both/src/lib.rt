@@ -37,10 +37,10 @@ pub fn ask_both(
     highs: &mut [u16],
 ) -> Joined
     requires { ⌜ ((wa : WrittenSheet) × ((wb : WrittenSheet)
-        × BothRead wa wb a b (now two) (now numbers) (columns (now from) (now to) (now low) (now high))
+        × BothRead wa wb a b (now numbers) (columns (now from) (now to) (now low) (now high))
         (columns (now froms) (now tos) (now lows) (now highs)))) ⌝ }
     ensures { λ r. ⌜ ((wa wb : WrittenSheet)
-        → BothRead wa wb a b (now (two .entry)) (now (numbers .entry)) (columns (now (from .entry)) (now (to .entry)) (now (low .entry)) (now (high .entry)))
+        → BothRead wa wb a b (now (numbers .entry)) (columns (now (from .entry)) (now (to .entry)) (now (low .entry)) (now (high .entry)))
         (columns (now (froms .entry)) (now (tos .entry)) (now (lows .entry)) (now (highs .entry)))
         → AsksBoth r wa wb (now (two .entry)) (columns (now (froms .entry)) (now (tos .entry)) (now (lows .entry)) (now (highs .entry)))
         (columns (now (froms .exit)) (now (tos .exit)) (now (lows .exit)) (now (highs .exit)))) ⌝ }

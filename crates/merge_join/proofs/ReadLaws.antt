@@ -8,7 +8,6 @@ use lib.Dec.{lit≤}
 use lib.ListN.{length, take, replicate, length-take, length-append, length-map}
 use lib.Seq.{sets}
 use Rattle.questions.specs.Questions.{firstNo}
-use Rattle.questions.specs.FirstNoLaws.{yes-every}
 use Rattle.sheet.specs.Sizes.{maxUnits, maxRules}
 use Rattle.sheet.specs.Sheet.{SheetUnit, Rule, WrittenSheet}
 use Rattle.sheet.specs.declared.Sheet.{Sheet}
@@ -17,12 +16,10 @@ use Rattle.read_questions.specs.Reading.{sheetIn, ListRooms, rooms, read}
 use Rattle.read_questions.specs.Steps.{Holds, columns, setAt}
 use Rattle.read_questions.specs.ArrayLaws.{rooms-same, column-front, columns-more, SameSizes, set-sizes, still-holds}
 use Rattle.read_questions.specs.ConcludedLaws.{Accepted, concluded-read}
-use Rattle.read_places.specs.PlacesLaws.{stretch-count}
 use Rattle.merge_sheets.specs.Merge.{mergedRules, merged}
 use Rattle.merge_rules.specs.Columns as Rules
 use Rattle.merge_rules.specs.ColumnsLaws.{front-is, front-holds}
 use Rattle.merge_read.specs.Behind.{textQuestions, textReply, NumbersBehind}
-use Rattle.merge_read.specs.BehindLaws.{lines-asked}
 use Rattle.merge_both.specs.Both.{Counted, BothRead, RulesLeft, LeavesRules}
 use Rattle.merge_questions.specs.declared.Joined.{Joined}
 use Rattle.merge_questions.specs.declared.Joined.the-variants as Joined
@@ -136,7 +133,7 @@ module _ (one : List ℕ) (a : Sheet) (m₀ m₁ : ListRooms (List ℕ)) (long :
     -- both sheets stand in the arrays
     pub both-read : (room : Rules.Columns) → maxRules + maxRules ≤ length (room .from) → maxRules + maxRules ≤ length (room .to)
         → maxRules + maxRules ≤ length (room .low) → maxRules + maxRules ≤ length (room .high)
-        → BothRead wa wb a b two (m₂ .loader) (Rules.columns (m₂ .from) (m₂ .to) (m₂ .low) (m₂ .high)) room
+        → BothRead wa wb a b (m₂ .loader) (Rules.columns (m₂ .from) (m₂ .to) (m₂ .low) (m₂ .high)) room
     both-read room f t l h = record {
       first = counted one a (ka .few-units) (ka .few-rules) ea;
       second = counted two b (kb .few-units) (kb .few-rules) eb;
@@ -153,7 +150,6 @@ module _ (one : List ℕ) (a : Sheet) (m₀ m₁ : ListRooms (List ℕ)) (long :
         low = omega (arith, rules-few);
         high = omega (arith, rules-few);
       };
-      lines = stretch-count two (lines-asked Ours two (yes-every (textQuestions Ours two) (accepted two b eb .verdict)));
     }
 
     -- and with the combined rules the merged sheet stands at the fronts

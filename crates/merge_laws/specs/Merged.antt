@@ -26,7 +26,7 @@ use Rattle.read_whole.specs.WholeLaws.{two-digits}
 use Rattle.read_places.specs.Places.{Placed, spots, noSpot}
 use Rattle.read_places.specs.PlacesLaws.{spot-stands}
 use Rattle.read_places.specs.declared.Spot.{Spot}
-use Rattle.read_places.specs.declared.Wanted.{Wanted}
+use Rattle.read_form.specs.declared.Kind.{Kind}
 use Rattle.merge_sheets.specs.Merge.{mergedRules, merged}
 use Rattle.merge_sheets.specs.MergeLaws.{merged-lawful}
 use Rattle.merge_sheets.specs.AcceptedLaws.{merged-accepted, merged-loaders}
@@ -121,25 +121,25 @@ abbrev known : ℕ → ℕ → Bool
 known q n = asksMerge q && leb n maxBytes
 
 -- a line of a text has a number no greater than the text's bytes are many
-line-within : (text : List ℕ) (w : Wanted) (j : ℕ) → lineAt text w j ≤ length text
-line-within text w j = go (ltb j (length (spots w text))) refl
+line-within : (text : List ℕ) (k : Kind) (j : ℕ) → lineAt text k j ≤ length text
+line-within text k j = go (ltb j (length (spots k text))) refl
   where
-    go : (b : Bool) → ltb j (length (spots w text)) ≡ b → lineAt text w j ≤ length text
+    go : (b : Bool) → ltb j (length (spots k text)) ≡ b → lineAt text k j ≤ length text
     go true e =
-        let found = spot-stands w text j (ltb-true j (length (spots w text)) e) in
-        let r = found .3 in
-        let n : lineAt text w j ≡ 1 + length (r .before) = ap (λ (s : Spot). s .number) (found .1) ∙ ap (λ (p : Placed). p .spot .number) (r .place) in
+        let found = spot-stands k text j (ltb-true j (length (spots k text)) e) in
+        let r = found .stands in
+        let n : lineAt text k j ≡ 1 + length (r .before) = ap (λ (s : Spot). s .number) (found .spot) ∙ ap (λ (p : Placed). p .spot .number) (r .place) in
         omega (arith, n, line-count text, ap length (r .split), length-append (r .before) (r .line ∷ r .after))
     go false e =
-        let none : getD (spots w text) j noSpot ≡ noSpot = List·getD-eq-default (spots w text) noSpot (ltb-false j (length (spots w text)) e) in
+        let none : getD (spots k text) j noSpot ≡ noSpot = List·getD-eq-default (spots k text) noSpot (ltb-false j (length (spots k text)) e) in
         omega (arith, ap (λ (s : Spot). s .number) none)
 
 module _ (one two : List ℕ) (number line : ℕ) where
   join-known : length two ≤ maxBytes → T (every (λ q. known (q .number) (q .line)) (joinQuestions two (sheetIn Ours one) (sheetIn Ours two)))
   join-known short = here _ _ _ (here _ _ _ (here _ _ _ (here _ _ _ (here _ _ _ tt))))
     where
-      here : (w : Wanted) (j : ℕ) (rest : Bool) → T rest → T (leb (lineAt two w j) maxBytes && rest)
-      here w j rest t = both (leb (lineAt two w j) maxBytes) rest (le→leb (lineAt two w j) maxBytes (omega (arith, line-within two w j, short))) t
+      here : (k : Kind) (j : ℕ) (rest : Bool) → T rest → T (leb (lineAt two k j) maxBytes && rest)
+      here k j rest t = both (leb (lineAt two k j) maxBytes) rest (le→leb (lineAt two k j) maxBytes (omega (arith, line-within two k j, short))) t
 
   by-text : (text : List ℕ) → firstNo (textQuestions Ours text) ≡ no number line → Refusable number line
   by-text text e =

@@ -12,24 +12,6 @@ use Rattle.merge_lines.specs.LinesLaws.{Inside, found-inside}
 use Rattle.merge_lines.specs.declared.LineFound.{LineFound}
 use Rattle.merge_lines.specs.declared.LineFound.the-variants.{Refused, First, Second}
 
--- ---- the places
-module _ (x s : Spot) (e : x ≡ s) where
-  pub at-first : (t : Spot) → 0 < x .number → First (x .start) (x .end) ≡ locatedBy s t
-  at-first t h = subst (λ y. First (x .start) (x .end) ≡ locatedBy y t) e (rw (lt-ltb 0 (x .number) h) refl)
-
-  module _ (none : x .number ≤ 0) (y t : Spot) (f : y ≡ t) where
-    abbrev Is : LineFound → Type 0
-    Is found = found ≡ locatedBy s t
-
-    here : (found : LineFound) → found ≡ locatedBy x y → Is found
-    here found h = subst (λ z. found ≡ locatedBy s z) f (subst (λ z. found ≡ locatedBy z y) e h)
-
-    pub at-second : 0 < y .number → Is (Second (y .start) (y .end))
-    at-second h = here (Second (y .start) (y .end)) (rw (le-ltb 0 (x .number) none, lt-ltb 0 (y .number) h) refl)
-
-    pub nowhere : y .number ≤ 0 → Is (Refused (record { number = 27; line = 0 }) 0)
-    nowhere h = here (Refused (record { number = 27; line = 0 }) 0) (rw (le-ltb 0 (x .number) none, le-ltb 0 (y .number) h) refl)
-
 -- ---- what was found lies within its text
 module _ (one two : List ℕ) (k : ℕ) (found : LineFound) (e : found ≡ foundLine one two k) where
   inside : (r : LineFound) → found ≡ r → Inside one two k r

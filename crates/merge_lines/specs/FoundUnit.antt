@@ -1,21 +1,29 @@
 -- The line given for a loader number is a whole line of its text, and says the unit of the merged sheet with that number.
 -- Key idea: nothing is refused, so that the sheet that has the unit has a line that says it, and the merged sheet has the units of both.
 use Prim.Native.Nat.{ℕ}
-use mathlib.Core.Path.{_≡_, sym, subst}
+use mathlib.Core.Path.{_≡_, refl, sym, subst, _∙_}
 use mathlib.Core.Bool.{Bool, true, false, _||_}
-use mathlib.Core.List.{List, [], _∷_, Memᴰ·append-left, Memᴰ·append-right}
-use lib.Dec.{T}
+use mathlib.Core.List.{List, [], _∷_, map, Memᴰ·append-left, Memᴰ·append-right}
+use native.Mathlib.Omega.{arith}
+use lib.Dec.{T, eqb}
+use lib.ListN.{length, getD, length-map, List·getD-map}
+use borrow.Author.Tests.{eqb-true, ltb-true}
+use Rattle.lists.specs.First.{first-at}
 use Rattle.lists.specs.Members.{In}
-use Rattle.questions.specs.Questions.{ask, allYes, firstNo}
+use Rattle.questions.specs.Questions.{ask, allYes, firstNo, AllYes}
 use Rattle.questions.specs.FirstNoLaws.{yes-every, every-yes, yes-front, yes-back, yes-at}
+use Rattle.sheet.specs.Sheet.{SheetUnit, loaders}
+use Rattle.sheet.specs.WrittenLaws.{noUnit}
 use Rattle.forms.specs.declared.House.the-variants.{Ours}
 use Rattle.read_questions.specs.Reading.{sheetIn}
 use Rattle.read_places.specs.LineOfUnit.{LineOfUnit, line-says}
+use Rattle.merge_read.specs.Behind.{textQuestions}
 use Rattle.merge_read.specs.BehindLaws.{lines-asked}
 use Rattle.merge_sheets.specs.Merge.{merged}
 use Rattle.merge_questions.specs.Merging.{mergeQuestions, mergedIn}
 use Rattle.merge_laws.specs.Merged.{first-asked, second-asked}
-use Rattle.merge_lines.specs.Lines.{hasLoader, questionsOfLine, spotOf}
+use Rattle.merge_lines.specs.Lines.{hasLoader, questionsOfLine, placeIn, spotOf}
+use Rattle.merge_lines.specs.LinesLaws.{place-found}
 
 module _ (one two : List ℕ) (k : ℕ) (e : firstNo (questionsOfLine one two k) ≡ allYes) where
   merge-yes : firstNo (mergeQuestions one two) ≡ allYes
@@ -30,20 +38,38 @@ module _ (one two : List ℕ) (k : ℕ) (e : firstNo (questionsOfLine one two k)
       let last = ask 27 0 (hasLoader one k || hasLoader two k) ∷ [] in
       yes-at last (yes-back (mergeQuestions one two) last (yes-every (questionsOfLine one two k) e)) 0 tt
 
-  -- the line of the text, and that its unit is in the merged sheet
+  -- the line of the text, whose unit has the number and is in the merged sheet
   pub record SaysUnit (text : List ℕ) : Type 0 where
-    pub line : LineOfUnit text k (spotOf text k)
-    pub merges : In (record { loader = k; window = line .window }) (mergedIn one two .units)
+    pub unit : SheetUnit
+    pub loader : unit .loader ≡ k
+    pub line : LineOfUnit text unit (spotOf text k)
+    pub merges : In unit (mergedIn one two .units)
+
+  says : (text : List ℕ) → AllYes (textQuestions Ours text) → hasLoader text k ≡ true
+      → ((u : SheetUnit) → In u (sheetIn Ours text .units) → In u (mergedIn one two .units)) → SaysUnit text
+  says text asked h merge =
+      let us = sheetIn Ours text .units in
+      let i = placeIn (loaders (sheetIn Ours text)) k in
+      let some = ltb-true i (length (map (λ (u : SheetUnit). u .loader) us)) (place-found k (loaders (sheetIn Ours text)) ∙ h) in
+      let l = line-says text (lines-asked Ours text asked) i (omega (arith, length-map us (λ (u : SheetUnit). u .loader))) in
+      record {
+        unit = getD us i noUnit;
+        loader = sym (List·getD-map (λ (u : SheetUnit). u .loader) us i noUnit)
+            ∙ eqb-true _ k (first-at (λ j. eqb (getD (loaders (sheetIn Ours text)) j 0) k) (length (loaders (sheetIn Ours text))) some);
+        line = l;
+        merges = merge (getD us i noUnit) (l .listed);
+      }
 
   pub first-says : hasLoader one k ≡ true → SaysUnit one
   unfolding merged
-  first-says h =
-      let l = line-says one (lines-asked Ours one (first-asked one two merge-yes)) k (subst T (sym h) tt) in
-      record { line = l; merges = Memᴰ·append-left (sheetIn Ours two .units) (l .listed) }
+  first-says h = says one (first-asked one two merge-yes) h (λ u m. Memᴰ·append-left (sheetIn Ours two .units) m)
 
   pub second-says : hasLoader one k ≡ false → SaysUnit two
   unfolding merged
   second-says h =
-      let has : T (hasLoader two k) = subst (λ (b : Bool). T (b || hasLoader two k)) h either in
-      let l = line-says two (lines-asked Ours two (second-asked one two merge-yes)) k has in
-      record { line = l; merges = Memᴰ·append-right (sheetIn Ours one .units) (l .listed) }
+      says two (second-asked one two merge-yes) (subst (λ (b : Bool). (b || hasLoader two k) ≡ true) h (is-true _ either))
+      (λ u m. Memᴰ·append-right (sheetIn Ours one .units) m)
+    where
+      is-true : (b : Bool) → T b → b ≡ true
+      is-true true t = refl
+      is-true false t = absurd t

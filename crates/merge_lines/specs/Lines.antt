@@ -3,17 +3,20 @@ use Prim.Native.Nat.{ℕ, _+_, _-_}
 use mathlib.Core.Path.{_≡_}
 use mathlib.Core.Bool.{Bool, _||_, cond}
 use mathlib.Core.List.{List, [], _∷_, _++_}
-use lib.Dec.{ltb}
-use lib.ListN.{getD, take, drop}
+use lib.Dec.{eqb}
+use lib.ListN.{length, getD, take, drop}
 use denote.Ref.{RefT}
 use Rattle.lists.specs.Lists.{member}
+use Rattle.lists.specs.First.{firstPlace}
 use Rattle.questions.specs.Questions.{Question, ask, Verdict, no, allYes, firstNo}
 use Rattle.sheet.specs.Sheet.{loaders}
 use Rattle.forms.specs.declared.House.the-variants.{Ours}
 use Rattle.read_questions.specs.Reading.{sheetIn}
-use Rattle.read_places.specs.Places.{spots, noSpot}
+use Rattle.read_form.specs.declared.Kind.the-variants as Kind
+use Rattle.read_places.specs.Places.{spots, noSpot, sought}
 use Rattle.read_places.specs.declared.Spot.{Spot}
-use Rattle.read_places.specs.declared.Wanted.the-variants as Wanted
+use Rattle.read_places.specs.declared.Sought.{Sought}
+use Rattle.read_places.specs.declared.Sought.the-variants.{At, Past}
 use Rattle.merge_questions.specs.Merging.{mergeQuestions, blamedSheet}
 use Rattle.merge_lines.specs.declared.LineFound.{LineFound}
 use Rattle.merge_lines.specs.declared.LineFound.the-variants.{Refused, First, Second}
@@ -30,9 +33,13 @@ questionsOfLine one two k = mergeQuestions one two ++ (ask 27 0 (hasLoader one k
 
 -- ---- the answer
 
--- the first line of a text that says the unit with this loader number
+-- the first place of a number in a list, or the list's length
+abbrev pub placeIn : List ℕ → ℕ → ℕ
+placeIn ks k = firstPlace (length ks) (λ j. eqb (getD ks j 0) k)
+
+-- the line of a text's first unit with this loader number
 abbrev pub spotOf : List ℕ → ℕ → Spot
-spotOf text k = getD (spots (Wanted.Loader k) text) 0 noSpot
+spotOf text k = getD (spots Kind.Unit text) (placeIn (loaders (sheetIn Ours text)) k) noSpot
 
 -- the line in the text whose sheet has the unit
 abbrev pub placeOf : List ℕ → List ℕ → ℕ → LineFound
@@ -47,11 +54,17 @@ foundBy allYes sheet place = place
 unfoldable pub foundLine : List ℕ → List ℕ → ℕ → LineFound
 foundLine one two k = foundBy (firstNo (questionsOfLine one two k)) (blamedSheet one two) (placeOf one two k)
 
--- what the code makes of the two places; a line's number is 0 where there is none
-abbrev pub locatedBy : Spot → Spot → LineFound
-locatedBy s t =
-    cond (ltb 0 (s .number)) (First (s .start) (s .end))
-    (cond (ltb 0 (t .number)) (Second (t .start) (t .end)) (Refused (record { number = 27; line = 0 }) 0))
+-- what the code makes of a place among the units of both: the line in the first text, or, where it is past the first's units, in the second
+abbrev pub inSecond : Sought → LineFound
+inSecond (At s) = Second (s .start) (s .end)
+inSecond (Past j) = Refused (record { number = 27; line = 0 }) 0
+
+abbrev pub inEither : List ℕ → Sought → LineFound
+inEither two (At s) = First (s .start) (s .end)
+inEither two (Past j) = inSecond (sought Kind.Unit two j)
+
+abbrev pub locatedAt : List ℕ → List ℕ → ℕ → LineFound
+locatedAt one two i = inEither two (sought Kind.Unit one i)
 
 -- ---- a part of a text
 

@@ -1,33 +1,92 @@
--- A line that was found stands in its text; and where the merge's questions are all yes, a text has a line for a loader number exactly where its sheet has
--- the unit.
--- Key idea: what a text's lines say is what its sheet has, unit by unit.
-use Prim.Native.Nat.{ℕ, _≤_}
+-- A line that was found stands in its text; and where the merge's questions are all yes, the place of a loader number among the units of both is that of its
+-- line among the lines of units of both.
+-- Key idea: a text has as many lines of units as its sheet has units, so that a place past the first's units is one of the second's.
+use Prim.Native.Nat.{ℕ, suc, _+_, _-_, _≤_}
 use mathlib.Core.Path.{_≡_, refl, sym, ap, ap₂, _∙_}
-use mathlib.Core.Bool.{Bool, true, false, _||_, cond, true≢false}
-use mathlib.Core.List.{List, [], _∷_}
-use lib.Dec.{ltb}
-use lib.ListN.{length}
+use mathlib.Core.Bool.{Bool, true, false, _||_, cond}
+use mathlib.Core.List.{List, [], _∷_, _++_}
+use native.Mathlib.Omega.{arith}
+use native.Mathlib.Nat.{zero-add}
+use lib.Dec.{eqb, ltb, leb·suc-suc}
+use lib.ListN.{length, length-map}
+use borrow.Author.Tests.{lt-ltb, ltb-true, ltb-false}
+use Rattle.lists.specs.Lists.{member}
 use Rattle.questions.specs.Questions.{ask, Verdict, no, allYes, firstNo, AllYes}
 use Rattle.questions.specs.FirstNoLaws.{first-then, every-yes}
 use Rattle.questions.specs.declared.Refusal.{Refusal}
 use Rattle.forms.specs.declared.House.the-variants.{Ours}
-use Rattle.read_questions.specs.Reading.{refused, read}
+use Rattle.sheet.specs.Sheet.{loaders}
+use Rattle.read_questions.specs.Reading.{sheetIn, refused, read}
 use Rattle.read_questions.specs.ConcludedLaws.{concluded-read, concluded-no}
-use Rattle.read_places.specs.PlacesLaws.{loader-found, spot-found, spot-inside}
-use Rattle.read_places.specs.declared.Wanted.the-variants as Wanted
+use Rattle.read_form.specs.declared.Kind.the-variants as Kind
+use Rattle.read_places.specs.Places.{spots, sought}
+use Rattle.read_places.specs.PlacesLaws.{unit-count, sought-at, sought-past, spot-inside}
+use Rattle.read_places.specs.declared.Sought.the-variants.{At, Past}
 use Rattle.merge_read.specs.Behind.{textQuestions}
 use Rattle.merge_read.specs.BehindLaws.{lines-asked}
 use Rattle.merge_questions.specs.Merging.{mergeQuestions, mergedIn, blamed, blamedSheet}
+use Rattle.merge_questions.specs.FirstLaws.{first-cons}
 use Rattle.merge_join.specs.Join.{joinReply}
 use Rattle.merge_laws.specs.Merged.{first-asked, second-asked}
-use Rattle.merge_lines.specs.Lines.{hasLoader, questionsOfLine, spotOf, placeOf, foundBy, foundLine, locatedBy}
+use Rattle.merge_lines.specs.Lines.{hasLoader, questionsOfLine, placeIn, spotOf, placeOf, foundBy, foundLine, inSecond, inEither, locatedAt}
 use Rattle.merge_lines.specs.declared.LineFound.{LineFound}
 use Rattle.merge_lines.specs.declared.LineFound.the-variants.{Refused, First, Second}
 
--- ---- a text whose questions are all yes
+-- ---- the place of a loader number
 
-found-has : (text : List ℕ) → AllYes (textQuestions Ours text) → (k : ℕ) → ltb 0 (spotOf text k .number) ≡ hasLoader text k
-found-has text h k = spot-found (Wanted.Loader k) text 0 ∙ sym (loader-found text (lines-asked Ours text h) k)
+module _ (k : ℕ) where
+  place-cons : (x : ℕ) (xs : List ℕ) → placeIn (x ∷ xs) k ≡ cond (eqb x k) 0 (suc (placeIn xs k))
+  place-cons x xs = first-cons (λ y. eqb y k) 0 x xs
+
+  -- it lies within the list exactly where the list has the number
+  pub place-found : (ks : List ℕ) → ltb (placeIn ks k) (length ks) ≡ member k ks
+  place-found [] = refl
+  place-found (x ∷ xs) = ap (λ (r : ℕ). ltb r (suc (length xs))) (place-cons x xs) ∙ go (eqb x k) (place-found xs)
+    where
+      go : (b : Bool) → ltb (placeIn xs k) (length xs) ≡ member k xs → ltb (cond b 0 (suc (placeIn xs k))) (suc (length xs)) ≡ cond b true (member k xs)
+      go true e = lt-ltb 0 (suc (length xs)) (omega arith)
+      go false e = leb·suc-suc (suc (placeIn xs k)) (length xs) ∙ e
+
+  -- of two lists one behind the other
+  place-both : (xs ys : List ℕ) → placeIn (xs ++ ys) k ≡ cond (member k xs) (placeIn xs k) (length xs + placeIn ys k)
+  place-both [] ys = sym (zero-add (placeIn ys k))
+  place-both (x ∷ xs) ys = place-cons x (xs ++ ys) ∙ go (eqb x k) (placeIn (x ∷ xs) k) (place-cons x xs) (place-both xs ys)
+    where
+      later : (m : Bool) (p : ℕ) → p ≡ suc (placeIn xs k)
+          → suc (cond m (placeIn xs k) (length xs + placeIn ys k)) ≡ cond m p (suc (length xs) + placeIn ys k)
+      later true p e = sym e
+      later false p e = omega arith
+
+      go : (b : Bool) (p : ℕ) → p ≡ cond b 0 (suc (placeIn xs k)) → placeIn (xs ++ ys) k ≡ cond (member k xs) (placeIn xs k) (length xs + placeIn ys k)
+          → cond b 0 (suc (placeIn (xs ++ ys) k)) ≡ cond (cond b true (member k xs)) p (suc (length xs) + placeIn ys k)
+      go true p e h = sym e
+      go false p e h = ap suc h ∙ later (member k xs) p e
+
+-- ---- a text whose questions are all yes
+module _ (text : List ℕ) (asked : AllYes (textQuestions Ours text)) (k : ℕ) where
+  abbrev numbers : List ℕ
+  numbers = loaders (sheetIn Ours text)
+
+  spots-many : length (spots Kind.Unit text) ≡ length numbers
+  spots-many = unit-count text (lines-asked Ours text asked) ∙ sym (length-map (sheetIn Ours text .units) (λ u. u .loader))
+
+  spot-there : hasLoader text k ≡ true → sought Kind.Unit text (placeIn numbers k) ≡ At (spotOf text k)
+  unfolding sought
+  spot-there h =
+      sought-at (spots Kind.Unit text) (placeIn numbers k) (omega (arith, spots-many, ltb-true (placeIn numbers k) (length numbers) (place-found k numbers ∙ h)))
+
+  -- past this text's units: so far past them
+  spot-past : (i : ℕ) → sought Kind.Unit text (length numbers + i) ≡ Past i
+  unfolding sought
+  spot-past i =
+      let e : length numbers + i - length (spots Kind.Unit text) ≡ i = omega (arith, spots-many) in
+      sought-past (spots Kind.Unit text) (length numbers + i) (omega (arith, spots-many)) ∙ ap Past e
+
+  nowhere : hasLoader text k ≡ false → inSecond (sought Kind.Unit text (placeIn numbers k)) ≡ Refused (record { number = 27; line = 0 }) 0
+  unfolding sought
+  nowhere h =
+      ap inSecond (sought-past (spots Kind.Unit text) (placeIn numbers k)
+      (omega (arith, spots-many, ltb-false (placeIn numbers k) (length numbers) (place-found k numbers ∙ h))))
 
 -- ---- both texts
 module _ (one two : List ℕ) (k : ℕ) where
@@ -50,27 +109,36 @@ module _ (one two : List ℕ) (k : ℕ) where
     unfolding blamedSheet
     none-blamed = ap₂ blamed (every-yes (textQuestions Ours one) (first-asked one two e)) e
 
-    -- the code's two places are the definition's
-    pub found-located : locatedBy (spotOf one k) (spotOf two k) ≡ foundLine one two k
+    abbrev a : List ℕ
+    a = loaders (sheetIn Ours one)
+
+    abbrev b : List ℕ
+    b = loaders (sheetIn Ours two)
+
+    in-one : hasLoader one k ≡ true → locatedAt one two (placeIn (a ++ b) k) ≡ First (spotOf one k .start) (spotOf one k .end)
+    in-one h =
+        ap (locatedAt one two) (place-both k a b ∙ ap (λ (c : Bool). cond c (placeIn a k) (length a + placeIn b k)) h)
+        ∙ ap (inEither two) (spot-there one (first-asked one two e) k h)
+
+    past-one : hasLoader one k ≡ false → locatedAt one two (placeIn (a ++ b) k) ≡ inSecond (sought Kind.Unit two (placeIn b k))
+    past-one h =
+        ap (locatedAt one two) (place-both k a b ∙ ap (λ (c : Bool). cond c (placeIn a k) (length a + placeIn b k)) h)
+        ∙ ap (inEither two) (spot-past one (first-asked one two e) k (placeIn b k))
+
+    -- the code's place among the units of both is the definition's
+    pub found-located : locatedAt one two (placeIn (a ++ b) k) ≡ foundLine one two k
     unfolding foundLine questionsOfLine firstNo
     found-located =
-        go (ltb 0 (spotOf one k .number)) (ltb 0 (spotOf two k .number)) (hasLoader one k) (hasLoader two k)
-        (found-has one (first-asked one two e) k) (found-has two (second-asked one two e) k)
+        go (hasLoader one k) (hasLoader two k) refl refl
         ∙ ap₂ (λ (v : Verdict) (s : ℕ). foundBy v s (placeOf one two k))
         (sym (first-then (mergeQuestions one two) (ask 27 0 (hasLoader one k || hasLoader two k) ∷ []) allYes e)) (sym none-blamed)
       where
-        go : (a b c d : Bool) → a ≡ c → b ≡ d
-            → cond a (First (spotOf one k .start) (spotOf one k .end))
-            (cond b (Second (spotOf two k .start) (spotOf two k .end)) (Refused (record { number = 27; line = 0 }) 0))
+        go : (c d : Bool) → hasLoader one k ≡ c → hasLoader two k ≡ d → locatedAt one two (placeIn (a ++ b) k)
             ≡ foundBy (cond (c || d) allYes (no 27 0)) 0
             (cond c (First (spotOf one k .start) (spotOf one k .end)) (Second (spotOf two k .start) (spotOf two k .end)))
-        go true b true d p q = refl
-        go true b false d p q = absurd (true≢false p)
-        go false b true d p q = absurd (true≢false (sym p))
-        go false true false true p q = refl
-        go false true false false p q = absurd (true≢false q)
-        go false false false true p q = absurd (true≢false (sym q))
-        go false false false false p q = refl
+        go true d p q = in-one p
+        go false true p q = past-one p ∙ ap inSecond (spot-there two (second-asked one two e) k q)
+        go false false p q = past-one p ∙ nowhere two (second-asked one two e) k q
 
   -- ---- what was found lies within its text
   abbrev pub Inside : LineFound → Type 0
@@ -85,5 +153,5 @@ module _ (one two : List ℕ) (k : ℕ) where
       go : (v : Verdict) (b : Bool) → Inside (foundBy v (blamedSheet one two)
           (cond b (First (spotOf one k .start) (spotOf one k .end)) (Second (spotOf two k .start) (spotOf two k .end))))
       go (no q n) b = tt
-      go allYes true = spot-inside (Wanted.Loader k) one 0
-      go allYes false = spot-inside (Wanted.Loader k) two 0
+      go allYes true = spot-inside Kind.Unit one (placeIn (loaders (sheetIn Ours one)) k)
+      go allYes false = spot-inside Kind.Unit two (placeIn (loaders (sheetIn Ours two)) k)

@@ -1,11 +1,12 @@
 // The line of a unit of two sheets, where it stands.
 ghost use mathlib.Core.Path.{_≡_};
-ghost use Rattle.merge_lines.specs.Lines.{spotOf, locatedBy, foundLine, PartAsked};
+ghost use Rattle.merge_lines.specs.Lines.{placeIn, locatedAt, foundLine, PartAsked};
 use merge_join::BOTH_RULES;
 use merge_join::BOTH_UNITS;
 use merge_questions::Joined;
 use questions::Refusal;
-use read_places::Wanted;
+use read_form::Kind;
+use read_places::Sought;
 
 // The first no, with which of the two sheets it is of, 0 where it is of neither; or where the line starts and ends, less the line feed, in the first text or
 // in the second.
@@ -15,25 +16,41 @@ pub enum LineFound {
     Second(usize, usize),
 }
 
-// The line in the text that has it, or question 27.
-fn locate(one: &[u8], two: &[u8], loader: u16) -> LineFound
-    ensures { λ r. ⌜ r ≡ locatedBy (spotOf (now (one .entry)) loader) (spotOf (now (two .entry)) loader) ⌝ }
+// The first place of a loader number, or how many numbers there are.
+fn place_of(numbers: &[u16], loader: u16) -> usize
+    ensures { λ r. ⌜ r ≡ placeIn (now (numbers .entry)) loader ⌝ }
 {
-    let first = read_places::find(one, Wanted::Loader(loader), 0);
-    if 0 < first.number {
-        return LineFound::First(first.start, first.end);
+    let mut j = 0;
+    while j < numbers.len() {
+        if numbers[j] == loader {
+            return j;
+        }
+        j += 1;
     }
-    let second = read_places::find(two, Wanted::Loader(loader), 0);
-    if 0 < second.number {
-        return LineFound::Second(second.start, second.end);
+    j
+}
+
+// The line of the i-th unit of both sheets, from 0: the first's, or past them the second's; question 27 where there are not so many.
+fn locate(one: &[u8], two: &[u8], i: usize) -> LineFound
+    ensures { λ r. ⌜ r ≡ locatedAt (now (one .entry)) (now (two .entry)) i ⌝ }
+{
+    let first = read_places::seek(one, Kind::Unit, i);
+    match first {
+        Sought::At(spot) => LineFound::First(spot.start, spot.end),
+        Sought::Past(j) => {
+            let second = read_places::seek(two, Kind::Unit, j);
+            match second {
+                Sought::At(spot) => LineFound::Second(spot.start, spot.end),
+                Sought::Past(_) => LineFound::Refused(
+                    Refusal {
+                        number: 27,
+                        line: 0,
+                    },
+                    0,
+                ),
+            }
+        }
     }
-    LineFound::Refused(
-        Refusal {
-            number: 27,
-            line: 0,
-        },
-        0,
-    )
 }
 
 // All of the merge's questions but 12, then 27, and where the line of the unit with this loader number stands.
@@ -60,7 +77,11 @@ pub fn find_line(one: &[u8], two: &[u8], loader: u16) -> LineFound
     );
     match joined {
         Joined::Refused(refusal, sheet) => LineFound::Refused(refusal, sheet),
-        Joined::Sheet(_) => locate(one, two, loader),
+        Joined::Sheet(s) => {
+            let units = s.units;
+            let i = place_of(&numbers[..units], loader);
+            locate(one, two, i)
+        }
     }
 }
 

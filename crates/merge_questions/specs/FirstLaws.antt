@@ -33,7 +33,7 @@ module _ {A : Type 0} (t : A → Bool) (d : A) where
   abbrev pub firstIn : List A → ℕ
   firstIn xs = firstPlace (length xs) (λ j. t (getD xs j d))
 
-  first-cons : (x : A) (xs : List A) → firstIn (x ∷ xs) ≡ cond (t x) 0 (suc (firstIn xs))
+  pub first-cons : (x : A) (xs : List A) → firstIn (x ∷ xs) ≡ cond (t x) 0 (suc (firstIn xs))
   first-cons x xs = ap (cond (t x) 0) (first-shifted (λ j. t (getD (x ∷ xs) j d)) (length xs) 0)
 
   -- no entry passes exactly where the search comes to the end

@@ -8,26 +8,24 @@ use Rattle.lists.specs.Lists.{every, keep, member}
 use Rattle.lists.specs.First.{firstPlace}
 use Rattle.questions.specs.Questions.{Question, ask, Verdict, no, allYes, firstNo}
 use Rattle.sheet.specs.Sizes.{maxUnits, maxRules}
-use Rattle.sheet.specs.Sheet.{Rule, WrittenSheet, loaders, headOr}
+use Rattle.sheet.specs.Sheet.{Rule, WrittenSheet, loaders, onStretch, headOr}
 use Rattle.sheet.specs.PlanLaws.{noRule}
 use Rattle.forms.specs.declared.House.the-variants.{Ours}
 use Rattle.read_questions.specs.Reading.{sheetIn, ListRooms, listsFit, Reply, refused, read, concluded}
+use Rattle.merge_sheets.specs.Last.{lastPassing}
 use Rattle.merge_sheets.specs.Merge.{mergedRules, merged, crossed}
 use Rattle.merge_read.specs.Behind.{textQuestions}
 use Rattle.read_places.specs.Places.{spots, noSpot}
-use Rattle.read_places.specs.declared.Wanted.{Wanted}
-use Rattle.read_places.specs.declared.Wanted.the-variants as Wanted
+use Rattle.read_form.specs.declared.Kind.{Kind}
+use Rattle.read_form.specs.declared.Kind.the-variants as Kind
 use Rattle.merge_questions.specs.declared.Joined.{Joined}
 use Rattle.merge_questions.specs.declared.Joined.the-variants as Joined
 
 -- ---- the lines that refusals name, all of the second text
 
--- the number of the j-th line, from 0, that is looked for, and of the last one; 0 where there is none
-abbrev pub lineAt : List ℕ → Wanted → ℕ → ℕ
-lineAt text w j = getD (spots w text) j noSpot .number
-
-abbrev pub lastLine : List ℕ → Wanted → ℕ
-lastLine text w = lineAt text w (length (spots w text) - 1)
+-- the number of the j-th line of a kind, from 0; 0 where there is none
+abbrev pub lineAt : List ℕ → Kind → ℕ → ℕ
+lineAt text k j = getD (spots k text) j noSpot .number
 
 -- ---- 19, 20 and 9, of two spans and of the loader numbers of two sheets
 
@@ -37,9 +35,9 @@ sharedAt ones twos j = member (getD twos j 0) ones
 
 abbrev pub unitQuestions : List ℕ → ℕ → ℕ → List ℕ → List ℕ → List Question
 unitQuestions two p q ones twos =
-    ask 19 (lineAt two Wanted.Sheet 0) (eqb p q) ∷
-    ask 20 (lineAt two Wanted.Unit (firstPlace (length twos) (sharedAt ones twos))) (every (λ k. not (member k ones)) twos) ∷
-    ask 9 (lineAt two Wanted.Unit (maxUnits - length ones)) (leb (length (ones ++ twos)) maxUnits) ∷
+    ask 19 (lineAt two Kind.Sheet 0) (eqb p q) ∷
+    ask 20 (lineAt two Kind.Unit (firstPlace (length twos) (sharedAt ones twos))) (every (λ k. not (member k ones)) twos) ∷
+    ask 9 (lineAt two Kind.Unit (maxUnits - length ones)) (leb (length (ones ++ twos)) maxUnits) ∷
     []
 
 -- ---- 21 and 10, of the rules of two sheets
@@ -52,18 +50,21 @@ firstCrossed rs = headOr noRule (keep crossed rs)
 abbrev pub tooManyAt : List Rule → ℕ → Bool
 tooManyAt rs j = ltb maxRules (length (mergedRules (take (suc j) rs)))
 
--- of the combined rules, and of the place of the second sheet's rule that makes too many
-abbrev pub stretchQuestions : List ℕ → List Rule → ℕ → List Question
-stretchQuestions two combined past =
-    let over = firstCrossed combined in
-    ask 21 (lastLine two (Wanted.Stretch (over .from) (over .to))) (every (λ r. not (crossed r)) combined) ∷
-    ask 10 (lineAt two Wanted.Rule past) (leb (length combined) maxRules) ∷
+-- the place of the last of some rules that is on another's stretch; where none is, how many they are, and so the place of no rule
+abbrev pub lastOn : List Rule → Rule → ℕ
+lastOn rs q = lastPassing (length rs) (λ j. onStretch (q .from) (q .to) (getD rs j noRule))
+
+-- of the combined rules, by the place among the second sheet's rules of the last on a stretch, and of the one that makes too many
+abbrev pub stretchQuestions : List ℕ → (Rule → ℕ) → List Rule → ℕ → List Question
+stretchQuestions two last combined past =
+    ask 21 (lineAt two Kind.Rule (last (firstCrossed combined))) (every (λ r. not (crossed r)) combined) ∷
+    ask 10 (lineAt two Kind.Rule past) (leb (length combined) maxRules) ∷
     []
 
 abbrev pub ruleQuestions : List ℕ → List Rule → List Rule → List Question
 ruleQuestions two ones twos =
     let all = ones ++ twos in
-    stretchQuestions two (mergedRules all) (firstPlace (length all) (tooManyAt all) - length ones)
+    stretchQuestions two (lastOn twos) (mergedRules all) (firstPlace (length all) (tooManyAt all) - length ones)
 
 -- ---- all of them
 

@@ -4,11 +4,11 @@ ghost use Prim.Native.Nat.{_≤_, _<_, suc, max, min};
 ghost use lib.Dec.{ltb};
 ghost use lib.ListN.{length, getD, take};
 ghost use Rattle.lists.specs.Lists.{onFront};
-ghost use Rattle.lists.specs.Counts.{count};
 ghost use Rattle.lists.specs.First.{firstPlace};
 ghost use Rattle.sheet.specs.Sizes.{maxRules};
 ghost use Rattle.sheet.specs.Sheet.{Rule};
 ghost use Rattle.sheet.specs.Questions.{rulesOf};
+ghost use Rattle.merge_sheets.specs.Last.{lastPassing};
 ghost use Rattle.merge_sheets.specs.Merge.{mergedRules, withRule};
 ghost use Rattle.merge_rules.specs.Columns.{Columns, columns, ruleOf, stretchAt, AtFront};
 use sheet::Sheet;
@@ -144,16 +144,17 @@ pub fn first_crossed(low: &[u16], high: &[u16]) -> usize
     j
 }
 
-// How many rules are on a stretch.
-pub fn count_on(from: &[u16], to: &[u16], f: u16, t: u16) -> usize
-    requires { ⌜ length (now to) ≡ length (now from) ⌝ }
-    ensures { λ r. ⌜ r ≡ count (length (now (from .entry))) (stretchAt (now (from .entry)) (now (to .entry)) f t) ⌝ }
+// The last place of a stretch, or how many places there are.
+pub fn last_on(froms: &[u16], tos: &[u16], f: u16, t: u16) -> usize
+    requires { ⌜ length (now tos) ≡ length (now froms) ⌝ }
+    ensures { λ r. ⌜ r ≡ lastPassing (length (now (froms .entry))) (stretchAt (now (froms .entry)) (now (tos .entry)) f t) ⌝ }
 {
-    let mut n: usize = 0;
-    for j in 0..from.len() {
-        if from[j] == f && to[j] == t {
-            n += 1;
+    let mut n = froms.len();
+    while 0 < n {
+        n -= 1;
+        if froms[n] == f && tos[n] == t {
+            return n;
         }
     }
-    n
+    froms.len()
 }

@@ -19,33 +19,18 @@ use Rattle.sheet.specs.PlanLaws.{noRule}
 use Rattle.sheet.specs.Questions.{rulesOf}
 use Rattle.sheet.specs.QuestionLaws.{rulesOf-length, rulesOf-at}
 use Rattle.merge_sheets.specs.Merge.{crossed}
-use Rattle.read_places.specs.Places.{spots, noSpot}
-use Rattle.read_places.specs.declared.Spot.{Spot}
-use Rattle.read_places.specs.declared.Wanted.{Wanted}
-use Rattle.read_places.specs.declared.Wanted.the-variants as Wanted
-use Rattle.merge_questions.specs.Merging.{lineAt, lastLine, stretchQuestions}
+use Rattle.read_form.specs.declared.Kind.the-variants as Kind
+use Rattle.merge_questions.specs.Merging.{lineAt, stretchQuestions}
 use Rattle.merge_questions.specs.FirstLaws.{first-same, firstIn, none-first, head-first}
-
--- ---- the last of no lines, and of as many as were counted
-pub no-line : (text : List ℕ) (w : Wanted) → length (spots w text) ≡ 0 → 0 ≡ lastLine text w
-no-line text w = go (spots w text)
-  where
-    go : (xs : List Spot) → length xs ≡ 0 → 0 ≡ getD xs (length xs - 1) noSpot .number
-    go [] e = refl
-    go (x ∷ xs) e = absurd (omega arith)
-
-pub counted-line : (text : List ℕ) (w : Wanted) (n : ℕ) (s : Spot) → n ≡ length (spots w text) → s ≡ getD (spots w text) (n - 1) noSpot
-    → s .number ≡ lastLine text w
-counted-line text w n s e f = ap (λ (x : Spot). x .number) f ∙ ap (λ (k : ℕ). lineAt text w (k - 1)) e
 
 -- ---- the combined rules
 module _ (two froms tos lows highs : List ℕ) (ts : length tos ≡ length froms) (ls : length lows ≡ length froms) (hs : length highs ≡ length froms)
-    (past : ℕ) where
+    (last : Rule → ℕ) (past : ℕ) where
   abbrev rs : List Rule
   rs = rulesOf froms tos lows highs
 
   abbrev asked : Verdict
-  asked = firstNo (stretchQuestions two rs past)
+  asked = firstNo (stretchQuestions two last rs past)
 
   -- the place that the code finds
   abbrev place : ℕ
@@ -64,20 +49,23 @@ module _ (two froms tos lows highs : List ℕ) (ts : length tos ≡ length froms
   none-crosses : (b : Bool) → ltb place (length froms) ≡ b → every (λ r. not (crossed r)) rs ≡ not b
   none-crosses b e = none-first crossed noRule rs ∙ ap₂ (λ (k n : ℕ). not (ltb k n)) same-place many ∙ ap not e
 
-  pub no-21 : place < length froms → asked ≡ no 21 (lastLine two (Wanted.Stretch (getD froms place 0) (getD tos place 0)))
+  abbrev pub crossing : Rule
+  crossing = record { from = getD froms place 0; to = getD tos place 0; low = getD lows place 0; high = getD highs place 0 }
+
+  pub no-21 : place < length froms → asked ≡ no 21 (lineAt two Kind.Rule (last crossing))
   no-21 h =
       no-here _ 21 _ _ (none-crosses _ (lt-ltb place (length froms) h))
-      ∙ ap (λ (r : Rule). no 21 (lastLine two (Wanted.Stretch (r .from) (r .to))))
+      ∙ ap (λ (r : Rule). no 21 (lineAt two Kind.Rule (last r)))
       (head-first crossed noRule rs ∙ ap (λ (j : ℕ). getD rs j noRule) same-place ∙ rulesOf-at froms tos lows highs ts ls hs place h)
 
   module _ (none : length froms ≤ place) where
     -- 10 decides
-    last-asked : asked ≡ firstNo (ask 10 (lineAt two Wanted.Rule past) (leb (length rs) maxRules) ∷ [])
+    last-asked : asked ≡ firstNo (ask 10 (lineAt two Kind.Rule past) (leb (length rs) maxRules) ∷ [])
     last-asked = yes-here _ 21 _ _ (none-crosses _ (le-ltb place (length froms) none))
 
-    pub no-10 : maxRules < length froms → asked ≡ no 10 (lineAt two Wanted.Rule past)
+    pub no-10 : maxRules < length froms → asked ≡ no 10 (lineAt two Kind.Rule past)
     no-10 h = last-asked ∙ no-here _ 10 _ _ (lt-leb (length rs) maxRules (omega (arith, many)))
 
     pub all-yes : length froms ≤ maxRules → asked ≡ allYes
     unfolding firstNo
-    all-yes h = last-asked ∙ yes-here _ 10 (lineAt two Wanted.Rule past) [] (le-leb (length rs) maxRules (omega (arith, many)))
+    all-yes h = last-asked ∙ yes-here _ 10 (lineAt two Kind.Rule past) [] (le-leb (length rs) maxRules (omega (arith, many)))

@@ -4,36 +4,21 @@ ghost use mathlib.Core.List.{map};
 ghost use Prim.Native.Nat.{_≤_};
 ghost use lib.ListN.{length, take, drop};
 ghost use Rattle.lists.specs.Lists.{onFront};
-ghost use Rattle.lists.specs.Counts.{count};
 ghost use Rattle.questions.specs.Questions.{verdictOf, firstNo};
 ghost use Rattle.sheet.specs.Sizes.{maxRules};
 ghost use Rattle.sheet.specs.Questions.{rulesOf};
 ghost use Rattle.merge_sheets.specs.Merge.{mergedRules};
-ghost use Rattle.read_places.specs.declared.Wanted.the-variants as Wanted;
-ghost use Rattle.merge_questions.specs.Merging.{lastLine, stretchQuestions, ruleQuestions};
-ghost use Rattle.merge_stretches.specs.Stretches.{LinesAs, verdictBy, CountIs};
+ghost use Rattle.merge_questions.specs.Merging.{stretchQuestions, ruleQuestions};
+ghost use Rattle.merge_stretches.specs.Stretches.{lastAt, verdictBy, CountIs};
 use questions::Checked;
 use questions::Refusal;
-use read_places::Wanted;
+use read_form::Kind;
 use sheet::Sheet;
 
 // The first no, or how many combined rules there are.
 pub enum Stretches {
     No(Refusal),
     Count(usize),
-}
-
-// The last of the second's lines that say a rule on a stretch, 0 where there is none; of these lines there are as many as rules.
-fn last_line(two: &[u8], from: &[u16], to: &[u16], f: u16, t: u16) -> usize
-    requires { ⌜ (length (now to) ≡ length (now from)) × LinesAs (now two) (now from) (now to) ⌝ }
-    ensures { λ r. ⌜ r ≡ lastLine (now (two .entry)) (Wanted.Stretch f t) ⌝ }
-{
-    let n = merge_rules::count_on(from, to, f, t);
-    if n == 0 {
-        return 0;
-    }
-    let spot = read_places::find(two, Wanted::Stretch(f, t), n - 1);
-    spot.number
 }
 
 // The questions of the combined rules, by the stretches of the second sheet's rules and the place of the one that makes too many.
@@ -47,23 +32,24 @@ fn ask_combined(
     lows: &[u16],
     highs: &[u16],
 ) -> Checked
-    requires { ⌜ (length (now to) ≡ length (now from)) × LinesAs (now two) (now from) (now to)
-        × (length (now tos) ≡ length (now froms)) × (length (now lows) ≡ length (now froms)) × (length (now highs) ≡ length (now froms)) ⌝ }
+    requires { ⌜ (length (now to) ≡ length (now from)) × (length (now tos) ≡ length (now froms)) × (length (now lows) ≡ length (now froms))
+        × (length (now highs) ≡ length (now froms)) ⌝ }
     ensures { λ r. ⌜ verdictOf r
-        ≡ firstNo (stretchQuestions (now (two .entry)) (rulesOf (now (froms .entry)) (now (tos .entry)) (now (lows .entry)) (now (highs .entry))) past) ⌝ }
+        ≡ firstNo (stretchQuestions (now (two .entry)) (lastAt (now (from .entry)) (now (to .entry)))
+        (rulesOf (now (froms .entry)) (now (tos .entry)) (now (lows .entry)) (now (highs .entry))) past) ⌝ }
 {
     let p = merge_rules::first_crossed(lows, highs);
     if p < froms.len() {
+        let last = merge_rules::last_on(from, to, froms[p], tos[p]);
         return Checked::No(Refusal {
             number: 21,
-            line: last_line(two, from, to, froms[p], tos[p]),
+            line: read_places::line_number(two, Kind::Rule, last),
         });
     }
     if Sheet::MAX_RULES < froms.len() {
-        let spot = read_places::find(two, Wanted::Rule, past);
         return Checked::No(Refusal {
             number: 10,
-            line: spot.number,
+            line: read_places::line_number(two, Kind::Rule, past),
         });
     }
     Checked::Yes
@@ -85,7 +71,7 @@ pub fn ask_rules(
     requires agree { ⌜ (length (now to) ≡ length (now from)) × (length (now low) ≡ length (now from)) × (length (now high) ≡ length (now from)) ⌝ }
     requires rooms { ⌜ (length (now from) ≤ length (now froms)) × (length (now from) ≤ length (now tos))
         × (length (now from) ≤ length (now lows)) × (length (now from) ≤ length (now highs)) ⌝ }
-    requires first { ⌜ (n ≤ length (now from)) × (n ≤ maxRules) × LinesAs (now two) (drop n (now from)) (drop n (now to)) ⌝ }
+    requires first { ⌜ (n ≤ length (now from)) × (n ≤ maxRules) ⌝ }
     ensures verdict { λ r. let rs = rulesOf (now (from .entry)) (now (to .entry)) (now (low .entry)) (now (high .entry)) in
         ⌜ verdictBy r ≡ firstNo (ruleQuestions (now (two .entry)) (take n rs) (drop n rs)) ⌝ }
     ensures count { λ r. let rs = rulesOf (now (from .entry)) (now (to .entry)) (now (low .entry)) (now (high .entry)) in

@@ -9,7 +9,7 @@ ghost use Rattle.questions.specs.Questions.{no, verdictOf, firstNo};
 ghost use Rattle.merge_questions.specs.Merging.{lineAt, sharedAt, unitQuestions};
 use questions::Checked;
 use questions::Refusal;
-use read_places::Wanted;
+use read_form::Kind;
 use sheet::Sheet;
 
 // All numbers of a list into their chains, which are empty.
@@ -40,14 +40,13 @@ fn first_shared(ones: &[u16], twos: &[u16]) -> usize
     j
 }
 
-// A refusal that names the j-th of the wanted lines.
-fn refuse(number: usize, text: &[u8], wanted: Wanted, j: usize) -> Checked
-    ensures { λ r. ⌜ verdictOf r ≡ no number (lineAt (now (text .entry)) wanted j) ⌝ }
+// A refusal that names the j-th line of a kind.
+fn refuse(number: usize, text: &[u8], kind: Kind, j: usize) -> Checked
+    ensures { λ r. ⌜ verdictOf r ≡ no number (lineAt (now (text .entry)) kind j) ⌝ }
 {
-    let spot = read_places::find(text, wanted, j);
     Checked::No(Refusal {
         number: number,
-        line: spot.number,
+        line: read_places::line_number(text, kind, j),
     })
 }
 
@@ -57,15 +56,15 @@ pub fn ask_units(two: &[u8], p: usize, q: usize, ones: &[u16], twos: &[u16]) -> 
     ensures { λ r. ⌜ verdictOf r ≡ firstNo (unitQuestions (now (two .entry)) p q (now (ones .entry)) (now (twos .entry))) ⌝ }
 {
     if p != q {
-        return refuse(19, two, Wanted::Sheet, 0);
+        return refuse(19, two, Kind::Sheet, 0);
     }
     let j = first_shared(ones, twos);
     if j < twos.len() {
-        return refuse(20, two, Wanted::Unit, j);
+        return refuse(20, two, Kind::Unit, j);
     }
     let left = Sheet::MAX_UNITS - ones.len();
     if left < twos.len() {
-        return refuse(9, two, Wanted::Unit, left);
+        return refuse(9, two, Kind::Unit, left);
     }
     Checked::Yes
 }

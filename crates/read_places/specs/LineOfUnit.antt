@@ -1,131 +1,108 @@
--- The line of a unit by its loader number: in a text of our own format whose lines pass all questions, the bytes at the spot that is found for a loader number
--- of its sheet are one whole line of the text, less the line feed, and this line says that unit.
--- Key idea: a spot that there is has a line that stands there (`spot-stands`), and one that a loader number is wanted of says a unit with this number; a line
--- that says a unit adds it to the sheet.
-use Prim.Native.Nat.{ℕ, suc, _-_}
+-- The line of a unit: in a text of our own format whose lines pass all questions, the bytes at the j-th spot of a unit are one whole line of the text, less the
+-- line feed, and this line says the sheet's j-th unit.
+-- Key idea: a spot that there is has a line that stands there (`spot-stands`), the units are what these lines say, in their order (`unit-lines`), and a line
+-- that passes its questions says its content's values.
+use Prim.Native.Nat.{ℕ, suc, _+_, _-_, _<_}
 use mathlib.Core.Path.{_≡_, refl, sym, ap, subst, _∙_}
-use mathlib.Core.Bool.{Bool, true, false, cond}
-use mathlib.Core.List.{List, [], _∷_, _++_, map, append-assoc, List·Memᴰ·head, List·Memᴰ·not-nil, Memᴰ·append-right}
+use mathlib.Core.Bool.{Bool, true, false, _&&_, cond}
+use mathlib.Core.List.{List, [], _∷_, _++_, map, append-assoc, List·Memᴰ·head, Memᴰ·append-right}
 use native.Mathlib.Omega.{arith}
-use lib.Dec.{T, eqb→eq, ltb→lt}
-use lib.ListN.{length, getD, take, drop}
+use lib.Dec.{T}
+use lib.ListN.{length, getD, take, drop, List·getD-map}
 use lib.Seq.{take-at, drop-at}
-use Rattle.lists.specs.Lists.{every, member, joined}
-use Rattle.lists.specs.Members.{In, map-in, joined-in}
+use Rattle.lists.specs.Lists.{joined, keep}
+use Rattle.lists.specs.Members.{In, in-at}
 use Rattle.questions.specs.Questions.{AllYes}
-use Rattle.sheet.specs.Sheet.{Window, SheetUnit, loaders}
+use Rattle.sheet.specs.Sheet.{SheetUnit, headOr}
+use Rattle.sheet.specs.WrittenLaws.{noUnit}
+use Rattle.forms.specs.Words as Words
 use Rattle.forms.specs.Words.{lineFeed}
-use Rattle.forms.specs.Form.{printable, plain}
+use Rattle.forms.specs.Form.{matches}
 use Rattle.forms.specs.Lines.{TextLine, lines, spelt}
 use Rattle.forms.specs.declared.House.the-variants.{Ours}
-use Rattle.read_line.specs.Content.{Content, note, sheet, unit, rule, other, contentOf, bracketsMatch, numbersIn}
-use Rattle.read_line.specs.Line.{valuesOf, said, lineOf}
-use Rattle.read_line.specs.declared.Line.{Line}
+use Rattle.read_form.specs.Kinds.{formOf}
+use Rattle.read_form.specs.Grid.{sameKind}
+use Rattle.read_form.specs.declared.Kind.{Kind}
+use Rattle.read_form.specs.declared.Kind.the-variants as Kind
+use Rattle.read_line.specs.Content.{formContent, contentOf}
+use Rattle.read_line.specs.Line.{valuesOf, lineOf}
 use Rattle.read_line.specs.declared.Line.the-variants as Line
-use Rattle.read_questions.specs.Reading.{contents, unitOf, unitsIn, sheetIn, lineQuestions}
-use Rattle.read_questions.specs.Steps.{lineUnits}
-use Rattle.read_places.specs.Places.{Placed, isWanted, spots, noSpot}
-use Rattle.read_places.specs.PlacesLaws.{unended-unwanted, loader-found, Standing, around, spot-stands}
+use Rattle.read_questions.specs.Reading.{unitOf, sheetIn, lineQuestions}
+use Rattle.read_places.specs.Places.{Placed, isOf, spots, noSpot}
+use Rattle.read_places.specs.PlacesLaws.{Passes, each-passes, kind-is, unitSaid, unit-lines, unit-count, noLine, around, spot-stands}
 use Rattle.read_places.specs.declared.Spot.{Spot}
-use Rattle.read_places.specs.declared.Wanted.the-variants as Wanted
 
--- at the spot s of the text stands a line, with a line feed behind it, that says the sheet's unit with the loader number k
-pub record LineOfUnit (text : List ℕ) (k : ℕ) (s : Spot) : Type 0 where
+-- at the spot s of the text stands a line, with a line feed behind it, that says the unit u of its sheet
+pub record LineOfUnit (text : List ℕ) (u : SheetUnit) (s : Spot) : Type 0 where
   pub before : List TextLine
   pub line : TextLine
   pub after : List TextLine
-  pub window : Window
   pub split : lines text ≡ before ++ (line ∷ after)
   pub number : s .number ≡ suc (length before)
   pub start : s .start ≡ length (joined (map spelt before))
   pub bytes : take (s .end - s .start) (drop (s .start) text) ≡ line .bytes
   pub ended : line .ended ≡ true
-  pub says : lineOf Ours (line .bytes) true ≡ Line.Unit k (window .first) (window .last)
-  pub listed : In (record { loader = k; window = window }) (sheetIn Ours text .units)
+  pub says : lineOf Ours (line .bytes) true ≡ Line.Unit (u .loader) (u .window .first) (u .window .last)
+  pub listed : In u (sheetIn Ours text .units)
 
--- ---- what a wanted line says
-
--- it has its line feed
-wanted-ended : (k : ℕ) (bytes : List ℕ) (e : Bool) → T (isWanted (Wanted.Loader k) (lineOf Ours bytes e)) → e ≡ true
-wanted-ended k bytes true t = refl
-wanted-ended k bytes false t = absurd (subst T (unended-unwanted (Wanted.Loader k) bytes) t)
-
-wanted-unit : (k : ℕ) (l : Line) → T (isWanted (Wanted.Loader k) l) → (w : Window) × (l ≡ Line.Unit k (w .first) (w .last))
-wanted-unit k (Line.Refused q) t = absurd t
-wanted-unit k Line.Note t = absurd t
-wanted-unit k (Line.Sheet p) t = absurd t
-wanted-unit k (Line.Unit j f l) t = (record { first = f; last = l }, ap (λ (i : ℕ). Line.Unit i f l) (eqb→eq j k t))
-wanted-unit k (Line.Rule a b lo hi) t = absurd t
-
--- a unit that a line says is one that its content gives
-said-unit : (u : SheetUnit) (bytes : List ℕ) → In u (lineUnits (lineOf Ours bytes true)) → In u (unitOf (contentOf Ours bytes))
-unfolding lineOf said
-said-unit u bytes = go (printable bytes) (bracketsMatch x bytes) (every plain (numbersIn x))
+-- a line of this kind that passes its questions says its unit
+unit-told : (l : TextLine) → Passes Ours l → T (isOf Kind.Unit l)
+    → let u = unitSaid l in lineOf Ours (l .bytes) true ≡ Line.Unit (u .loader) (u .window .first) (u .window .last)
+unfolding contentOf
+unit-told l p t = p .says ∙ go (formOf Ours (l .bytes)) (subst T (kind-is l p Kind.Unit) t)
   where
-    x : Content
-    x = contentOf Ours bytes
+    go : (q : Kind) → T (sameKind q Kind.Unit) → let x = formContent Ours q (l .bytes) in let u = headOr noUnit (unitOf x) in
+        valuesOf x ≡ Line.Unit (u .loader) (u .window .first) (u .window .last)
+    go Kind.Unprintable t = absurd t
+    go Kind.Note t = absurd t
+    go Kind.Sheet t = absurd t
+    go Kind.Unit t = refl
+    go Kind.Rule t = absurd t
+    go Kind.Other t = absurd t
 
-    values : (y : Content) → In u (lineUnits (valuesOf y)) → In u (unitOf y)
-    values note m = m
-    values (sheet ds p) m = m
-    values (unit ds k f l) m = m
-    values (rule ds a b lo hi) m = m
-    values other m = m
+no-unit : unitSaid noLine ≡ noUnit
+unfolding contentOf matches Words.text
+no-unit = refl
 
-    go : (p b q : Bool) → In u (lineUnits (cond p (cond b (cond q (valuesOf x) (Line.Refused 4)) (Line.Refused 11)) (Line.Refused 2))) → In u (unitOf x)
-    go true true true m = values x m
-    go true true false m = absurd (List·Memᴰ·not-nil m)
-    go true false q m = absurd (List·Memᴰ·not-nil m)
-    go false b q m = absurd (List·Memᴰ·not-nil m)
-
--- and so one of the sheet's
-unit-listed : (text : List ℕ) (l : TextLine) (u : SheetUnit) → In l (lines text) → In u (lineUnits (lineOf Ours (l .bytes) true))
-    → In u (sheetIn Ours text .units)
-unfolding sheetIn unitsIn contents
-unit-listed text l u m s =
-    let xs = contents Ours (lines text) in
-    let x = contentOf Ours (l .bytes) in
-    joined-in u (unitOf x) (map unitOf xs) (map-in unitOf x xs (map-in (λ (t : TextLine). contentOf Ours (t .bytes)) l (lines text) m))
-    (said-unit u (l .bytes) s)
+said-at : (ls : List TextLine) (j : ℕ) → getD (map unitSaid ls) j noUnit ≡ unitSaid (getD ls j noLine)
+said-at ls j = ap (getD (map unitSaid ls) j) (sym no-unit) ∙ List·getD-map unitSaid ls j noLine
 
 -- ---- the bytes at a spot
 part-is : (b l f a : List ℕ) (start size : ℕ) → length b ≡ start → length l ≡ size → take size (drop start (b ++ ((l ++ f) ++ a))) ≡ l
 part-is b l f a start size e d =
     ap (take size) (drop-at b ((l ++ f) ++ a) start e ∙ append-assoc l f a) ∙ take-at l (f ++ a) size d
 
-pub line-says : (text : List ℕ) → AllYes (lineQuestions Ours 1 [] (lines text)) → (k : ℕ) → T (member k (loaders (sheetIn Ours text)))
-    → LineOfUnit text k (getD (spots (Wanted.Loader k) text) 0 noSpot)
-line-says text asked k known =
-    let some = ltb→lt 0 (length (spots (Wanted.Loader k) text)) (subst T (loader-found text asked k) known) in
-    let r = spot-stands (Wanted.Loader k) text 0 some in
-    subst (LineOfUnit text k) (sym (r .1)) (by-line (r .0) (r .2) (r .3))
-  where
-    by-line : (p : Placed) → T (isWanted (Wanted.Loader k) (p .says)) → Standing 1 0 (lines text) p → LineOfUnit text k (p .spot)
-    by-line p t r =
-        let l = r .line in
-        let b = joined (map spelt (r .before)) in
-        let at = r .place in
-        let wanted = subst (λ (q : Placed). T (isWanted (Wanted.Loader k) (q .says))) at t in
-        let ended = wanted-ended k (l .bytes) (l .ended) wanted in
-        let says = wanted-unit k (lineOf Ours (l .bytes) true) (subst (λ (e : Bool). T (isWanted (Wanted.Loader k) (lineOf Ours (l .bytes) e))) ended wanted) in
-        let u : SheetUnit = record { loader = k; window = says .0 } in
-        let start : p .spot .start ≡ length b = omega (arith, ap (λ (q : Placed). q .spot .start) at) in
-        let size : length (l .bytes) ≡ p .spot .end - p .spot .start =
-        omega (arith, ap (λ (q : Placed). q .spot .start) at, ap (λ (q : Placed). q .spot .end) at) in
-        record {
-          before = r .before;
-          line = l;
-          after = r .after;
-          window = says .0;
-          split = r .split;
-          number = omega (arith, ap (λ (q : Placed). q .spot .number) at);
-          start = start;
-          bytes =
-              ap (λ (t : List ℕ). take (p .spot .end - p .spot .start) (drop (p .spot .start) t)) (around text (r .before) l (r .after) (r .split))
-              ∙ part-is b (l .bytes) (cond (l .ended) (lineFeed ∷ []) []) (joined (map spelt (r .after))) _ _ (sym start) size;
-          ended = ended;
-          says = says .1;
-          listed =
-              unit-listed text l u (subst (λ (ls : List TextLine). In l ls) (sym (r .split)) (Memᴰ·append-right (r .before) (List·Memᴰ·head refl)))
-              (subst (λ (x : Line). In u (lineUnits x)) (sym (says .1)) (List·Memᴰ·head refl));
-        }
+pub line-says : (text : List ℕ) → AllYes (lineQuestions Ours 1 [] (lines text)) → (j : ℕ) → j < length (sheetIn Ours text .units)
+    → LineOfUnit text (getD (sheetIn Ours text .units) j noUnit) (getD (spots Kind.Unit text) j noSpot)
+line-says text asked j h =
+    let found = spot-stands Kind.Unit text j (omega (arith, unit-count text asked)) in
+    let r = found .stands in
+    let l = r .line in
+    let b = joined (map spelt (r .before)) in
+    let at = r .place in
+    let s = getD (spots Kind.Unit text) j noSpot in
+    let u = getD (sheetIn Ours text .units) j noUnit in
+    let here = ap (λ (p : Placed). p .line) at in
+    let passed = each-passes Ours 1 [] (lines text) asked l
+    (subst (λ (ls : List TextLine). In l ls) (sym (r .split)) (Memᴰ·append-right (r .before) (List·Memᴰ·head refl))) in
+    let said : unitSaid l ≡ u =
+    sym (ap (λ (us : List SheetUnit). getD us j noUnit) (unit-lines text asked) ∙ said-at (keep (isOf Kind.Unit) (lines text)) j
+    ∙ ap unitSaid (sym (found .line) ∙ here)) in
+    let start : s .start ≡ length b = ap (λ (q : Spot). q .start) (found .spot) ∙ omega (arith, ap (λ (q : Placed). q .spot .start) at) in
+    let end : s .end ≡ length b + length (l .bytes) = ap (λ (q : Spot). q .end) (found .spot) ∙ omega (arith, ap (λ (q : Placed). q .spot .end) at) in
+    record {
+      before = r .before;
+      line = l;
+      after = r .after;
+      split = r .split;
+      number = ap (λ (q : Spot). q .number) (found .spot) ∙ omega (arith, ap (λ (q : Placed). q .spot .number) at);
+      start = start;
+      bytes =
+          ap (λ (t : List ℕ). take (s .end - s .start) (drop (s .start) t)) (around text (r .before) l (r .after) (r .split))
+          ∙ part-is b (l .bytes) (cond (l .ended) (lineFeed ∷ []) []) (joined (map spelt (r .after))) (s .start) (s .end - s .start) (sym start)
+          (omega (arith, start, end));
+      ended = passed .ended;
+      says = subst (λ (v : SheetUnit). lineOf Ours (l .bytes) true ≡ Line.Unit (v .loader) (v .window .first) (v .window .last)) said
+          (unit-told l passed (subst (λ (x : TextLine). T (isOf Kind.Unit x)) here (found .kind)));
+      listed = in-at noUnit (sheetIn Ours text .units) j h;
+    }

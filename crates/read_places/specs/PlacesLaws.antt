@@ -1,172 +1,204 @@
--- The laws of places: how many lines of a kind there are by the sheet's lists, and where in the text each stands.
--- Key idea: a line whose questions are all answered yes says the values of its content, so the wanted lines are counted as the units and rules that the
--- contents give. A line stands behind the lines before it as they are spelt, so its place is their length (`Standing`).
-use Prim.Native.Nat.{ℕ, suc, _+_, _≤_, _<_}
+-- The laws of places: the lines of a kind are those that say the sheet's units, or its rules, one by one; and where in the text each stands.
+-- Key idea: a line whose questions are all answered yes has its line feed and is what its kind says, so that the lines of a kind, in order, give the units and
+-- the rules in theirs (`unit-lines`, `rule-lines`). A line stands behind the lines before it as they are spelt, so its place is their length (`Standing`).
+use Prim.Native.Nat.{ℕ, zero, suc, _+_, _-_, _≤_, _<_}
 use mathlib.Core.Path.{_≡_, refl, sym, ap, ap₂, subst, _∙_}
-use mathlib.Core.Bool.{Bool, true, false, cond}
+use mathlib.Core.Bool.{Bool, true, false, _&&_, cond}
 use mathlib.Core.Logic.{⊎-elim}
-use mathlib.Core.List.{List, [], _∷_, _++_, map, List·Memᴰ·not-nil, List·Memᴰ·cases-cons}
+use mathlib.Core.List.{List, [], _∷_, _++_, map, List·Memᴰ·head, List·Memᴰ·tail, List·Memᴰ·not-nil, List·Memᴰ·cases-cons}
 use native.Mathlib.Omega.{arith}
-use native.Mathlib.Nat.{add-zero}
+use native.Mathlib.Nat.{add-zero, sub-zero}
 use native.Mathlib.Decide.{decLt}
-use lib.Dec.{T, eqb, ltb}
-use lib.ListN.{length, getD, length-map, length-append, List·getD-eq-default}
-use borrow.Author.Tests.{lt-ltb, le-ltb}
-use Rattle.lists.specs.Lists.{every, member, consIf, keep, oneIf, howMany, joined}
-use Rattle.lists.specs.Members.{In, in-map, in-keep, in-at, right}
+use lib.Dec.{T}
+use lib.ListN.{length, getD, length-map, length-append, List·getD-map, List·getD-eq-default}
+use Rattle.lists.specs.Lists.{every, consIf, keep, joined}
+use Rattle.lists.specs.Members.{In, in-keep, in-at, right}
 use Rattle.questions.specs.Questions.{AllYes}
 use Rattle.questions.specs.FirstNoLaws.{yes-front, yes-back, yes-at}
-use Rattle.sheet.specs.Sheet.{SheetUnit, Rule, loaders, onStretch}
+use Rattle.sheet.specs.Sheet.{Rule, SheetUnit, headOr}
+use Rattle.sheet.specs.PlanLaws.{noRule}
+use Rattle.sheet.specs.WrittenLaws.{noUnit}
 use Rattle.forms.specs.Words.{lineFeed}
 use Rattle.forms.specs.Form.{printable, plain}
-use Rattle.forms.specs.Lines.{TextLine, lines, spelt}
+use Rattle.forms.specs.Lines.{TextLine, textLine, lines, spelt}
 use Rattle.forms.specs.LinesLaws.{lines-joined}
 use Rattle.forms.specs.declared.House.{House}
 use Rattle.forms.specs.declared.House.the-variants.{Ours}
-use Rattle.read_line.specs.Content.{Content, note, sheet, unit, rule, other, contentOf, bracketsMatch, numbersIn}
+use Rattle.read_form.specs.Kinds.{formOf, kindOf}
+use Rattle.read_form.specs.Grid.{sameKind}
+use Rattle.read_form.specs.declared.Kind.{Kind}
+use Rattle.read_form.specs.declared.Kind.the-variants as Kind
+use Rattle.read_line.specs.Content.{Content, formContent, contentOf, bracketsMatch, numbersIn}
 use Rattle.read_line.specs.Line.{valuesOf, said, lineOf}
-use Rattle.read_line.specs.declared.Line.{Line}
 use Rattle.read_line.specs.declared.Line.the-variants as Line
 use Rattle.read_questions.specs.Reading.{contents, isForm, unitOf, unitsIn, ruleOf, rulesIn, sheetIn, questionsOf, lineQuestions}
 use Rattle.read_questions.specs.SpanLaws.{joined-append}
-use Rattle.read_places.specs.Places.{Placed, placedAt, placedFrom, placed, wantsSheet, wantsUnit, wantsRule, isWanted, spots, noSpot}
+use Rattle.read_places.specs.Places.{Placed, placedAt, placedFrom, placed, isOf, spots, noSpot, soughtIn}
 use Rattle.read_places.specs.declared.Spot.{Spot}
-use Rattle.read_places.specs.declared.Wanted.{Wanted}
-use Rattle.read_places.specs.declared.Wanted.the-variants as Wanted
+use Rattle.read_places.specs.declared.Sought.{Sought}
+use Rattle.read_places.specs.declared.Sought.the-variants.{At, Past}
 
--- ---- what a line says
+-- ---- a line whose questions are all answered yes
 
--- a line without its line feed is refused, and so never wanted
-pub unended-unwanted : (w : Wanted) (bytes : List ℕ) → isWanted w (lineOf Ours bytes false) ≡ false
-unfolding lineOf
-unended-unwanted w bytes = go (printable bytes) (bracketsMatch (contentOf Ours bytes) bytes)
-  where
-    go : (p b : Bool) → isWanted w (cond p (cond b (Line.Refused 3) (Line.Refused 11)) (Line.Refused 2)) ≡ false
-    go true true = refl
-    go true false = refl
-    go false b = refl
+pub record Passes (h : House) (l : TextLine) : Type 0 where
+  pub ended : l .ended ≡ true
+  pub printable : printable (l .bytes) ≡ true
+  pub says : lineOf h (l .bytes) true ≡ valuesOf (contentOf h (l .bytes))
 
--- one that passes its questions says what its content is
-line-values : (h : House) (n : ℕ) (before : List Content) (l : TextLine) → AllYes (questionsOf h n before l (contentOf h (l .bytes)))
-    → lineOf h (l .bytes) (l .ended) ≡ valuesOf (contentOf h (l .bytes))
+is-true : (b : Bool) → T b → b ≡ true
+is-true true t = refl
+is-true false t = absurd t
+
+passes : (h : House) (n : ℕ) (before : List Content) (l : TextLine) → AllYes (questionsOf h n before l (contentOf h (l .bytes))) → Passes h l
 unfolding lineOf said
-line-values h n before l asked =
+passes h n before l asked =
     let yes = yes-at (questionsOf h n before l x) asked in
-    go (printable (l .bytes)) (bracketsMatch x (l .bytes)) (l .ended) (every plain (numbersIn x)) (yes 0 tt) (yes 1 tt)
-    (right (isForm x) (l .ended) (yes 2 tt)) (yes 3 tt)
+    record {
+      ended = is-true (l .ended) (right (isForm x) (l .ended) (yes 2 tt));
+      printable = is-true (printable (l .bytes)) (yes 0 tt);
+      says = go (printable (l .bytes)) (bracketsMatch x (l .bytes)) (every plain (numbersIn x)) (yes 0 tt) (yes 1 tt) (yes 3 tt);
+    }
   where
     x : Content
     x = contentOf h (l .bytes)
 
-    go : (p b e q : Bool) → T p → T b → T e → T q
-        → cond p (cond b (cond e (cond q (valuesOf x) (Line.Refused 4)) (Line.Refused 3)) (Line.Refused 11)) (Line.Refused 2) ≡ valuesOf x
-    go true true true true tp tb te tq = refl
-    go true true true false tp tb te tq = absurd tq
-    go true true false q tp tb te tq = absurd te
-    go true false e q tp tb te tq = absurd tb
-    go false b e q tp tb te tq = absurd tp
+    go : (p b q : Bool) → T p → T b → T q
+        → cond p (cond b (cond q (valuesOf x) (Line.Refused 4)) (Line.Refused 11)) (Line.Refused 2) ≡ valuesOf x
+    go true true true tp tb tq = refl
+    go true true false tp tb tq = absurd tq
+    go true false q tp tb tq = absurd tb
+    go false b q tp tb tq = absurd tp
 
-placed-values : (n at m : ℕ) (before : List Content) (ls : List TextLine) → AllYes (lineQuestions Ours m before ls)
-    → map (λ p. p .says) (placedFrom n at ls) ≡ map valuesOf (contents Ours ls)
-unfolding placedFrom contents lineQuestions
-placed-values n at m before [] asked = refl
-placed-values n at m before (l ∷ ls) asked =
-    let x = contentOf Ours (l .bytes) in
-    let now = questionsOf Ours m before l x in
-    let later = lineQuestions Ours (suc m) (before ++ (x ∷ [])) ls in
-    ap₂ (λ y ys. y ∷ ys) (line-values Ours m before l (yes-front now later asked))
-    (placed-values (suc n) (at + length (spelt l)) (suc m) (before ++ (x ∷ [])) ls (yes-back now later asked))
+pub each-passes : (h : House) (n : ℕ) (before : List Content) (ls : List TextLine) → AllYes (lineQuestions h n before ls)
+    → (l : TextLine) → In l ls → Passes h l
+unfolding lineQuestions
+each-passes h n before [] asked l m = absurd (List·Memᴰ·not-nil m)
+each-passes h n before (k ∷ ls) asked l m =
+    let x = contentOf h (k .bytes) in
+    let now = questionsOf h n before k x in
+    let later = lineQuestions h (suc n) (before ++ (x ∷ [])) ls in
+    ⊎-elim (λ e. subst (Passes h) (sym e) (passes h n before k (yes-front now later asked)))
+    (each-passes h (suc n) (before ++ (x ∷ [])) ls (yes-back now later asked) l) (List·Memᴰ·cases-cons m)
 
--- ---- how many are wanted
+-- ---- the lines of a kind
 
-keep-length : {A : Type 0} (t : A → Bool) (xs : List A) → length (keep t xs) ≡ howMany t xs
-keep-length t [] = refl
-keep-length t (x ∷ xs) = go (t x) (keep-length t xs)
+-- what a line gives, where it is of a kind
+module _ {A : Type 0} (k : Kind) (f : Content → List A) (g : TextLine → A) where
+  abbrev pub Gives : TextLine → Type 0
+  Gives l = f (contentOf Ours (l .bytes)) ≡ cond (isOf k l) (g l ∷ []) []
+
+  given : (ls : List TextLine) → ((l : TextLine) → In l ls → Gives l) → joined (map f (contents Ours ls)) ≡ map g (keep (isOf k) ls)
+  unfolding contents
+  given [] each = refl
+  given (l ∷ ls) each =
+      ap₂ (λ (xs ys : List A). xs ++ ys) (each l (List·Memᴰ·head refl)) (given ls (λ x m. each x (List·Memᴰ·tail m))) ∙ go (isOf k l)
+    where
+      go : (b : Bool) → cond b (g l ∷ []) [] ++ map g (keep (isOf k) ls) ≡ map g (consIf b l (keep (isOf k) ls))
+      go true = refl
+      go false = refl
+
+-- the unit and the rule that a line says
+abbrev pub unitSaid : TextLine → SheetUnit
+unitSaid l = headOr noUnit (unitOf (contentOf Ours (l .bytes)))
+
+abbrev pub ruleSaid : TextLine → Rule
+ruleSaid l = headOr noRule (ruleOf (contentOf Ours (l .bytes)))
+
+module _ (l : TextLine) (p : Passes Ours l) where
+  pub kind-is : (k : Kind) → isOf k l ≡ sameKind (formOf Ours (l .bytes)) k
+  unfolding kindOf
+  kind-is k = ap₂ (λ (e q : Bool). e && sameKind (cond q (formOf Ours (l .bytes)) Kind.Unprintable) k) (p .ended) (p .printable)
+
+  unit-given : Gives Kind.Unit unitOf unitSaid l
+  unfolding contentOf
+  unit-given = go (formOf Ours (l .bytes)) ∙ ap (λ (b : Bool). cond b (unitSaid l ∷ []) []) (sym (kind-is Kind.Unit))
+    where
+      go : (q : Kind) → let us = unitOf (formContent Ours q (l .bytes)) in us ≡ cond (sameKind q Kind.Unit) (headOr noUnit us ∷ []) []
+      go Kind.Unprintable = refl
+      go Kind.Note = refl
+      go Kind.Sheet = refl
+      go Kind.Unit = refl
+      go Kind.Rule = refl
+      go Kind.Other = refl
+
+  rule-given : Gives Kind.Rule ruleOf ruleSaid l
+  unfolding contentOf
+  rule-given = go (formOf Ours (l .bytes)) ∙ ap (λ (b : Bool). cond b (ruleSaid l ∷ []) []) (sym (kind-is Kind.Rule))
+    where
+      go : (q : Kind) → let rs = ruleOf (formContent Ours q (l .bytes)) in rs ≡ cond (sameKind q Kind.Rule) (headOr noRule rs ∷ []) []
+      go Kind.Unprintable = refl
+      go Kind.Note = refl
+      go Kind.Sheet = refl
+      go Kind.Unit = refl
+      go Kind.Rule = refl
+      go Kind.Other = refl
+
+-- ---- the spots of a kind
+
+lines-placed : (n at : ℕ) (ls : List TextLine) → map (λ p. p .line) (placedFrom n at ls) ≡ ls
+unfolding placedFrom
+lines-placed n at [] = refl
+lines-placed n at (l ∷ ls) = ap (λ (m : List TextLine). l ∷ m) (lines-placed (suc n) (at + length (spelt l)) ls)
+
+keep-map : {A B : Type 0} (t : B → Bool) (f : A → B) (xs : List A) → map f (keep (λ x. t (f x)) xs) ≡ keep t (map f xs)
+keep-map t f [] = refl
+keep-map {B = B} t f (x ∷ xs) = go (t (f x)) (keep-map t f xs)
   where
-    go : (b : Bool) → length (keep t xs) ≡ howMany t xs → length (consIf b x (keep t xs)) ≡ oneIf b + howMany t xs
-    go true h = omega arith
-    go false h = omega arith
+    go : (b : Bool) → map f (keep (λ y. t (f y)) xs) ≡ keep t (map f xs) → map f (consIf b x (keep (λ y. t (f y)) xs)) ≡ consIf b (f x) (keep t (map f xs))
+    go true e = ap (λ (ys : List B). f x ∷ ys) e
+    go false e = e
 
-howMany-map : {A B : Type 0} (t : B → Bool) (f : A → B) (xs : List A) → howMany t (map f xs) ≡ howMany (λ x. t (f x)) xs
-howMany-map t f [] = refl
-howMany-map t f (x ∷ xs) = ap (λ (n : ℕ). oneIf (t (f x)) + n) (howMany-map t f xs)
+-- the lines of a kind as they are placed
+abbrev keptOf : Kind → List ℕ → List Placed
+keptOf k text = keep (λ p. isOf k (p .line)) (placed text)
 
-howMany-all : {A : Type 0} (xs : List A) → howMany (λ _. true) xs ≡ length xs
-howMany-all [] = refl
-howMany-all (x ∷ xs) = omega (arith, howMany-all xs)
+kept-lines : (k : Kind) (text : List ℕ) → map (λ p. p .line) (keptOf k text) ≡ keep (isOf k) (lines text)
+kept-lines k text = keep-map (isOf k) (λ (p : Placed). p .line) (placed text) ∙ ap (keep (isOf k)) (lines-placed 1 0 (lines text))
 
--- entries that pass are as many as the entries, of what each gives, that pass another test
-howMany-joined : {A B : Type 0} (s : A → Bool) (t : B → Bool) (f : A → List B)
-    → ((x : A) (ys : List B) → howMany t (f x ++ ys) ≡ oneIf (s x) + howMany t ys) → (xs : List A) → howMany s xs ≡ howMany t (joined (map f xs))
-howMany-joined s t f each [] = refl
-howMany-joined s t f each (x ∷ xs) = omega (arith, each x (joined (map f xs)), howMany-joined s t f each xs)
+pub spots-counted : (k : Kind) (text : List ℕ) → length (spots k text) ≡ length (keep (isOf k) (lines text))
+unfolding spots
+spots-counted k text =
+    length-map (keptOf k text) (λ p. p .spot) ∙ sym (length-map (keptOf k text) (λ p. p .line)) ∙ ap length (kept-lines k text)
 
-member-count : {A : Type 0} (k : ℕ) (f : A → ℕ) (xs : List A) → member k (map f xs) ≡ ltb 0 (howMany (λ x. eqb (f x) k) xs)
-member-count k f [] = refl
-member-count k f (x ∷ xs) = go (eqb (f x) k) (member-count k f xs)
-  where
-    go : (b : Bool) → member k (map f xs) ≡ ltb 0 (howMany (λ y. eqb (f y) k) xs)
-        → cond b true (member k (map f xs)) ≡ ltb 0 (oneIf b + howMany (λ y. eqb (f y) k) xs)
-    go true h = sym (lt-ltb 0 (1 + howMany (λ y. eqb (f y) k) xs) (omega arith))
-    go false h = let e : 0 + howMany (λ y. eqb (f y) k) xs ≡ howMany (λ y. eqb (f y) k) xs = omega arith in h ∙ ap (ltb 0) (sym e)
+-- ---- what is found at a place
+
+pub sought-at : (ss : List Spot) (j : ℕ) → j < length ss → soughtIn ss j ≡ At (getD ss j noSpot)
+sought-at [] j h = absurd (omega arith)
+sought-at (s ∷ ss) zero h = refl
+sought-at (s ∷ ss) (suc j) h = sought-at ss j (omega arith)
+
+pub sought-past : (ss : List Spot) (j : ℕ) → length ss ≤ j → soughtIn ss j ≡ Past (j - length ss)
+sought-past [] j h = ap Past (sym (sub-zero j))
+sought-past (s ∷ ss) zero h = absurd (omega arith)
+sought-past (s ∷ ss) (suc j) h = let e : j - length ss ≡ suc j - suc (length ss) = omega arith in sought-past ss j (omega arith) ∙ ap Past e
+
+abbrev pub numberIn : Sought → ℕ
+numberIn (At s) = s .number
+numberIn (Past j) = 0
+
+pub sought-number : (ss : List Spot) (j : ℕ) → numberIn (soughtIn ss j) ≡ getD ss j noSpot .number
+sought-number [] j = refl
+sought-number (s ∷ ss) zero = refl
+sought-number (s ∷ ss) (suc j) = sought-number ss j
+
+-- ---- the units and the rules
 
 -- a text whose lines pass all questions
 module _ (text : List ℕ) (asked : AllYes (lineQuestions Ours 1 [] (lines text))) where
-  pub placed-says : map (λ p. p .says) (placed text) ≡ map valuesOf (contents Ours (lines text))
-  placed-says = placed-values 1 0 1 [] (lines text) asked
-
-  -- what is wanted is given by the contents, line by line
-  spots-counted : {A : Type 0} (w : Wanted) (t : A → Bool) (f : Content → List A)
-      → ((x : Content) (ys : List A) → howMany t (f x ++ ys) ≡ oneIf (isWanted w (valuesOf x)) + howMany t ys)
-      → length (spots w text) ≡ howMany t (joined (map f (contents Ours (lines text))))
-  unfolding spots
-  spots-counted w t f each =
-      length-map (keep (λ p. isWanted w (p .says)) (placed text)) (λ p. p .spot)
-      ∙ keep-length (λ p. isWanted w (p .says)) (placed text)
-      ∙ sym (howMany-map (isWanted w) (λ p. p .says) (placed text))
-      ∙ ap (howMany (isWanted w)) placed-says
-      ∙ howMany-map (isWanted w) valuesOf (contents Ours (lines text))
-      ∙ howMany-joined (λ x. isWanted w (valuesOf x)) t f each (contents Ours (lines text))
-
-  -- where units are wanted by a test and nothing else is, and the same of rules
-  units-counted : (w : Wanted) (t : SheetUnit → Bool) → wantsSheet w ≡ false → ((u : SheetUnit) → wantsUnit w (u .loader) ≡ t u)
-      → ((a b : ℕ) → wantsRule w a b ≡ false) → length (spots w text) ≡ howMany t (sheetIn Ours text .units)
+  -- the j-th line of the kind says the j-th unit, or the j-th rule
+  pub unit-lines : sheetIn Ours text .units ≡ map unitSaid (keep (isOf Kind.Unit) (lines text))
   unfolding sheetIn unitsIn
-  units-counted w t no-sheet by-unit no-rule = spots-counted w t unitOf each
-    where
-      each : (x : Content) (us : List SheetUnit) → howMany t (unitOf x ++ us) ≡ oneIf (isWanted w (valuesOf x)) + howMany t us
-      each note us = omega arith
-      each (sheet ds p) us = omega (arith, ap oneIf no-sheet)
-      each (unit ds k f l) us = omega (arith, ap oneIf (by-unit (record { loader = k; window = record { first = f; last = l } })))
-      each (rule ds a b lo hi) us = omega (arith, ap oneIf (no-rule a b))
-      each other us = omega arith
+  unit-lines = given Kind.Unit unitOf unitSaid (lines text) (λ l m. unit-given l (each-passes Ours 1 [] (lines text) asked l m))
 
-  rules-counted : (w : Wanted) (t : Rule → Bool) → wantsSheet w ≡ false → ((k : ℕ) → wantsUnit w k ≡ false)
-      → ((r : Rule) → wantsRule w (r .from) (r .to) ≡ t r) → length (spots w text) ≡ howMany t (sheetIn Ours text .rules)
+  pub rule-lines : sheetIn Ours text .rules ≡ map ruleSaid (keep (isOf Kind.Rule) (lines text))
   unfolding sheetIn rulesIn
-  rules-counted w t no-sheet no-unit by-rule = spots-counted w t ruleOf each
-    where
-      each : (x : Content) (rs : List Rule) → howMany t (ruleOf x ++ rs) ≡ oneIf (isWanted w (valuesOf x)) + howMany t rs
-      each note rs = omega arith
-      each (sheet ds p) rs = omega (arith, ap oneIf no-sheet)
-      each (unit ds k f l) rs = omega (arith, ap oneIf (no-unit k))
-      each (rule ds a b lo hi) rs = omega (arith, ap oneIf (by-rule (record { from = a; to = b; low = lo; high = hi })))
-      each other rs = omega arith
+  rule-lines = given Kind.Rule ruleOf ruleSaid (lines text) (λ l m. rule-given l (each-passes Ours 1 [] (lines text) asked l m))
 
-  pub unit-count : length (spots Wanted.Unit text) ≡ length (sheetIn Ours text .units)
-  unit-count = units-counted Wanted.Unit (λ u. true) refl (λ u. refl) (λ a b. refl) ∙ howMany-all (sheetIn Ours text .units)
+  pub unit-count : length (spots Kind.Unit text) ≡ length (sheetIn Ours text .units)
+  unit-count = spots-counted Kind.Unit text ∙ sym (ap length unit-lines ∙ length-map (keep (isOf Kind.Unit) (lines text)) unitSaid)
 
-  pub rule-count : length (spots Wanted.Rule text) ≡ length (sheetIn Ours text .rules)
-  rule-count = rules-counted Wanted.Rule (λ r. true) refl (λ k. refl) (λ r. refl) ∙ howMany-all (sheetIn Ours text .rules)
-
-  pub stretch-count : (f t : ℕ) → length (spots (Wanted.Stretch f t) text) ≡ howMany (onStretch f t) (sheetIn Ours text .rules)
-  stretch-count f t = rules-counted (Wanted.Stretch f t) (onStretch f t) refl (λ k. refl) (λ r. refl)
-
-  -- a loader number is one of the sheet's exactly where a line has it
-  pub loader-found : (k : ℕ) → member k (loaders (sheetIn Ours text)) ≡ ltb 0 (length (spots (Wanted.Loader k) text))
-  loader-found k =
-      member-count k (λ u. u .loader) (sheetIn Ours text .units)
-      ∙ ap (ltb 0) (sym (units-counted (Wanted.Loader k) (λ u. eqb (u .loader) k) refl (λ u. refl) (λ a b. refl)))
+  pub rule-count : length (spots Kind.Rule text) ≡ length (sheetIn Ours text .rules)
+  rule-count = spots-counted Kind.Rule text ∙ sym (ap length rule-lines ∙ length-map (keep (isOf Kind.Rule) (lines text)) ruleSaid)
 
 -- ---- where a line stands
 
@@ -210,38 +242,42 @@ pub around : (text : List ℕ) (before : List TextLine) (line : TextLine) (after
     → text ≡ joined (map spelt before) ++ (spelt line ++ joined (map spelt after))
 around text before line after e = sym (lines-joined text) ∙ ap (λ (ls : List TextLine). joined (map spelt ls)) e ∙ joined-append spelt before (line ∷ after)
 
-module _ (w : Wanted) (text : List ℕ) (j : ℕ) where
-  -- a spot that there is: a wanted line of the text stands there
-  pub spot-stands : j < length (spots w text)
-      → (p : Placed) × (getD (spots w text) j noSpot ≡ p .spot) × T (isWanted w (p .says)) × Standing 1 0 (lines text) p
+-- no line of a text
+abbrev pub noLine : TextLine
+noLine = textLine [] false
+
+abbrev noPlace : Placed
+noPlace = record { spot = noSpot; line = noLine }
+
+-- at the spot s: the j-th line of the kind k, where it stands
+pub record Spotted (k : Kind) (text : List ℕ) (j : ℕ) (s : Spot) : Type 0 where
+  pub placed : Placed
+  pub spot : s ≡ placed .spot
+  pub line : placed .line ≡ getD (keep (isOf k) (lines text)) j noLine
+  pub kind : T (isOf k (placed .line))
+  pub stands : Standing 1 0 (lines text) placed
+
+module _ (k : Kind) (text : List ℕ) (j : ℕ) where
+  pub spot-stands : j < length (spots k text) → Spotted k text j (getD (spots k text) j noSpot)
   unfolding spots
   spot-stands h =
-      let found = in-map (λ (p : Placed). p .spot) (getD (spots w text) j noSpot) (keep (λ p. isWanted w (p .says)) (placed text))
-      (in-at noSpot (spots w text) j h) in
-      let p = found .0 in
-      let kept = in-keep (λ (p : Placed). isWanted w (p .says)) p (placed text) (found .1) in
-      (p, found .2, kept .1, stands 1 0 (lines text) p (kept .0))
+      let p = getD (keptOf k text) j noPlace in
+      let kept = in-keep (λ (p : Placed). isOf k (p .line)) p (placed text) (in-at noPlace (keptOf k text) j (omega (arith, length-map (keptOf k text) (λ p. p .spot)))) in
+      record {
+        placed = p;
+        spot = List·getD-map (λ (p : Placed). p .spot) (keptOf k text) j noPlace;
+        line = sym (List·getD-map (λ (p : Placed). p .line) (keptOf k text) j noPlace) ∙ ap (λ (ls : List TextLine). getD ls j noLine) (kept-lines k text);
+        kind = kept .1;
+        stands = stands 1 0 (lines text) p (kept .0);
+      }
 
-  -- there is one exactly where its number is not 0
-  pub spot-found : ltb 0 (getD (spots w text) j noSpot .number) ≡ ltb j (length (spots w text))
-  spot-found =
-      elim (decLt j (length (spots w text))) [
-        | yes h ↦
-            let r = spot-stands h in
-            lt-ltb 0 (getD (spots w text) j noSpot .number)
-            (omega (arith, ap (λ (s : Spot). s .number) (r .1), ap (λ (p : Placed). p .spot .number) (r .3 .place)))
-            ∙ sym (lt-ltb j (length (spots w text)) h)
-        | no g ↦
-            ap (λ (s : Spot). ltb 0 (s .number)) (List·getD-eq-default (spots w text) noSpot (omega arith))
-            ∙ sym (le-ltb j (length (spots w text)) (omega arith))
-      ]
-
-  pub spot-inside : let s = getD (spots w text) j noSpot in (s .start ≤ s .end) × (s .end ≤ length text)
+  pub spot-inside : let s = getD (spots k text) j noSpot in (s .start ≤ s .end) × (s .end ≤ length text)
   spot-inside =
-      elim (decLt j (length (spots w text))) [
-        | yes h ↦ subst (λ (s : Spot). (s .start ≤ s .end) × (s .end ≤ length text)) (sym (spot-stands h .1)) (inside (spot-stands h .0) (spot-stands h .3))
+      elim (decLt j (length (spots k text))) [
+        | yes h ↦ let r = spot-stands h in
+            subst (λ (s : Spot). (s .start ≤ s .end) × (s .end ≤ length text)) (sym (r .spot)) (inside (r .placed) (r .stands))
         | no g ↦
-            subst (λ (s : Spot). (s .start ≤ s .end) × (s .end ≤ length text)) (sym (List·getD-eq-default (spots w text) noSpot (omega arith))) (omega arith)
+            subst (λ (s : Spot). (s .start ≤ s .end) × (s .end ≤ length text)) (sym (List·getD-eq-default (spots k text) noSpot (omega arith))) (omega arith)
       ]
     where
       inside : (p : Placed) → Standing 1 0 (lines text) p → (p .spot .start ≤ p .spot .end) × (p .spot .end ≤ length text)

@@ -1,119 +1,115 @@
-// Where in a text of our own format the lines stand that say something: a scan of its own, so that reading keeps no places.
+// Where in a text of our own format the lines of a kind stand: a scan of its own, so that reading keeps no places. It reads no number, and shares no more
+// with reading than the step over one byte, so that the compiler still puts the line reader into reading's pass.
 ghost use mathlib.Core.Path.{_≡_};
+ghost use Prim.Native.Nat.{_<_};
 ghost use lib.ListN.{getD};
+ghost use Rattle.forms.specs.Lines.{wholeLines};
+ghost use Rattle.forms.specs.LinesLaws.{lineEnd};
 ghost use Rattle.forms.specs.declared.House.the-variants.{Ours};
-ghost use Rattle.read_form.specs.Grid.{Tables};
-ghost use Rattle.read_places.specs.Places.{wantsSheet, wantsUnit, wantsRule, isWanted, spots, noSpot};
-use forms::House;
+ghost use Rattle.read_form.specs.Kinds.{kindOf};
+ghost use Rattle.read_form.specs.Grid.{code, Tables};
+ghost use Rattle.read_scan.specs.Scan.{lineAt};
+ghost use Rattle.read_places.specs.Places.{spots, noSpot, sought};
+use read_form::ENDS;
 use read_form::Grid;
-use read_line::Line;
+use read_form::Kind;
+use read_form::START;
 
-// Where a line of a text stands: its number, from 1, its first byte and the byte past its last, less the line feed. All 0 where there is no such line.
+// Where a line of a text stands: its number, from 1, its first byte and the byte past its last, less the line feed.
 pub struct Spot {
     pub number: usize,
     pub start: usize,
     pub end: usize,
 }
 
-// Which lines are looked for: the sheet form, units, rules, the unit with a loader number, the rules on a stretch by its first and last slot.
-pub enum Wanted {
-    Sheet,
-    Unit,
-    Rule,
-    Loader(u16),
-    Stretch(u16, u16),
+// Where the line that is looked for stands; or, past the last line of its kind, by how many.
+pub enum Sought {
+    At(Spot),
+    Past(usize),
 }
 
-// Is the sheet form wanted?
-fn wants_sheet(wanted: Wanted) -> bool
-    ensures { λ r. ⌜ r ≡ wantsSheet wanted ⌝ }
+// The place of a line's feed, and the state past it, which is the code of the line's kind.
+struct Ended {
+    place: usize,
+    state: usize,
+}
+
+// The state in which a line of a kind ends.
+fn code_of(kind: Kind) -> usize
+    ensures { λ r. ⌜ r ≡ code kind ⌝ }
 {
-    match wanted {
-        Wanted::Sheet => true,
-        Wanted::Unit => false,
-        Wanted::Rule => false,
-        Wanted::Loader(_) => false,
-        Wanted::Stretch(_, _) => false,
+    match kind {
+        Kind::Unprintable => 0,
+        Kind::Note => 1,
+        Kind::Sheet => 2,
+        Kind::Unit => 3,
+        Kind::Rule => 4,
+        Kind::Other => 5,
     }
 }
 
-// Is a unit with this loader number wanted?
-fn wants_unit(wanted: Wanted, loader: u16) -> bool
-    ensures { λ r. ⌜ r ≡ wantsUnit wanted loader ⌝ }
+// The line that starts at a place of a text, before its last line feed.
+fn to_end(text: &[u8], at: usize, grid: &Grid, table: &[u8; 256]) -> Ended
+    requires { ⌜ (at < wholeLines (now text)) × Tables Ours (now grid) (now table) ⌝ }
+    ensures { λ r. ⌜ r .place ≡ lineEnd (now (text .entry)) at ⌝ }
+    ensures { λ r. ⌜ r .state ≡ code (kindOf Ours (lineAt (now (text .entry)) at)) ⌝ }
 {
-    match wanted {
-        Wanted::Sheet => false,
-        Wanted::Unit => true,
-        Wanted::Rule => false,
-        Wanted::Loader(number) => loader == number,
-        Wanted::Stretch(_, _) => false,
+    let mut state = START;
+    let mut i = at;
+    while ENDS <= state {
+        state = read_form::next_state(grid, table, state, text[i]);
+        i += 1;
+    }
+    Ended {
+        place: i - 1,
+        state,
     }
 }
 
-// Is a rule on this stretch wanted?
-fn wants_rule(wanted: Wanted, from: u16, to: u16) -> bool
-    ensures { λ r. ⌜ r ≡ wantsRule wanted from to ⌝ }
-{
-    match wanted {
-        Wanted::Sheet => false,
-        Wanted::Unit => false,
-        Wanted::Rule => true,
-        Wanted::Loader(_) => false,
-        Wanted::Stretch(first, last) => from == first && to == last,
-    }
-}
-
-// Is a line that says this wanted?
-fn is_wanted(wanted: Wanted, line: Line) -> bool
-    ensures { λ r. ⌜ r ≡ isWanted wanted line ⌝ }
-{
-    match line {
-        Line::Refused(_) => false,
-        Line::Note => false,
-        Line::Sheet(_) => wants_sheet(wanted),
-        Line::Unit(loader, _, _) => wants_unit(wanted, loader),
-        Line::Rule(from, to, _, _) => wants_rule(wanted, from, to),
-    }
-}
-
-// The j-th wanted line, from 0, with the tables of our own format. Only the lines up to the last line feed are looked at: bytes past it are a line that is
-// refused, and so never wanted.
-fn search(text: &[u8], wanted: Wanted, j: usize, grid: &Grid, table: &[u8; 256]) -> Spot
+// The j-th line of a kind, from 0, with the tables of our own format. Only the lines up to the last line feed are looked at.
+fn search(text: &[u8], kind: Kind, j: usize, grid: &Grid, table: &[u8; 256]) -> Sought
     requires { ⌜ Tables Ours (now grid) (now table) ⌝ }
-    ensures { λ r. ⌜ r ≡ getD (spots wanted (now (text .entry))) j noSpot ⌝ }
+    ensures { λ r. ⌜ r ≡ sought kind (now (text .entry)) j ⌝ }
 {
     let whole = read_line::lines_end(text);
+    let wanted = code_of(kind);
     let mut at: usize = 0;
     let mut n: usize = 1;
     let mut left = j;
     while at < whole {
-        let found = read_line::line_at(House::Ours, text, at, grid, table);
-        let line = found.line;
-        if is_wanted(wanted, line) {
+        let line = to_end(text, at, grid, table);
+        if line.state == wanted {
             if left == 0 {
-                return Spot {
+                return Sought::At(Spot {
                     number: n,
                     start: at,
-                    end: found.next - 1,
-                };
+                    end: line.place,
+                });
             }
             left -= 1;
         }
-        at = found.next;
+        at = line.place + 1;
         n += 1;
     }
-    Spot {
-        number: 0,
-        start: 0,
-        end: 0,
-    }
+    Sought::Past(left)
 }
 
-// The j-th line, from 0, of a text of our own format that is wanted.
-pub fn find(text: &[u8], wanted: Wanted, j: usize) -> Spot
-    ensures { λ r. ⌜ r ≡ getD (spots wanted (now (text .entry))) j noSpot ⌝ }
+// The j-th line of a kind, from 0, in a text of our own format.
+pub fn seek(text: &[u8], kind: Kind, j: usize) -> Sought
+    ensures { λ r. ⌜ r ≡ sought kind (now (text .entry)) j ⌝ }
 {
     let grid = grid_ours::table();
     let table = read_form::class_table();
-    search(text, wanted, j, &grid, &table)
+    search(text, kind, j, &grid, &table)
+}
+
+// Its number, from 1; 0 where there is no such line.
+pub fn line_number(text: &[u8], kind: Kind, j: usize) -> usize
+    ensures { λ r. ⌜ r ≡ getD (spots kind (now (text .entry))) j noSpot .number ⌝ }
+{
+    let found = seek(text, kind, j);
+    match found {
+        Sought::At(spot) => spot.number,
+        Sought::Past(_) => 0,
+    }
 }

@@ -39,22 +39,22 @@ module _ (t : List ℕ) (i : ℕ) (f : hasFeed (drop i t) ≡ true) where
   ]
 
   -- the line feed itself
-  line-done : getD t i 0 ≡ lineFeed → lineAt t i ≡ []
+  pub line-done : getD t i 0 ≡ lineFeed → lineAt t i ≡ []
   unfolding firstLine
   line-done e = rw (drop-cons t i 0 feed-here) (simp (eq-eqb (getD t i 0) lineFeed e))
 
   module _ (e : eqb (getD t i 0) lineFeed ≡ false) where
-    line-byte : lineAt t i ≡ getD t i 0 ∷ lineAt t (i + 1)
+    pub line-byte : lineAt t i ≡ getD t i 0 ∷ lineAt t (i + 1)
     unfolding firstLine
     line-byte = rw (add-one i) (rw (drop-cons t i 0 feed-here) (simp e))
 
-    feed-on : hasFeed (drop (i + 1) t) ≡ true
+    pub feed-on : hasFeed (drop (i + 1) t) ≡ true
     unfolding hasFeed
     feed-on =
         let k : cond (eqb (getD t i 0) lineFeed) true (hasFeed (drop (suc i) t)) ≡ true = sym (ap hasFeed (drop-cons t i 0 feed-here)) ∙ f in
         rw (add-one i) (sym (ap (λ (b : Bool). cond b true (hasFeed (drop (suc i) t))) e) ∙ k)
 
-    end-on : lineEnd t (i + 1) ≡ lineEnd t i
+    pub end-on : lineEnd t (i + 1) ≡ lineEnd t i
     end-on = omega (arith, ap length line-byte)
 
 -- no digit is a line feed, so a number ends before it

@@ -13,7 +13,7 @@ use Rattle.merge_questions.specs.Merging.{unitQuestions, ruleQuestions}
 use Rattle.merge_stretches.specs.declared.Stretches.{Stretches}
 use Rattle.merge_stretches.specs.Stretches.{verdictBy, CountIs}
 use Rattle.merge_both.specs.Both.{BothRead}
-use Rattle.merge_both.proofs.BothLaws.{numbers-fit, units-few, units-asked, from-long, to-long, low-long, high-long, all-rules, second-lines}
+use Rattle.merge_both.proofs.BothLaws.{numbers-fit, units-few, units-asked, from-long, to-long, low-long, high-long, all-rules}
 use Rattle.merge_both.proofs.BothLaws.{rules-asked, refused-units, refused-rules, merged-as}
 use Rattle.merge_both.proofs.ask_both.Statement.{statement}
 use Rattle.merge_both.proofs.ask_both.Tie as tie
@@ -42,7 +42,7 @@ abbrev room : tie.Start → Columns
 room z = let a = z .args in columns (a .froms .now) (a .tos .now) (a .lows .now) (a .highs .now)
 
 abbrev Is : tie.Start → WrittenSheet → WrittenSheet → Type 0
-Is z wa wb = let a = z .args in BothRead wa wb (a .a) (a .b) (a .two .now) (a .numbers .now) (given z) (room z)
+Is z wa wb = let a = z .args in BothRead wa wb (a .a) (a .b) (a .numbers .now) (given z) (room z)
 
 -- what is required gives two such sheets
 read : (z : tie.Start) → Is z (z .pre .0) (z .pre .1 .0)
@@ -58,43 +58,43 @@ at-rules c = begun (units-call (c .before))
 ones-long : tie.Need-slice-aggregate-ask-units
 ones-long c =
     let z = at-units c in
-    sym (length-take-le (z .args .a .units) (z .args .numbers .now) (omega (arith, numbers-fit _ _ _ _ _ _ _ _ (read z))))
+    sym (length-take-le (z .args .a .units) (z .args .numbers .now) (omega (arith, numbers-fit _ _ _ _ _ _ _ (read z))))
 
 ask-rules-requires : tie.Need-ask-rules-requires
 ask-rules-requires c κs =
     let z = at-rules (c .before .before .before .before .before .before .before) in
     let h = read z in
-    let from = from-long _ _ _ _ _ _ _ _ h in
+    let from = from-long _ _ _ _ _ _ _ h in
     let rooms = h .rooms in (
-      (to-long _ _ _ _ _ _ _ _ h ∙ sym from, low-long _ _ _ _ _ _ _ _ h ∙ sym from, high-long _ _ _ _ _ _ _ _ h ∙ sym from),
+      (to-long _ _ _ _ _ _ _ h ∙ sym from, low-long _ _ _ _ _ _ _ h ∙ sym from, high-long _ _ _ _ _ _ _ h ∙ sym from),
       (
         (omega (arith, from, rooms .from), omega (arith, from, rooms .to), omega (arith, from, rooms .low), omega (arith, from, rooms .high)),
-        (omega (arith, from), h .first .few-rules, second-lines _ _ _ _ _ _ _ _ h),
+        (omega (arith, from), h .first .few-rules),
       ),
     )
 
 returns : tie.Need-returns
 returns c wa wb h =
     let q = c .before .before .before .before in
-    refused-units wa wb _ _ _ _ _ _ h _ _ _ _
-    (sym (units-asked wa wb _ _ _ _ _ _ h) ∙ sym (q .ask-units .ensures) ∙ ap verdictOf (c .before .before .asked .given .1)) (c .blamed .ensures)
+    refused-units wa wb _ _ _ _ _ h _ _ _ _ _
+    (sym (units-asked wa wb _ _ _ _ _ h _) ∙ sym (q .ask-units .ensures) ∙ ap verdictOf (c .before .before .asked .given .1)) (c .blamed .ensures)
 
 -- the questions about units were all yes, and those about rules were asked of both sheets' rules
 passed : (c : tie.After-ask-rules) (wa wb : WrittenSheet) → Is (begun (units-call (told-yes c))) wa wb →
     firstNo (unitQuestions (begun (units-call (told-yes c)) .args .two .now) (wa .span) (wb .span) (loaders wa) (loaders wb)) ≡ allYes
 passed c wa wb h =
     let t = told-yes c in
-    sym (units-asked wa wb _ _ _ _ _ _ h) ∙ sym (units-call t .ask-units .ensures) ∙ ap verdictOf (t .enum-told .given .1)
+    sym (units-asked wa wb _ _ _ _ _ h _) ∙ sym (units-call t .ask-units .ensures) ∙ ap verdictOf (t .enum-told .given .1)
 
 came-to : (c : tie.After-ask-rules) (wa wb : WrittenSheet) → Is (begun (units-call (told-yes c))) wa wb →
     firstNo (ruleQuestions (begun (units-call (told-yes c)) .args .two .now) (wa .rules) (wb .rules)) ≡ verdictBy (c .ask-rules .result)
-came-to c wa wb h = sym (c .ask-rules .ensures .0 ∙ rules-asked wa wb _ _ _ _ _ _ h _ (all-rules wa wb _ _ _ _ _ _ h))
+came-to c wa wb h = sym (c .ask-rules .ensures .0 ∙ rules-asked wa wb _ _ _ _ _ h _ _ (all-rules wa wb _ _ _ _ _ h))
 
 returns-2 : tie.Need-returns-2
 returns-2 c wa wb h =
     let t = c .before .before .before .before in
     let q = rules-call t in
-    refused-rules wa wb _ _ _ _ _ _ h _ _ (passed q wa wb h) _ _ (came-to q wa wb h ∙ ap verdictBy (c .before .before .stretches .given .1)) (c .blamed2 .ensures)
+    refused-rules wa wb _ _ _ _ _ h _ _ _ (passed q wa wb h) _ _ (came-to q wa wb h ∙ ap verdictBy (c .before .before .stretches .given .1)) (c .blamed2 .ensures)
 
 -- the combined rules of the same rules
 front-of : (before now : Columns) (rs all : List Rule) (k : ℕ) → rs ≡ all → AtFront (mergedRules rs) k before now → AtFront (mergedRules all) k before now
@@ -108,10 +108,10 @@ returns-3 c wa wb h =
     let q = rules-call (c .before .before .before) in
     let e = q .ask-rules .ensures .1 in
     let is = c .before .stretches2 .given .1 in
-    let rs = all-rules wa wb _ _ _ _ _ _ h in
+    let rs = all-rules wa wb _ _ _ _ _ h in
     let z = begun (units-call (told-yes q)) in
     let k = c .before .stretches2 .given .0 .0 in
-    merged-as wa wb _ _ _ _ _ _ h (room z) _ (passed q wa wb h) _ refl refl (came-to q wa wb h ∙ ap verdictBy is)
+    merged-as wa wb _ _ _ _ _ h _ (room z) _ (passed q wa wb h) _ refl refl (came-to q wa wb h ∙ ap verdictBy is)
     (front-of (room z) _ _ _ k rs (record {
       count = count-of _ _ _ is (e .0);
       froms = e .1 .0;
@@ -122,11 +122,11 @@ returns-3 c wa wb h =
 
 pub ask-both-spec : {M : Type 1} → statement M
 ask-both-spec = tie.close (tie.spec (λ c. search needs) (λ c. search needs) ones-long (λ c. search needs) (λ c. search needs) (λ c. search needs)
-    (λ c. numbers-fit _ _ _ _ _ _ _ _ (read (at-units c)))
-    (λ c κs. units-few _ _ _ _ _ _ _ _ (read (at-units (c .before)))) (λ c. search needs) (λ c κs. tt) (λ c. search needs)
-    (λ c. sym (from-long _ _ _ _ _ _ _ _ (read (at-rules c)))) (λ c. sym (to-long _ _ _ _ _ _ _ _ (read (at-rules (c .before)))))
-    (λ c. sym (low-long _ _ _ _ _ _ _ _ (read (at-rules (c .before .before)))))
-    (λ c. sym (high-long _ _ _ _ _ _ _ _ (read (at-rules (c .before .before .before)))))
+    (λ c. numbers-fit _ _ _ _ _ _ _ (read (at-units c)))
+    (λ c κs. units-few _ _ _ _ _ _ _ (read (at-units (c .before)))) (λ c. search needs) (λ c κs. tt) (λ c. search needs)
+    (λ c. sym (from-long _ _ _ _ _ _ _ (read (at-rules c)))) (λ c. sym (to-long _ _ _ _ _ _ _ (read (at-rules (c .before)))))
+    (λ c. sym (low-long _ _ _ _ _ _ _ (read (at-rules (c .before .before)))))
+    (λ c. sym (high-long _ _ _ _ _ _ _ (read (at-rules (c .before .before .before)))))
     ask-rules-requires (λ c. search needs) (λ c κs. tt)
     (λ c. search needs) returns
     (λ c. search needs) (λ c. search needs) (λ c. search needs) (λ c. search needs) returns-2

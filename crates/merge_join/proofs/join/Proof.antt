@@ -98,7 +98,7 @@ abbrev room : tie.Start → Rules.Columns
 room z = let a = z .args in Rules.columns (a .froms .now) (a .tos .now) (a .lows .now) (a .highs .now)
 
 reads-both : (c : tie.After-known-told4) → let k = second-told c in let d = second-call k in let z = start (first-told d) in let m = after-second k in
-    BothRead (sheetIn Ours (z .args .one .now)) (sheetIn Ours (z .args .two .now)) (sheet-a d) (sheet-b c) (z .args .two .now) (m .loader)
+    BothRead (sheetIn Ours (z .args .one .now)) (sheetIn Ours (z .args .two .now)) (sheet-a d) (sheet-b c) (m .loader)
     (Rules.columns (m .from) (m .to) (m .low) (m .high)) (room z)
 reads-both c =
     let k = second-told c in

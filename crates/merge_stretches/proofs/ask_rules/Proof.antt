@@ -13,7 +13,8 @@ use Rattle.sheet.specs.QuestionLaws.{rulesOf-length}
 use Rattle.merge_sheets.specs.Merge.{mergedRules}
 use Rattle.merge_rules.specs.ColumnsLaws.{front-holds}
 use Rattle.merge_questions.specs.Merging.{ruleQuestions}
-use Rattle.merge_stretches.proofs.PlaceLaws.{past-first, asked-is, part-long, lines-past, fronts-are}
+use Rattle.merge_stretches.specs.Stretches.{lastAt}
+use Rattle.merge_stretches.proofs.PlaceLaws.{past-first, asked-is, part-long, last-past, fronts-are}
 use Rattle.merge_stretches.proofs.ask_rules.Statement.{statement}
 use Rattle.merge_stretches.proofs.ask_rules.Tie as tie
 
@@ -72,11 +73,16 @@ ask-combined-requires c κs =
     let a = z .args in
     let n = k .combine .result .count in (
       part-long (a .to .now) (a .n) ∙ ap (λ (m : ℕ). m - a .n) (z .pre .0 .0) ∙ sym (part-long (a .from .now) (a .n)),
-      lines-past (a .two .now) (a .from .now) (a .to .now) (a .n) (z .pre .1 .1 .2),
       same-many n _ _ (tos-hold k) (froms-hold k),
       same-many n _ _ (lows-hold k) (froms-hold k),
       same-many n _ _ (highs-hold k) (froms-hold k),
     )
+
+-- where the last of the rules past the first's is that are on a stretch
+abbrev last : tie.Start → Rule → ℕ
+last z =
+    let a = z .args in
+    lastAt (take (length (a .from .now) - a .n) (drop (a .n) (a .from .now))) (take (length (a .to .now) - a .n) (drop (a .n) (a .to .now)))
 
 -- what was asked of the combined rules was asked of the two sheets' rules
 asked-both : (c : tie.After-ask-combined) → let z = start (combined (come-back (c .before .before .before .before .before))) in
@@ -84,9 +90,11 @@ asked-both : (c : tie.After-ask-combined) → let z = start (combined (come-back
 asked-both c =
     let k = combined (come-back (c .before .before .before .before .before)) in
     let z = start k in
+    let a = z .args in
     let e = k .combine .ensures in
     c .ask-combined .ensures
-    ∙ asked-is (z .args .two .now) (rules z) _ (z .args .n) (k .combine .result .past)
+    ∙ asked-is (a .two .now) (last z) (rules z) _ (a .n) (k .combine .result .past)
+    (last-past (a .from .now) (a .to .now) (a .low .now) (a .high .now) (z .pre .0 .0) (z .pre .0 .1) (z .pre .0 .2) (a .n))
     (fronts-are (merged k) (k .combine .result .count) (e .0) _ _ _ _ _ _ _ _ (e .1 .1 .0) (e .1 .1 .1 .0) (e .1 .1 .1 .1 .0) (e .1 .1 .1 .1 .1)) (e .1 .0) (few z)
 
 returns : tie.Need-returns

@@ -1,8 +1,0 @@
--- The tables are those of our own format.
-use Rattle.read_places.proofs.find.Statement.{statement}
-use Rattle.read_places.proofs.find.Tie as tie
-
-pub find-spec : {M : Type 1} → statement M
-find-spec = tie.close (tie.spec (λ c κs. tt) (λ c κs. tt)
-    (λ c κs. record { is-grid = c .before .before .before .table .ensures; is-classes = c .before .before .class-table .ensures })
-    (λ c. c .search .ensures))
