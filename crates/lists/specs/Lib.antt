@@ -6,3 +6,4 @@ pub mod Values
 pub mod Fill
 pub mod Slices
 pub mod First
+pub mod Last

@@ -7,7 +7,7 @@ use lib.ListN.{length}
 use borrow.Author.Tests.{lt-ltb, le-ltb}
 use denote.Ref.{RefT}
 use Rattle.read_places.specs.declared.Spot.{Spot}
-use Rattle.merge_lines.specs.Lines.{foundLine, locatedBy, PartAsked}
+use Rattle.merge_lines.specs.Lines.{foundLine, PartAsked}
 use Rattle.merge_lines.specs.LinesLaws.{Inside, found-inside}
 use Rattle.merge_lines.specs.declared.LineFound.{LineFound}
 use Rattle.merge_lines.specs.declared.LineFound.the-variants.{Refused, First, Second}

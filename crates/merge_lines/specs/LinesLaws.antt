@@ -4,7 +4,7 @@
 use Prim.Native.Nat.{ℕ, suc, _+_, _-_, _≤_}
 use mathlib.Core.Path.{_≡_, refl, sym, ap, ap₂, _∙_}
 use mathlib.Core.Bool.{Bool, true, false, _||_, cond}
-use mathlib.Core.List.{List, [], _∷_, _++_}
+use mathlib.Core.List.{List, [], _∷_, _++_, map-append}
 use native.Mathlib.Omega.{arith}
 use native.Mathlib.Nat.{zero-add}
 use lib.Dec.{eqb, ltb, leb·suc-suc}
@@ -24,6 +24,7 @@ use Rattle.read_places.specs.PlacesLaws.{unit-count, sought-at, sought-past, sp
 use Rattle.read_places.specs.declared.Sought.the-variants.{At, Past}
 use Rattle.merge_read.specs.Behind.{textQuestions}
 use Rattle.merge_read.specs.BehindLaws.{lines-asked}
+use Rattle.merge_sheets.specs.Merge.{merged}
 use Rattle.merge_questions.specs.Merging.{mergeQuestions, mergedIn, blamed, blamedSheet}
 use Rattle.merge_questions.specs.FirstLaws.{first-cons}
 use Rattle.merge_join.specs.Join.{joinReply}
@@ -125,11 +126,16 @@ module _ (one two : List ℕ) (k : ℕ) where
         ap (locatedAt one two) (place-both k a b ∙ ap (λ (c : Bool). cond c (placeIn a k) (length a + placeIn b k)) h)
         ∙ ap (inEither two) (spot-past one (first-asked one two e) k (placeIn b k))
 
+    both-loaders : loaders (mergedIn one two) ≡ a ++ b
+    unfolding merged
+    both-loaders = map-append (λ u. u .loader) (sheetIn Ours one .units) (sheetIn Ours two .units)
+
     -- the code's place among the units of both is the definition's
-    pub found-located : locatedAt one two (placeIn (a ++ b) k) ≡ foundLine one two k
+    pub found-located : (ks : List ℕ) → ks ≡ loaders (mergedIn one two) → locatedAt one two (placeIn ks k) ≡ foundLine one two k
     unfolding foundLine questionsOfLine firstNo
-    found-located =
-        go (hasLoader one k) (hasLoader two k) refl refl
+    found-located ks is =
+        ap (λ (xs : List ℕ). locatedAt one two (placeIn xs k)) (is ∙ both-loaders)
+        ∙ go (hasLoader one k) (hasLoader two k) refl refl
         ∙ ap₂ (λ (v : Verdict) (s : ℕ). foundBy v s (placeOf one two k))
         (sym (first-then (mergeQuestions one two) (ask 27 0 (hasLoader one k || hasLoader two k) ∷ []) allYes e)) (sym none-blamed)
       where

@@ -12,7 +12,7 @@ use Rattle.sheet.specs.Sheet.{Rule, WrittenSheet, loaders, onStretch, headOr}
 use Rattle.sheet.specs.PlanLaws.{noRule}
 use Rattle.forms.specs.declared.House.the-variants.{Ours}
 use Rattle.read_questions.specs.Reading.{sheetIn, ListRooms, listsFit, Reply, refused, read, concluded}
-use Rattle.merge_sheets.specs.Last.{lastPassing}
+use Rattle.lists.specs.Last.{lastPassing}
 use Rattle.merge_sheets.specs.Merge.{mergedRules, merged, crossed}
 use Rattle.merge_read.specs.Behind.{textQuestions}
 use Rattle.read_places.specs.Places.{spots, noSpot}

@@ -8,7 +8,7 @@ ghost use Rattle.lists.specs.First.{firstPlace};
 ghost use Rattle.sheet.specs.Sizes.{maxRules};
 ghost use Rattle.sheet.specs.Sheet.{Rule};
 ghost use Rattle.sheet.specs.Questions.{rulesOf};
-ghost use Rattle.merge_sheets.specs.Last.{lastPassing};
+ghost use Rattle.lists.specs.Last.{lastPassing};
 ghost use Rattle.merge_sheets.specs.Merge.{mergedRules, withRule};
 ghost use Rattle.merge_rules.specs.Columns.{Columns, columns, ruleOf, stretchAt, AtFront};
 use sheet::Sheet;

@@ -17,7 +17,7 @@ use Rattle.sheet.specs.Sheet.{Rule, onStretch}
 use Rattle.sheet.specs.PlanLaws.{noRule}
 use Rattle.sheet.specs.Questions.{rulesOf}
 use Rattle.sheet.specs.QuestionLaws.{rulesOf-length, rulesOf-at}
-use Rattle.merge_sheets.specs.Last.{lastBelow, last-same}
+use Rattle.lists.specs.Last.{lastBelow, last-same}
 use Rattle.merge_sheets.specs.Merge.{mergedRules}
 use Rattle.merge_sheets.specs.CombineLaws.{mergedRules-few}
 use Rattle.sheet.specs.WrittenLaws.{rules-back}

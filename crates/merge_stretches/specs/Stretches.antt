@@ -6,7 +6,7 @@ use lib.ListN.{length}
 use Rattle.questions.specs.Questions.{Verdict, no, allYes}
 use Rattle.slots.specs.Slots.{Slot}
 use Rattle.sheet.specs.Sheet.{Rule}
-use Rattle.merge_sheets.specs.Last.{lastPassing}
+use Rattle.lists.specs.Last.{lastPassing}
 use Rattle.merge_rules.specs.Columns.{stretchAt}
 use Rattle.merge_stretches.specs.declared.Stretches.{Stretches}
 use Rattle.merge_stretches.specs.declared.Stretches.the-variants.{No, Count}

@@ -1,6 +1,6 @@
 -- Question 12 stands at the end; only where it is answered yes too are the rooms filled.
 use Prim.Native.Nat.{ℕ}
-use mathlib.Core.Path.{_≡_, refl, sym, ap, subst, _∙_}
+use mathlib.Core.Path.{_≡_, refl, sym, ap, _∙_}
 use mathlib.Core.Bool.{true}
 use mathlib.Core.List.{List}
 use borrow.Author.Tests.{not-true, not-false}
@@ -9,10 +9,8 @@ use Rattle.read_questions.specs.Reading.{ListRooms, rooms, listsFit, read}
 use Rattle.read_rooms.specs.Rooms.{sizesOf}
 use Rattle.read_rooms.specs.ReadingLaws.{rooms-hold}
 use Rattle.merge_questions.specs.Merging.{joinedReply}
-use Rattle.merge_questions.specs.declared.Joined.{Joined}
-use Rattle.merge_questions.specs.declared.Joined.the-variants as Told
-use Rattle.merge_join.specs.Join.{joinReply, MergedAtFront, LeavesMerged}
-use Rattle.merge_join.specs.ClearedLaws.{cleared-hold}
+use Rattle.merge_join.specs.Join.{joinReply, MergedAtFront}
+use Rattle.merge_join.specs.ClearedLaws.{cleared-hold, left-of}
 use Rattle.merge.proofs.MergingLaws.{answer-no, answer-rooms, answer-read, rooms-kept, rooms-filled}
 use Rattle.merge.proofs.merge.Statement.{statement}
 use Rattle.merge.proofs.merge.Tie as tie
@@ -50,9 +48,6 @@ arrays c =
 -- of a merged sheet: its numbers, and what the arrays hold
 abbrev sheet : tie.After-known-told2 → Sheet
 sheet c = c .before .joined2 .given .0 .0
-
-left-of : (j : Joined) (s : Sheet) (one two : List ℕ) (m : ListRooms (List ℕ)) → j ≡ Told.Sheet s → LeavesMerged j one two m → MergedAtFront s one two m
-left-of j s one two m e k = subst (λ x. LeavesMerged x one two m) e k
 
 answered : (c : tie.After-known-told2) → let s = sheet c in let a = start (told c) .args in
     read (s .span) (s .units) (s .rules) ≡ joinReply (a .one .now) (a .two .now)

@@ -5,7 +5,7 @@ use mathlib.Core.Bool.{Bool}
 use Prim.Native.Nat.{ℕ, _-_, _≤_}
 use native.Mathlib.Omega.{arith}
 use lib.ListN.{length}
-use Rattle.merge_sheets.specs.Last.{lastBelow, lastPassing, last-passed, last-failed}
+use Rattle.lists.specs.Last.{lastBelow, lastPassing, last-passed, last-failed}
 use Rattle.merge_rules.specs.Columns.{stretchAt}
 use Rattle.merge_rules.proofs.StretchLaws.{same-from, other-from}
 use Rattle.merge_rules.proofs.last_on.Statement.{statement}

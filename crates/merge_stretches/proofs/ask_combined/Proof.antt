@@ -7,7 +7,7 @@ use borrow.Author.Needs.{needs}
 use Rattle.questions.specs.Questions.{no}
 use Rattle.read_form.specs.declared.Kind.the-variants as Kind
 use Rattle.sheet.specs.Sheet.{Rule}
-use Rattle.merge_sheets.specs.Last.{lastPassing}
+use Rattle.lists.specs.Last.{lastPassing}
 use Rattle.merge_rules.specs.Columns.{stretchAt}
 use Rattle.merge_questions.specs.Merging.{lineAt}
 use Rattle.merge_stretches.specs.Stretches.{lastAt}
