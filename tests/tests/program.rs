@@ -1,7 +1,6 @@
 //! The program, through pipes.
 
 use std::ffi::OsString;
-use std::fs;
 use std::io::Write;
 use std::os::unix::ffi::OsStringExt;
 use std::process::{Command, Stdio};
@@ -9,9 +8,8 @@ use std::time::Duration;
 
 use model::damage::{any_text, note_of_depth, valid, with_notes};
 use model::house::House;
-use model::program::{answer, answered_fault, asked_fault, converted, fault, line_page, merged_page, output_fault, path, run, run_with, Asked};
+use model::program::{answer, answered_fault, asked_fault, converted, fault, path, run, run_with, Asked};
 use model::random::{any_sheet, largest_sheet, small_sheet, Random, Reach};
-use model::reading::read;
 use model::sheet::Sheet;
 use model::tally::{self, Tally, CARRIES, NONE, PLAN};
 use model::{cases, effort, seed};
@@ -171,46 +169,6 @@ fn loader_numbers() {
 (slot 2 (count 1) (range 1 2))
 ";
     assert_eq!(written(text), page);
-}
-
-/// The programs that the check runs have the word, the text and the page of their folders: each text is as long as docs/ARCHITECTURE.md says
-/// where it says so, and each page is the model's.
-#[test]
-fn texts_of_the_check() {
-    let lengths = [("wave", 147), ("wave_fits", 147), ("wave_longest", 16_000), ("wave_too_long", 16_001)];
-    let mut seen = Vec::new();
-    for folder in fs::read_dir(format!("{}/crates", env!("ROOT"))).unwrap().map(|e| e.unwrap().path()) {
-        let Ok(page) = fs::read(folder.join("stdout")) else { continue };
-        let name = folder.file_name().unwrap().to_str().unwrap().to_string();
-        let words = fs::read_to_string(folder.join("args")).unwrap_or_default();
-        let words: Vec<&str> = words.split_whitespace().collect();
-        // The files of `merge` and `line` lie beside the program.
-        let file = |name: &str| fs::read(folder.join("data").join(name)).unwrap_or_else(|e| panic!("{name}: {e}"));
-        let of_files = match words[..] {
-            ["merge", one, two] => Some(merged_page(&file(one), &file(two))),
-            ["line", loader, one, two] => Some(line_page(loader.parse().unwrap(), &file(one), &file(two))),
-            _ => None,
-        };
-        if let Some(expected) = of_files {
-            assert_eq!(String::from_utf8_lossy(&page), String::from_utf8_lossy(&expected), "{name}");
-            seen.push(name);
-            continue;
-        }
-        let asked = Asked::ALL.into_iter().find(|asked| asked.words() == words).unwrap_or_else(|| panic!("{name}: {words:?}"));
-        let text = fs::read(folder.join("stdin")).unwrap();
-        if let Some((_, length)) = lengths.iter().find(|(known, _)| *known == name) {
-            assert_eq!(text.len(), *length, "{name}");
-        }
-        // What is said on standard error is not kept.
-        let said = if asked == Asked::ToPartner { converted(House::Ours, &text).1 } else { String::new() };
-        assert_eq!(output_fault(asked, &text, (&page, &said)), None, "{name}");
-        // What is read of it before its last byte has another answer.
-        if read(asked.house(), &text).is_err() {
-            assert_ne!(output_fault(asked, &text[..text.len() - 1], (&page, &said)), None, "{name}");
-        }
-        seen.push(name);
-    }
-    assert!(lengths.iter().all(|(name, _)| seen.iter().any(|s| s == name)), "{seen:?}");
 }
 
 /// Texts that come in small parts, so that the program's reads are short.

@@ -1,4 +1,0 @@
-// The program once more, which the check has turn a sheet of the partner house into ours.
-fn main() {
-    wave_pipe::run();
-}
