@@ -7,3 +7,4 @@ pub mod Fill
 pub mod Slices
 pub mod First
 pub mod Last
+pub mod FrontLaws

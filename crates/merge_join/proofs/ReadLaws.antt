@@ -18,7 +18,7 @@ use Rattle.read_questions.specs.ArrayLaws.{rooms-same, column-front, columns-mo
 use Rattle.read_questions.specs.ConcludedLaws.{Accepted, concluded-read}
 use Rattle.merge_sheets.specs.Merge.{mergedRules, merged}
 use Rattle.merge_rules.specs.Columns as Rules
-use Rattle.merge_rules.specs.ColumnsLaws.{front-is, front-holds}
+use Rattle.lists.specs.FrontLaws.{front-is, front-holds}
 use Rattle.merge_read.specs.Behind.{textQuestions, textReply, NumbersBehind}
 use Rattle.merge_both.specs.Both.{Counted, BothRead, RulesLeft, LeavesRules}
 use Rattle.merge_questions.specs.declared.Joined.{Joined}

@@ -22,7 +22,7 @@ use Rattle.merge_sheets.specs.Merge.{mergedRules}
 use Rattle.merge_sheets.specs.CombineLaws.{mergedRules-few}
 use Rattle.sheet.specs.WrittenLaws.{rules-back}
 use Rattle.merge_rules.specs.Columns.{stretchAt}
-use Rattle.merge_rules.specs.ColumnsLaws.{front-is}
+use Rattle.lists.specs.FrontLaws.{front-is}
 use Rattle.questions.specs.Questions.{firstNo}
 use Rattle.merge_questions.specs.Merging.{firstCrossed, tooManyAt, lastOn, stretchQuestions, ruleQuestions}
 use Rattle.merge_stretches.specs.Stretches.{lastAt}

@@ -3,17 +3,15 @@
 use mathlib.Core.Path.{_≡_, refl, sym, ap, _∙_, subst}
 use mathlib.Core.Bool.{_&&_}
 use mathlib.Core.List.{List, map}
-use Prim.Native.Nat.{ℕ, _≤_}
-use native.Mathlib.Omega.{arith}
+use Prim.Native.Nat.{ℕ}
 use lib.Dec.{T, eqb, eqb-refl}
-use lib.ListN.{length, take, drop, length-append, length-map}
-use lib.Seq.{take-at}
+use lib.ListN.{length, length-map}
 use Rattle.lists.specs.Members.{both}
 use Rattle.sheet.specs.Sheet.{Sheet, SheetUnit, WrittenSheet, constraints, loaders}
 use Rattle.sheet.specs.Questions.{sheetOf, listsAgree, accepted, loadersFit}
 use Rattle.sheet.specs.declared.Sheet.{Sheet as Read}
 use Rattle.read_questions.specs.Reading.{ListRooms, read}
-use Rattle.lists.specs.Lists.{onFront}
+use Rattle.lists.specs.FrontLaws.{front-is, front-holds}
 use Rattle.read_rooms.specs.Rooms.{leaves}
 use Rattle.sheet.specs.Lists.{WrittenLists, writtenLists, givenBy, unitsOf, writtenBy, agree}
 use Rattle.sheet.specs.WrittenLaws.{windows-back, units-back, rules-back}
@@ -64,13 +62,6 @@ passes-back w ok fit = record {
 }
 
 -- ---- the front of each room
-module _ {A : Type 0} (f : A → ℕ) (xs : List A) (n : ℕ) (e : n ≡ length xs) (room : List ℕ) where
-  front : take n (onFront (map f xs) room) ≡ map f xs
-  front = take-at (map f xs) (drop (length (map f xs)) room) n (length-map xs f ∙ sym e)
-
-  front-fits : n ≤ length (onFront (map f xs) room)
-  front-fits = omega (arith, e, length-map xs f, length-append (map f xs) (drop (length (map f xs)) room))
-
 module _ (w : WrittenSheet) (t : Read) (span : t .span ≡ w .span) (units : t .units ≡ length (w .units)) (rules : t .rules ≡ length (w .rules))
     (m : ListRooms (List ℕ)) where
   abbrev left : ListRooms (List ℕ)
@@ -84,25 +75,25 @@ module _ (w : WrittenSheet) (t : Read) (span : t .span ≡ w .span) (units : t .
   fronts-are =
       rw (
         span,
-        front (λ u. u .loader) (w .units) (t .units) units (m .loader),
-        front (λ v. v .first) (constraints w .units) (t .units) windows (m .first),
-        front (λ v. v .last) (constraints w .units) (t .units) windows (m .last),
-        front (λ r. r .from) (w .rules) (t .rules) rules (m .from),
-        front (λ r. r .to) (w .rules) (t .rules) rules (m .to),
-        front (λ r. r .low) (w .rules) (t .rules) rules (m .low),
-        front (λ r. r .high) (w .rules) (t .rules) rules (m .high),
+        front-is (λ u. u .loader) (w .units) (t .units) (m .loader) _ units refl,
+        front-is (λ v. v .first) (constraints w .units) (t .units) (m .first) _ windows refl,
+        front-is (λ v. v .last) (constraints w .units) (t .units) (m .last) _ windows refl,
+        front-is (λ r. r .from) (w .rules) (t .rules) (m .from) _ rules refl,
+        front-is (λ r. r .to) (w .rules) (t .rules) (m .to) _ rules refl,
+        front-is (λ r. r .low) (w .rules) (t .rules) (m .low) _ rules refl,
+        front-is (λ r. r .high) (w .rules) (t .rules) (m .high) _ rules refl,
       ) refl
 
   pub held : T (accepted (constraints w)) → T (loadersFit (loaders w)) → Held t left
   held ok fit = record {
     long = record {
-      in-loader = front-fits (λ u. u .loader) (w .units) (t .units) units (m .loader);
-      in-first = front-fits (λ v. v .first) (constraints w .units) (t .units) windows (m .first);
-      in-last = front-fits (λ v. v .last) (constraints w .units) (t .units) windows (m .last);
-      in-from = front-fits (λ r. r .from) (w .rules) (t .rules) rules (m .from);
-      in-to = front-fits (λ r. r .to) (w .rules) (t .rules) rules (m .to);
-      in-low = front-fits (λ r. r .low) (w .rules) (t .rules) rules (m .low);
-      in-high = front-fits (λ r. r .high) (w .rules) (t .rules) rules (m .high);
+      in-loader = front-holds (λ u. u .loader) (w .units) (t .units) (m .loader) _ units refl;
+      in-first = front-holds (λ v. v .first) (constraints w .units) (t .units) (m .first) _ windows refl;
+      in-last = front-holds (λ v. v .last) (constraints w .units) (t .units) (m .last) _ windows refl;
+      in-from = front-holds (λ r. r .from) (w .rules) (t .rules) (m .from) _ rules refl;
+      in-to = front-holds (λ r. r .to) (w .rules) (t .rules) (m .to) _ rules refl;
+      in-low = front-holds (λ r. r .low) (w .rules) (t .rules) (m .low) _ rules refl;
+      in-high = front-holds (λ r. r .high) (w .rules) (t .rules) (m .high) _ rules refl;
     };
     passes = subst Listed (sym fronts-are) (passes-back w ok fit);
   }

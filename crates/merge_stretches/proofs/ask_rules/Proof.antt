@@ -11,7 +11,7 @@ use Rattle.sheet.specs.Sheet.{Rule}
 use Rattle.sheet.specs.Questions.{rulesOf}
 use Rattle.sheet.specs.QuestionLaws.{rulesOf-length}
 use Rattle.merge_sheets.specs.Merge.{mergedRules}
-use Rattle.merge_rules.specs.ColumnsLaws.{front-holds}
+use Rattle.lists.specs.FrontLaws.{front-holds}
 use Rattle.merge_questions.specs.Merging.{ruleQuestions}
 use Rattle.merge_stretches.specs.Stretches.{lastAt}
 use Rattle.merge_stretches.proofs.PlaceLaws.{past-first, asked-is, part-long, last-past, fronts-are}
