@@ -3,7 +3,6 @@ use Prim.Native.Nat.{ℕ}
 use mathlib.Core.Path.{sym, ap, _∙_}
 use native.Mathlib.Omega.{arith}
 use lib.ListN.{length, getD}
-use borrow.Author.Needs.{needs}
 use Rattle.questions.specs.Questions.{no}
 use Rattle.read_form.specs.declared.Kind.the-variants as Kind
 use Rattle.sheet.specs.Sheet.{Rule}
@@ -53,5 +52,8 @@ returns-3 c =
     (omega (arith, s .first-crossed .ensures, c .before .if1 .left)) (c .if2 .left))
 
 pub ask-combined-spec : {M : Type 1} → statement M
-ask-combined-spec = tie.close (tie.spec (λ c κs. search needs) (λ c. search needs) (λ c. search needs) (λ c. search needs) (λ c. search needs)
-    (λ c κs. search needs) (λ c κs. tt) returns (λ c κs. tt) returns-2 returns-3)
+ask-combined-spec = tie.close (tie.spec
+    (λ c κs. let z = c .before .before .before .before .before .before .before in z .pre .3 ∙ sym (z .pre .2))
+    (λ c. omega arith) (λ c. c .before .if1 .taken) (λ c. omega arith)
+    (λ c. omega (arith, start (c .before .before .before) .pre .1, c .before .before .if1 .taken))
+    (λ c κs. start (c .before .before .before) .pre .0) (λ c κs. tt) returns (λ c κs. tt) returns-2 returns-3)

@@ -78,6 +78,10 @@ ask-combined-requires c κs =
       same-many n _ _ (highs-hold k) (froms-hold k),
     )
 
+-- the combining, from the answer's arms
+abbrev asked-of : tie.After-ask-combined → tie.After-combine
+asked-of q = combined (come-back (q .before .before .before .before .before))
+
 -- where the last of the rules past the first's is that are on a stretch
 abbrev last : tie.Start → Rule → ℕ
 last z =
@@ -85,10 +89,10 @@ last z =
     lastAt (take (length (a .from .now) - a .n) (drop (a .n) (a .from .now))) (take (length (a .to .now) - a .n) (drop (a .n) (a .to .now)))
 
 -- what was asked of the combined rules was asked of the two sheets' rules
-asked-both : (c : tie.After-ask-combined) → let z = start (combined (come-back (c .before .before .before .before .before))) in
+asked-both : (c : tie.After-ask-combined) → let z = start (asked-of c) in
     verdictOf (c .ask-combined .result) ≡ firstNo (ruleQuestions (z .args .two .now) (take (z .args .n) (rules z)) (drop (z .args .n) (rules z)))
 asked-both c =
-    let k = combined (come-back (c .before .before .before .before .before)) in
+    let k = asked-of c in
     let z = start k in
     let a = z .args in
     let e = k .combine .ensures in
@@ -100,23 +104,30 @@ asked-both c =
 returns : tie.Need-returns
 returns c =
     let q = c .before .before .before in
-    let k = combined (come-back (q .before .before .before .before .before)) in
+    let k = asked-of q in
     (sym (ap verdictOf (c .before .asked .given .1)) ∙ asked-both q, (tt, k .combine .ensures .1 .1))
 
 returns-2 : tie.Need-returns-2
 returns-2 c =
     let q = c .before .before in
-    let k = combined (come-back (q .before .before .before .before .before)) in
+    let k = asked-of q in
     (sym (ap verdictOf (c .enum-told .given .1)) ∙ asked-both q, (k .combine .ensures .0, k .combine .ensures .1 .1))
 
 pub ask-rules-spec : {M : Type 1} → statement M
-ask-rules-spec = tie.close (tie.spec (λ c κs. search needs) (λ c. search needs) (λ c. search needs) (λ c. search needs) (λ c. search needs)
-    (λ c. search needs) (λ c. search needs) (λ c. search needs) (λ c. search needs) not-below
+ask-rules-spec = tie.close (tie.spec
+    (λ c κs. let z = c .before .before .before .before .before .before .before .before .before .before .before .before .before in (z .pre .0, z .pre .1 .0))
+    (λ c. omega (arith, start (combined c) .pre .1 .1 .1)) (λ c. start (combined c) .pre .1 .1 .0) (λ c. search needs) (λ c. search needs)
+    (λ c. omega (arith, start (combined (c .before)) .pre .1 .1 .1))
+    (λ c. let z = start (combined (c .before)) in omega (arith, z .pre .0 .0, z .pre .1 .1 .0)) (λ c. search needs) (λ c. search needs) not-below
     (λ c. froms-hold (combined (come-back c))) (λ c. so-many _ _ (froms-hold (combined (come-back (c .before)))))
     (λ c. tos-hold (combined (come-back (c .before)))) (λ c. so-many _ _ (tos-hold (combined (come-back (c .before .before)))))
     (λ c. lows-hold (combined (come-back (c .before .before)))) (λ c. so-many _ _ (lows-hold (combined (come-back (c .before .before .before)))))
     (λ c. highs-hold (combined (come-back (c .before .before .before))))
     (λ c. so-many _ _ (highs-hold (combined (come-back (c .before .before .before .before)))))
-    ask-combined-requires (λ c. search needs) (λ c. search needs)
-    (λ c. search needs) (λ c. search needs) (λ c. search needs) (λ c. search needs) returns
-    (λ c. search needs) (λ c. search needs) (λ c. search needs) (λ c. search needs) returns-2)
+    ask-combined-requires (λ c. c .match .keys1) (λ c. c .match .keys2)
+    (λ c. asked-of (c .before .before .before) .combine .kept .1 .1 .1 .1 .0) (λ c. asked-of (c .before .before .before) .combine .kept .1 .1 .1 .1 .1 .0)
+    (λ c. asked-of (c .before .before .before) .combine .kept .1 .1 .1 .1 .1 .1 .0)
+    (λ c. asked-of (c .before .before .before) .combine .kept .1 .1 .1 .1 .1 .1 .1 .0) returns
+    (λ c. asked-of (c .before .before) .combine .kept .1 .1 .1 .1 .0) (λ c. asked-of (c .before .before) .combine .kept .1 .1 .1 .1 .1 .0)
+    (λ c. asked-of (c .before .before) .combine .kept .1 .1 .1 .1 .1 .1 .0)
+    (λ c. asked-of (c .before .before) .combine .kept .1 .1 .1 .1 .1 .1 .1 .0) returns-2)
