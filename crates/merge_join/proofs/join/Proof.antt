@@ -4,7 +4,6 @@ use mathlib.Core.Path.{_≡_, refl, sym, ap, subst, _∙_}
 use mathlib.Core.List.{List}
 use native.Mathlib.Omega.{arith}
 use lib.ListN.{length, replicate}
-use borrow.Author.Needs.{needs}
 use Rattle.sheet.specs.Sizes.{maxUnits, maxRules}
 use Rattle.sheet.specs.declared.Sheet.{Sheet}
 use Rattle.forms.specs.declared.House.the-variants.{Ours}
@@ -63,6 +62,12 @@ abbrev after-second : tie.After-read-behind2 → ListRooms (List ℕ)
 after-second c =
     let k = c .read-behind2 .last .1 .1 .1 in
     rooms (k .0) (k .1 .0) (k .1 .1 .0) (k .1 .1 .1 .0) (k .1 .1 .1 .1 .0) (k .1 .1 .1 .1 .1 .0) (k .1 .1 .1 .1 .1 .1 .0)
+
+-- and the columns for the combined rules, after both were asked about
+abbrev combined : tie.After-ask-both → Rules.Columns
+combined c =
+    let k = c .ask-both .last .1 .1 .1 .1 .1 .1 .1 .1 in
+    Rules.columns (k .0) (k .1 .0) (k .1 .1 .0) (k .1 .1 .1 .0)
 
 -- ---- what each text gave
 kept-of : (r : Reading) (s : Sheet) (text : List ℕ) (u q : ℕ) (m m′ : ListRooms (List ℕ)) → r ≡ Told.Sheet s → KeptBehind r text u q m m′
@@ -152,7 +157,7 @@ returns-3 c =
       (
         says .blame-is,
         joined-left (z .args .one .now) (sheet-a d) (own z) (after-first (first-told d)) (long z) (first-kept d) (z .args .two .now)
-            (sheet-b e) (after-second k) (second-kept e) (first-is d) (second-is e) (q .ask-both .result) (room z) _ (asks .left),
+            (sheet-b e) (after-second k) (second-kept e) (first-is d) (second-is e) (q .ask-both .result) (room z) (combined q) (asks .left),
       ),
     )
 
@@ -169,11 +174,40 @@ firsts-long k = k .read-behind2 .kept .1 .1 .1 .1 .0 ∙ first-told (second-call
 lasts-long : (k : tie.After-read-behind2) → length (after-second k .last) ≡ length (lent (start (first-told (second-call k))) .last)
 lasts-long k = k .read-behind2 .kept .1 .1 .1 .1 .1 .0 ∙ first-told (second-call k) .read-behind .kept .1 .1 .1 .1 .1 .0
 
+-- and the rules' arrays of the call's own as long as both texts' rules
+from-long : (k : tie.After-read-behind2) → length (after-second k .from) ≡ maxRules + maxRules
+from-long k = k .read-behind2 .kept .1 .1 .1 .1 .1 .1 .0 ∙ first-told (second-call k) .read-behind .kept .1 .1 .1 .1 .1 .1 .0
+
+to-long : (k : tie.After-read-behind2) → length (after-second k .to) ≡ maxRules + maxRules
+to-long k = k .read-behind2 .kept .1 .1 .1 .1 .1 .1 .1 .0 ∙ first-told (second-call k) .read-behind .kept .1 .1 .1 .1 .1 .1 .1 .0
+
+low-long : (k : tie.After-read-behind2) → length (after-second k .low) ≡ maxRules + maxRules
+low-long k = k .read-behind2 .kept .1 .1 .1 .1 .1 .1 .1 .1 .0 ∙ first-told (second-call k) .read-behind .kept .1 .1 .1 .1 .1 .1 .1 .1 .0
+
+high-long : (k : tie.After-read-behind2) → length (after-second k .high) ≡ maxRules + maxRules
+high-long k = k .read-behind2 .kept .1 .1 .1 .1 .1 .1 .1 .1 .1 .0 ∙ first-told (second-call k) .read-behind .kept .1 .1 .1 .1 .1 .1 .1 .1 .1 .0
+
 pub join-spec : {M : Type 1} → statement M
-join-spec = tie.close (tie.spec (λ c. refl) (λ c. refl) (λ c. refl) (λ c. refl) read-behind-requires (λ c. search needs) (λ c. search needs)
-    (λ c. search needs) (λ c. search needs) (λ c. search needs) (λ c. search needs) read-behind-requires-2 (λ c. search needs) (λ c κs. tt) (λ c. search needs)
-    (λ c. search needs) (λ c. search needs) (λ c. search needs) (λ c. search needs) ask-both-requires
-    (λ c. search needs) (λ c. search needs) (λ c. search needs) returns
+join-spec = tie.close (tie.spec (λ c. refl) (λ c. refl) (λ c. refl) (λ c. refl) read-behind-requires (λ c. c .match .keys1) (λ c. c .match .keys2)
+    (λ c. sym (first-told (c .before .before .before .before) .read-behind .kept .1 .1 .1 .1 .1 .1 .0))
+    (λ c. sym (first-told (c .before .before .before .before .before) .read-behind .kept .1 .1 .1 .1 .1 .1 .1 .0))
+    (λ c. sym (first-told (c .before .before .before .before .before .before) .read-behind .kept .1 .1 .1 .1 .1 .1 .1 .1 .0))
+    (λ c. sym (first-told (c .before .before .before .before .before .before .before) .read-behind .kept .1 .1 .1 .1 .1 .1 .1 .1 .1 .0))
+    read-behind-requires-2 (λ c. c .match2 .keys1) (λ c κs. tt) (λ c. c .match2 .keys2)
+    (λ c. sym (from-long (second-told (c .before .before))))
+    (λ c. sym (to-long (second-told (c .before .before .before))))
+    (λ c. sym (low-long (second-told (c .before .before .before .before))))
+    (λ c. sym (high-long (second-told (c .before .before .before .before .before))))
+    ask-both-requires
+    (λ c. first-read (c .before .before .before) .read-behind .kept .1 .1 .1 .0)
+    (λ c. first-read (c .before .before .before) .read-behind .kept .1 .1 .1 .1 .0)
+    (λ c. first-read (c .before .before .before) .read-behind .kept .1 .1 .1 .1 .1 .0)
+    returns
     (λ c. numbers-long (second-read (c .before .before .before .before))) (λ c. firsts-long (second-read (c .before .before .before .before)))
     (λ c. lasts-long (second-read (c .before .before .before .before))) returns-2
-    (λ c. numbers-long (asked-of c)) (λ c. firsts-long (asked-of c)) (λ c. lasts-long (asked-of c)) (λ c. search needs) (λ c. search needs) (λ c. search needs) (λ c. search needs) returns-3)
+    (λ c. numbers-long (asked-of c)) (λ c. firsts-long (asked-of c)) (λ c. lasts-long (asked-of c))
+    (λ c. c .before .before .before .before .before .before .before .before .ask-both .kept .1 .1 .1 .1 .1 .1 .1 .1 .0)
+    (λ c. c .before .before .before .before .before .before .before .before .ask-both .kept .1 .1 .1 .1 .1 .1 .1 .1 .1 .0)
+    (λ c. c .before .before .before .before .before .before .before .before .ask-both .kept .1 .1 .1 .1 .1 .1 .1 .1 .1 .1 .0)
+    (λ c. c .before .before .before .before .before .before .before .before .ask-both .kept .1 .1 .1 .1 .1 .1 .1 .1 .1 .1 .1 .0)
+    returns-3)
