@@ -3,6 +3,7 @@ use Prim.Native.Nat.{ℕ}
 use mathlib.Core.Path.{_≡_, refl, sym, ap, subst, _∙_}
 use mathlib.Core.List.{List}
 use native.Mathlib.Omega.{arith}
+use native.Mathlib.Nat.{le-add-right}
 use lib.Seq.{length-take-le}
 use borrow.Author.Needs.{needs}
 use Rattle.questions.specs.Questions.{allYes, firstNo, verdictOf}
@@ -121,13 +122,23 @@ returns-3 c wa wb h =
     }))
 
 pub ask-both-spec : {M : Type 1} → statement M
-ask-both-spec = tie.close (tie.spec (λ c. search needs) (λ c. search needs) ones-long (λ c. search needs) (λ c. search needs) (λ c. search needs)
+ask-both-spec = tie.close (tie.spec (λ c. search needs) (λ c. search needs) ones-long (λ c. search needs)
+    (λ c. le-add-right (at-units c .args .a .units) (at-units c .args .b .units))
+    (λ c. le-add-right (at-units c .args .a .units) (at-units c .args .b .units))
     (λ c. numbers-fit _ _ _ _ _ _ _ (read (at-units c)))
-    (λ c κs. units-few _ _ _ _ _ _ _ (read (at-units (c .before)))) (λ c. search needs) (λ c κs. tt) (λ c. search needs)
+    (λ c κs. units-few _ _ _ _ _ _ _ (read (at-units (c .before)))) (λ c. c .match .keys1) (λ c κs. tt) (λ c. c .match .keys2)
     (λ c. sym (from-long _ _ _ _ _ _ _ (read (at-rules c)))) (λ c. sym (to-long _ _ _ _ _ _ _ (read (at-rules (c .before)))))
     (λ c. sym (low-long _ _ _ _ _ _ _ (read (at-rules (c .before .before)))))
     (λ c. sym (high-long _ _ _ _ _ _ _ (read (at-rules (c .before .before .before)))))
-    ask-rules-requires (λ c. search needs) (λ c κs. tt)
-    (λ c. search needs) returns
-    (λ c. search needs) (λ c. search needs) (λ c. search needs) (λ c. search needs) returns-2
-    (λ c. search needs) (λ c. search needs) (λ c. search needs) (λ c. search needs) returns-3)
+    ask-rules-requires (λ c. c .match2 .keys1) (λ c κs. tt)
+    (λ c. c .match2 .keys2) returns
+    (λ c. rules-call (c .before .before .before .before) .ask-rules .kept .1 .1 .1 .1 .1 .1 .0)
+    (λ c. rules-call (c .before .before .before .before) .ask-rules .kept .1 .1 .1 .1 .1 .1 .1 .0)
+    (λ c. rules-call (c .before .before .before .before) .ask-rules .kept .1 .1 .1 .1 .1 .1 .1 .1 .0)
+    (λ c. rules-call (c .before .before .before .before) .ask-rules .kept .1 .1 .1 .1 .1 .1 .1 .1 .1 .0)
+    returns-2
+    (λ c. rules-call (c .before .before .before) .ask-rules .kept .1 .1 .1 .1 .1 .1 .0)
+    (λ c. rules-call (c .before .before .before) .ask-rules .kept .1 .1 .1 .1 .1 .1 .1 .0)
+    (λ c. rules-call (c .before .before .before) .ask-rules .kept .1 .1 .1 .1 .1 .1 .1 .1 .0)
+    (λ c. rules-call (c .before .before .before) .ask-rules .kept .1 .1 .1 .1 .1 .1 .1 .1 .1 .0)
+    returns-3)
