@@ -1,5 +1,5 @@
 ghost use Rattle.read_questions.specs.Reading.{rooms};
-ghost use Rattle.tugrokt.specs.Told.{MergeTold, LineTold};
+ghost use Rattle.tugrokt_merging.specs.Told.{MergeTold, LineTold};
 use tugrokt_replies::line::Line;
 use tugrokt_replies::reading::Reading;
 
@@ -23,8 +23,7 @@ pub extern "C" fn tugrokt_merge(
         (now (from .exit)) (now (to .exit)) (now (low .exit)) (now (high .exit)) in
         ⌜ MergeTold (now (one .entry)) (now (two .entry)) before r after ⌝ }
 {
-    let reply = merge::merge(one, two, loader, first, last, from, to, low, high);
-    tugrokt_replies::reading::numbers_of(reply)
+    tugrokt_merging::merge(one, two, loader, first, last, from, to, low, high)
 }
 
 // Where the line of the unit with a loader number stands, in whichever of two texts has it.
@@ -32,6 +31,5 @@ pub extern "C" fn tugrokt_merge(
 pub extern "C" fn tugrokt_line_of(one: &[u8], two: &[u8], loader: u16) -> Line
     ensures { λ r. ⌜ LineTold (now (one .entry)) (now (two .entry)) loader r ⌝ }
 {
-    let found = merge_lines::find_line(one, two, loader);
-    tugrokt_replies::line::numbers_of(found)
+    tugrokt_merging::line_of(one, two, loader)
 }

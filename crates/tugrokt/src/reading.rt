@@ -1,30 +1,7 @@
 ghost use Rattle.read_questions.specs.Reading.{rooms};
-ghost use Rattle.tugrokt.specs.Told.{ReadTold};
+ghost use Rattle.tugrokt_reading.specs.Told.{ReadTold};
 use forms::House;
 use tugrokt_replies::reading::Reading;
-
-// Reads a sheet of a house.
-fn read_house(
-    house: House,
-    text: &[u8],
-    loader: &mut [u16],
-    first: &mut [u16],
-    last: &mut [u16],
-    from: &mut [u16],
-    to: &mut [u16],
-    low: &mut [u16],
-    high: &mut [u16],
-) -> Reading
-    ensures { λ r.
-        let before = rooms (now (loader .entry)) (now (first .entry)) (now (last .entry))
-        (now (from .entry)) (now (to .entry)) (now (low .entry)) (now (high .entry)) in
-        let after = rooms (now (loader .exit)) (now (first .exit)) (now (last .exit))
-        (now (from .exit)) (now (to .exit)) (now (low .exit)) (now (high .exit)) in
-        ⌜ ReadTold house (now (text .entry)) before r after ⌝ }
-{
-    let reply = read::read(house, text, loader, first, last, from, to, low, high);
-    tugrokt_replies::reading::numbers_of(reply)
-}
 
 // Reads a sheet of our own from its text into the lent lists.
 #[no_mangle]
@@ -45,7 +22,7 @@ pub extern "C" fn tugrokt_read(
         (now (from .exit)) (now (to .exit)) (now (low .exit)) (now (high .exit)) in
         ⌜ ReadTold House.Ours (now (text .entry)) before r after ⌝ }
 {
-    read_house(House::Ours, text, loader, first, last, from, to, low, high)
+    tugrokt_reading::read_house(House::Ours, text, loader, first, last, from, to, low, high)
 }
 
 // Reads a sheet of the partner house into the same lists.
@@ -67,7 +44,7 @@ pub extern "C" fn tugrokt_read_partner(
         (now (from .exit)) (now (to .exit)) (now (low .exit)) (now (high .exit)) in
         ⌜ ReadTold House.Partner (now (text .entry)) before r after ⌝ }
 {
-    read_house(
+    tugrokt_reading::read_house(
         House::Partner,
         text,
         loader,

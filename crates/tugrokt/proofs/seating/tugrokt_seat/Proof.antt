@@ -1,5 +1,4 @@
--- The call of seat, with its reply as numbers.
-use borrow.Author.Needs.{needs}
+-- The call of seat, with its reply as numbers; no room has changed its length, which each room says where it is given back.
 use mathlib.Core.Path.{ap, _∙_}
 use Prim.Native.Nat.{ℕ}
 use Rattle.plan_answers.specs.Reply.{seatReply}
@@ -17,5 +16,8 @@ returns c =
     }
 
 pub tugrokt-seat-spec : {M : Type 1} → statement M
-tugrokt-seat-spec = tie.close (tie.spec (λ c κs. search needs) (λ c κs. search needs) (λ c. search needs) (λ c. search needs) (λ c. search needs)
-    (λ c. search needs) returns)
+tugrokt-seat-spec = tie.close (tie.spec (λ c κs. tt) (λ c κs. tt)
+    (λ c. c .before .before .before .before .before .before .before .table .given)
+    (λ c. c .before .before .before .before .before .before .plan .given)
+    (λ c. c .before .before .before .before .earliest .given)
+    (λ c. c .before .before .latest .given) returns)
