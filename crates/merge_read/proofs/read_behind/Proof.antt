@@ -65,36 +65,54 @@ read-behind-spec = tie.close (tie.spec
     (λ c. let z = start c in within (z .args .units) maxUnits (length (z .args .numbers .now)) (z .pre .in-loader))
     (λ c. let z = start c in within (z .args .units) maxUnits (length (z .args .numbers .now)) (z .pre .in-loader))
     (λ c. le-refl (length (start c .args .numbers .now)))
-    (λ c. let z = start (c .before) in scaled (z .args .units) maxUnits (length (z .args .firsts .now)) (z .pre .in-first) (z .good .1 .1 .1 .1 .0 .1))
+    (λ c. let z = start (c .before) in
+    scaled (z .args .units) maxUnits (length (z .args .firsts .now)) (z .pre .in-first) (z .good .1 .1 .1 .1 .0 .1))
     (λ c. let z = start (c .before) in within (z .args .units) maxUnits (length (z .args .firsts .now)) (z .pre .in-first))
     (λ c. let z = start (c .before) in within (z .args .units) maxUnits (length (z .args .firsts .now)) (z .pre .in-first))
     (λ c. le-refl (length (start (c .before) .args .firsts .now)))
-    (λ c. let z = start (c .before .before) in scaled (z .args .units) maxUnits (length (z .args .lasts .now)) (z .pre .in-last) (z .good .1 .1 .1 .1 .1 .0 .1))
+    (λ c. let z = start (c .before .before) in
+    scaled (z .args .units) maxUnits (length (z .args .lasts .now)) (z .pre .in-last) (z .good .1 .1 .1 .1 .1 .0 .1))
     (λ c. let z = start (c .before .before) in within (z .args .units) maxUnits (length (z .args .lasts .now)) (z .pre .in-last))
     (λ c. let z = start (c .before .before) in within (z .args .units) maxUnits (length (z .args .lasts .now)) (z .pre .in-last))
     (λ c. le-refl (length (start (c .before .before) .args .lasts .now)))
-    (λ c. let z = start (c .before .before .before) in scaled (z .args .rules) maxRules (length (z .args .froms .now)) (z .pre .in-from) (z .good .1 .1 .1 .1 .1 .1 .0 .1))
+    (λ c. let z = start (c .before .before .before) in
+    scaled (z .args .rules) maxRules (length (z .args .froms .now)) (z .pre .in-from) (z .good .1 .1 .1 .1 .1 .1 .0 .1))
     (λ c. let z = start (c .before .before .before) in within (z .args .rules) maxRules (length (z .args .froms .now)) (z .pre .in-from))
     (λ c. let z = start (c .before .before .before) in within (z .args .rules) maxRules (length (z .args .froms .now)) (z .pre .in-from))
     (λ c. le-refl (length (start (c .before .before .before) .args .froms .now)))
-    (λ c. let z = start (c .before .before .before .before) in scaled (z .args .rules) maxRules (length (z .args .tos .now)) (z .pre .in-to) (z .good .1 .1 .1 .1 .1 .1 .1 .0 .1))
+    (λ c. let z = start (c .before .before .before .before) in
+    scaled (z .args .rules) maxRules (length (z .args .tos .now)) (z .pre .in-to) (z .good .1 .1 .1 .1 .1 .1 .1 .0 .1))
     (λ c. let z = start (c .before .before .before .before) in within (z .args .rules) maxRules (length (z .args .tos .now)) (z .pre .in-to))
     (λ c. let z = start (c .before .before .before .before) in within (z .args .rules) maxRules (length (z .args .tos .now)) (z .pre .in-to))
     (λ c. le-refl (length (start (c .before .before .before .before) .args .tos .now)))
-    (λ c. let z = start (c .before .before .before .before .before) in scaled (z .args .rules) maxRules (length (z .args .lows .now)) (z .pre .in-low) (z .good .1 .1 .1 .1 .1 .1 .1 .1 .0 .1))
-    (λ c. let z = start (c .before .before .before .before .before) in within (z .args .rules) maxRules (length (z .args .lows .now)) (z .pre .in-low))
-    (λ c. let z = start (c .before .before .before .before .before) in within (z .args .rules) maxRules (length (z .args .lows .now)) (z .pre .in-low))
+    (λ c. let z = start (c .before .before .before .before .before) in
+    scaled (z .args .rules) maxRules (length (z .args .lows .now)) (z .pre .in-low) (z .good .1 .1 .1 .1 .1 .1 .1 .1 .0 .1))
+    (λ c. let z = start (c .before .before .before .before .before) in
+    within (z .args .rules) maxRules (length (z .args .lows .now)) (z .pre .in-low))
+    (λ c. let z = start (c .before .before .before .before .before) in
+    within (z .args .rules) maxRules (length (z .args .lows .now)) (z .pre .in-low))
     (λ c. le-refl (length (start (c .before .before .before .before .before) .args .lows .now)))
-    (λ c. let z = start (c .before .before .before .before .before .before) in scaled (z .args .rules) maxRules (length (z .args .highs .now)) (z .pre .in-high) (z .good .1 .1 .1 .1 .1 .1 .1 .1 .1 .0 .1))
-    (λ c. let z = start (c .before .before .before .before .before .before) in within (z .args .rules) maxRules (length (z .args .highs .now)) (z .pre .in-high))
-    (λ c. let z = start (c .before .before .before .before .before .before) in within (z .args .rules) maxRules (length (z .args .highs .now)) (z .pre .in-high))
+    (λ c. let z = start (c .before .before .before .before .before .before) in
+    scaled (z .args .rules) maxRules (length (z .args .highs .now)) (z .pre .in-high) (z .good .1 .1 .1 .1 .1 .1 .1 .1 .1 .0 .1))
+    (λ c. let z = start (c .before .before .before .before .before .before) in
+    within (z .args .rules) maxRules (length (z .args .highs .now)) (z .pre .in-high))
+    (λ c. let z = start (c .before .before .before .before .before .before) in
+    within (z .args .rules) maxRules (length (z .args .highs .now)) (z .pre .in-high))
     (λ c. le-refl (length (start (c .before .before .before .before .before .before) .args .highs .now)))
     ask-text-requires
-    (λ c. let z = begun c in same-len-mid (z .args .units) (length (lent z .loader) - z .args .units) (lent z .loader) (after (call c) .loader) (call c .ask-text .kept .1 .1 .0))
-    (λ c. let z = begun c in same-len-mid (z .args .units) (length (lent z .first) - z .args .units) (lent z .first) (after (call c) .first) (call c .ask-text .kept .1 .1 .1 .0))
-    (λ c. let z = begun c in same-len-mid (z .args .units) (length (lent z .last) - z .args .units) (lent z .last) (after (call c) .last) (call c .ask-text .kept .1 .1 .1 .1 .0))
-    (λ c. let z = begun c in same-len-mid (z .args .rules) (length (lent z .from) - z .args .rules) (lent z .from) (after (call c) .from) (call c .ask-text .kept .1 .1 .1 .1 .1 .0))
-    (λ c. let z = begun c in same-len-mid (z .args .rules) (length (lent z .to) - z .args .rules) (lent z .to) (after (call c) .to) (call c .ask-text .kept .1 .1 .1 .1 .1 .1 .0))
-    (λ c. let z = begun c in same-len-mid (z .args .rules) (length (lent z .low) - z .args .rules) (lent z .low) (after (call c) .low) (call c .ask-text .kept .1 .1 .1 .1 .1 .1 .1 .0))
-    (λ c. let z = begun c in same-len-mid (z .args .rules) (length (lent z .high) - z .args .rules) (lent z .high) (after (call c) .high) (call c .ask-text .kept .1 .1 .1 .1 .1 .1 .1 .1 .0))
+    (λ c. let z = begun c in
+    same-len-mid (z .args .units) (length (lent z .loader) - z .args .units) (lent z .loader) (after (call c) .loader) (call c .ask-text .kept .1 .1 .0))
+    (λ c. let z = begun c in
+    same-len-mid (z .args .units) (length (lent z .first) - z .args .units) (lent z .first) (after (call c) .first) (call c .ask-text .kept .1 .1 .1 .0))
+    (λ c. let z = begun c in
+    same-len-mid (z .args .units) (length (lent z .last) - z .args .units) (lent z .last) (after (call c) .last) (call c .ask-text .kept .1 .1 .1 .1 .0))
+    (λ c. let z = begun c in
+    same-len-mid (z .args .rules) (length (lent z .from) - z .args .rules) (lent z .from) (after (call c) .from) (call c .ask-text .kept .1 .1 .1 .1 .1 .0))
+    (λ c. let z = begun c in
+    same-len-mid (z .args .rules) (length (lent z .to) - z .args .rules) (lent z .to) (after (call c) .to) (call c .ask-text .kept .1 .1 .1 .1 .1 .1 .0))
+    (λ c. let z = begun c in
+    same-len-mid (z .args .rules) (length (lent z .low) - z .args .rules) (lent z .low) (after (call c) .low) (call c .ask-text .kept .1 .1 .1 .1 .1 .1 .1 .0))
+    (λ c. let z = begun c in
+    same-len-mid (z .args .rules) (length (lent z .high) - z .args .rules) (lent z .high) (after (call c) .high)
+    (call c .ask-text .kept .1 .1 .1 .1 .1 .1 .1 .1 .0))
     returns-2)
