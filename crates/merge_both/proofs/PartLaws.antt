@@ -2,9 +2,9 @@
 -- Key idea: as many places as both have are the places of the first and then, past them, those of the second.
 use Prim.Native.Nat.{ℕ, _+_, _-_, _≤_}
 use mathlib.Core.Path.{_≡_, sym, ap, _∙_}
-use mathlib.Core.List.{List, _++_, map, map-append}
+use mathlib.Core.List.{List, _++_}
 use native.Mathlib.Omega.{arith}
-use lib.ListN.{length, take, drop, length-take, length-append, length-map}
+use lib.ListN.{length, take, drop, length-take, length-append}
 use lib.Seq.{take-add, take-at, drop-at, length-take-le}
 
 module _ (xs ys l : List ℕ) (i k : ℕ) (lx : length xs ≡ i) (ly : length ys ≡ k) (e : take (i + k) l ≡ xs ++ ys) where

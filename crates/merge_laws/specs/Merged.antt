@@ -31,7 +31,7 @@ use Rattle.merge_sheets.specs.Merge.{mergedRules, merged}
 use Rattle.merge_sheets.specs.MergeLaws.{merged-lawful}
 use Rattle.merge_sheets.specs.AcceptedLaws.{merged-accepted, merged-loaders}
 use Rattle.merge_read.specs.Behind.{textQuestions}
-use Rattle.merge_questions.specs.Merging.{lineAt, joinQuestions, mergeQuestions, mergedIn, merging, blamed, blamedSheet}
+use Rattle.merge_questions.specs.Merging.{lineNumber, joinQuestions, mergeQuestions, mergedIn, merging, blamed, blamedSheet}
 use Rattle.merge_laws.specs.TextLaws.{no-of-two, text-refusals, text-accepts, text-loaders, front, too-long, front-short, front-either}
 
 module _ (one two : List ℕ) where
@@ -121,14 +121,14 @@ abbrev known : ℕ → ℕ → Bool
 known q n = asksMerge q && leb n maxBytes
 
 -- a line of a text has a number no greater than the text's bytes are many
-line-within : (text : List ℕ) (k : Kind) (j : ℕ) → lineAt text k j ≤ length text
+line-within : (text : List ℕ) (k : Kind) (j : ℕ) → lineNumber text k j ≤ length text
 line-within text k j = go (ltb j (length (spots k text))) refl
   where
-    go : (b : Bool) → ltb j (length (spots k text)) ≡ b → lineAt text k j ≤ length text
+    go : (b : Bool) → ltb j (length (spots k text)) ≡ b → lineNumber text k j ≤ length text
     go true e =
         let found = spot-stands k text j (ltb-true j (length (spots k text)) e) in
         let r = found .stands in
-        let n : lineAt text k j ≡ 1 + length (r .before) = ap (λ (s : Spot). s .number) (found .spot) ∙ ap (λ (p : Placed). p .spot .number) (r .place) in
+        let n : lineNumber text k j ≡ 1 + length (r .before) = ap (λ (s : Spot). s .number) (found .spot) ∙ ap (λ (p : Placed). p .spot .number) (r .place) in
         omega (arith, n, line-count text, ap length (r .split), length-append (r .before) (r .line ∷ r .after))
     go false e =
         let none : getD (spots k text) j noSpot ≡ noSpot = List·getD-eq-default (spots k text) noSpot (ltb-false j (length (spots k text)) e) in
@@ -138,8 +138,8 @@ module _ (one two : List ℕ) (number line : ℕ) where
   join-known : length two ≤ maxBytes → T (every (λ q. known (q .number) (q .line)) (joinQuestions two (sheetIn Ours one) (sheetIn Ours two)))
   join-known short = here _ _ _ (here _ _ _ (here _ _ _ (here _ _ _ (here _ _ _ tt))))
     where
-      here : (k : Kind) (j : ℕ) (rest : Bool) → T rest → T (leb (lineAt two k j) maxBytes && rest)
-      here k j rest t = both (leb (lineAt two k j) maxBytes) rest (le→leb (lineAt two k j) maxBytes (omega (arith, line-within two k j, short))) t
+      here : (k : Kind) (j : ℕ) (rest : Bool) → T rest → T (leb (lineNumber two k j) maxBytes && rest)
+      here k j rest t = both (leb (lineNumber two k j) maxBytes) rest (le→leb (lineNumber two k j) maxBytes (omega (arith, line-within two k j, short))) t
 
   by-text : (text : List ℕ) → firstNo (textQuestions Ours text) ≡ no number line → Refusable number line
   by-text text e =

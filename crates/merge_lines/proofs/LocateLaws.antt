@@ -1,16 +1,14 @@
--- The two places that were found, as the code tells them apart, and the part of a text that a place is.
--- Key idea: each is a computation by cases, with what is known put in its place.
-use Prim.Native.Nat.{ℕ, _≤_, _<_}
-use mathlib.Core.Path.{_≡_, refl, sym, subst, _∙_}
+-- The place that was found lies within its text, and the part of the text that it is.
+-- Key idea: each is said of the definition's answer, and what was found is that answer.
+use Prim.Native.Nat.{ℕ, _≤_}
+use mathlib.Core.Path.{_≡_, sym, subst, _∙_}
 use mathlib.Core.List.{List}
 use lib.ListN.{length}
-use borrow.Author.Tests.{lt-ltb, le-ltb}
 use denote.Ref.{RefT}
-use Rattle.read_places.specs.declared.Spot.{Spot}
 use Rattle.merge_lines.specs.Lines.{foundLine, PartAsked}
 use Rattle.merge_lines.specs.LinesLaws.{Inside, found-inside}
 use Rattle.merge_lines.specs.declared.LineFound.{LineFound}
-use Rattle.merge_lines.specs.declared.LineFound.the-variants.{Refused, First, Second}
+use Rattle.merge_lines.specs.declared.LineFound.the-variants.{First, Second}
 
 -- ---- what was found lies within its text
 module _ (one two : List ℕ) (k : ℕ) (found : LineFound) (e : found ≡ foundLine one two k) where

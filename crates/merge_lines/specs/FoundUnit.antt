@@ -22,7 +22,7 @@ use Rattle.merge_read.specs.BehindLaws.{lines-asked}
 use Rattle.merge_sheets.specs.Merge.{merged}
 use Rattle.merge_questions.specs.Merging.{mergeQuestions, mergedIn}
 use Rattle.merge_laws.specs.Merged.{first-asked, second-asked}
-use Rattle.merge_lines.specs.Lines.{hasLoader, questionsOfLine, placeIn, spotOf}
+use Rattle.merge_lines.specs.Lines.{hasLoader, questionsOfLine, loaderPlace, spotOf}
 use Rattle.merge_lines.specs.LinesLaws.{place-found}
 
 module _ (one two : List ℕ) (k : ℕ) (e : firstNo (questionsOfLine one two k) ≡ allYes) where
@@ -49,7 +49,7 @@ module _ (one two : List ℕ) (k : ℕ) (e : firstNo (questionsOfLine one two k)
       → ((u : SheetUnit) → In u (sheetIn Ours text .units) → In u (mergedIn one two .units)) → SaysUnit text
   says text asked h merge =
       let us = sheetIn Ours text .units in
-      let i = placeIn (loaders (sheetIn Ours text)) k in
+      let i = loaderPlace (loaders (sheetIn Ours text)) k in
       let some = ltb-true i (length (map (λ (u : SheetUnit). u .loader) us)) (place-found k (loaders (sheetIn Ours text)) ∙ h) in
       let l = line-says text (lines-asked Ours text asked) i (omega (arith, length-map us (λ (u : SheetUnit). u .loader))) in
       record {

@@ -34,12 +34,12 @@ questionsOfLine one two k = mergeQuestions one two ++ (ask 27 0 (hasLoader one k
 -- ---- the answer
 
 -- the first place of a number in a list, or the list's length
-abbrev pub placeIn : List ℕ → ℕ → ℕ
-placeIn ks k = firstPlace (length ks) (λ j. eqb (getD ks j 0) k)
+abbrev pub loaderPlace : List ℕ → ℕ → ℕ
+loaderPlace ks k = firstPlace (length ks) (λ j. eqb (getD ks j 0) k)
 
 -- the line of a text's first unit with this loader number
 abbrev pub spotOf : List ℕ → ℕ → Spot
-spotOf text k = getD (spots Kind.Unit text) (placeIn (loaders (sheetIn Ours text)) k) noSpot
+spotOf text k = getD (spots Kind.Unit text) (loaderPlace (loaders (sheetIn Ours text)) k) noSpot
 
 -- the line in the text whose sheet has the unit
 abbrev pub placeOf : List ℕ → List ℕ → ℕ → LineFound

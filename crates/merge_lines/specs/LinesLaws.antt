@@ -29,37 +29,38 @@ use Rattle.merge_questions.specs.Merging.{mergeQuestions, mergedIn, blamed, bla
 use Rattle.merge_questions.specs.FirstLaws.{first-cons}
 use Rattle.merge_join.specs.Join.{joinReply}
 use Rattle.merge_laws.specs.Merged.{first-asked, second-asked}
-use Rattle.merge_lines.specs.Lines.{hasLoader, questionsOfLine, placeIn, spotOf, placeOf, foundBy, foundLine, inSecond, inEither, locatedAt}
+use Rattle.merge_lines.specs.Lines.{hasLoader, questionsOfLine, loaderPlace, spotOf, placeOf, foundBy, foundLine, inSecond, inEither, locatedAt}
 use Rattle.merge_lines.specs.declared.LineFound.{LineFound}
 use Rattle.merge_lines.specs.declared.LineFound.the-variants.{Refused, First, Second}
 
 -- ---- the place of a loader number
 
 module _ (k : ℕ) where
-  place-cons : (x : ℕ) (xs : List ℕ) → placeIn (x ∷ xs) k ≡ cond (eqb x k) 0 (suc (placeIn xs k))
+  place-cons : (x : ℕ) (xs : List ℕ) → loaderPlace (x ∷ xs) k ≡ cond (eqb x k) 0 (suc (loaderPlace xs k))
   place-cons x xs = first-cons (λ y. eqb y k) 0 x xs
 
   -- it lies within the list exactly where the list has the number
-  pub place-found : (ks : List ℕ) → ltb (placeIn ks k) (length ks) ≡ member k ks
+  pub place-found : (ks : List ℕ) → ltb (loaderPlace ks k) (length ks) ≡ member k ks
   place-found [] = refl
   place-found (x ∷ xs) = ap (λ (r : ℕ). ltb r (suc (length xs))) (place-cons x xs) ∙ go (eqb x k) (place-found xs)
     where
-      go : (b : Bool) → ltb (placeIn xs k) (length xs) ≡ member k xs → ltb (cond b 0 (suc (placeIn xs k))) (suc (length xs)) ≡ cond b true (member k xs)
+      go : (b : Bool) → ltb (loaderPlace xs k) (length xs) ≡ member k xs → ltb (cond b 0 (suc (loaderPlace xs k))) (suc (length xs)) ≡ cond b true (member k xs)
       go true e = lt-ltb 0 (suc (length xs)) (omega arith)
-      go false e = leb·suc-suc (suc (placeIn xs k)) (length xs) ∙ e
+      go false e = leb·suc-suc (suc (loaderPlace xs k)) (length xs) ∙ e
 
   -- of two lists one behind the other
-  place-both : (xs ys : List ℕ) → placeIn (xs ++ ys) k ≡ cond (member k xs) (placeIn xs k) (length xs + placeIn ys k)
-  place-both [] ys = sym (zero-add (placeIn ys k))
-  place-both (x ∷ xs) ys = place-cons x (xs ++ ys) ∙ go (eqb x k) (placeIn (x ∷ xs) k) (place-cons x xs) (place-both xs ys)
+  place-both : (xs ys : List ℕ) → loaderPlace (xs ++ ys) k ≡ cond (member k xs) (loaderPlace xs k) (length xs + loaderPlace ys k)
+  place-both [] ys = sym (zero-add (loaderPlace ys k))
+  place-both (x ∷ xs) ys = place-cons x (xs ++ ys) ∙ go (eqb x k) (loaderPlace (x ∷ xs) k) (place-cons x xs) (place-both xs ys)
     where
-      later : (m : Bool) (p : ℕ) → p ≡ suc (placeIn xs k)
-          → suc (cond m (placeIn xs k) (length xs + placeIn ys k)) ≡ cond m p (suc (length xs) + placeIn ys k)
+      later : (m : Bool) (p : ℕ) → p ≡ suc (loaderPlace xs k)
+          → suc (cond m (loaderPlace xs k) (length xs + loaderPlace ys k)) ≡ cond m p (suc (length xs) + loaderPlace ys k)
       later true p e = sym e
       later false p e = omega arith
 
-      go : (b : Bool) (p : ℕ) → p ≡ cond b 0 (suc (placeIn xs k)) → placeIn (xs ++ ys) k ≡ cond (member k xs) (placeIn xs k) (length xs + placeIn ys k)
-          → cond b 0 (suc (placeIn (xs ++ ys) k)) ≡ cond (cond b true (member k xs)) p (suc (length xs) + placeIn ys k)
+      go : (b : Bool) (p : ℕ) → p ≡ cond b 0 (suc (loaderPlace xs k))
+          → loaderPlace (xs ++ ys) k ≡ cond (member k xs) (loaderPlace xs k) (length xs + loaderPlace ys k)
+          → cond b 0 (suc (loaderPlace (xs ++ ys) k)) ≡ cond (cond b true (member k xs)) p (suc (length xs) + loaderPlace ys k)
       go true p e h = sym e
       go false p e h = ap suc h ∙ later (member k xs) p e
 
@@ -71,10 +72,11 @@ module _ (text : List ℕ) (asked : AllYes (textQuestions Ours text)) (k : ℕ) 
   spots-many : length (spots Kind.Unit text) ≡ length numbers
   spots-many = unit-count text (lines-asked Ours text asked) ∙ sym (length-map (sheetIn Ours text .units) (λ u. u .loader))
 
-  spot-there : hasLoader text k ≡ true → sought Kind.Unit text (placeIn numbers k) ≡ At (spotOf text k)
+  spot-there : hasLoader text k ≡ true → sought Kind.Unit text (loaderPlace numbers k) ≡ At (spotOf text k)
   unfolding sought
   spot-there h =
-      sought-at (spots Kind.Unit text) (placeIn numbers k) (omega (arith, spots-many, ltb-true (placeIn numbers k) (length numbers) (place-found k numbers ∙ h)))
+      sought-at (spots Kind.Unit text) (loaderPlace numbers k)
+      (omega (arith, spots-many, ltb-true (loaderPlace numbers k) (length numbers) (place-found k numbers ∙ h)))
 
   -- past this text's units: so far past them
   spot-past : (i : ℕ) → sought Kind.Unit text (length numbers + i) ≡ Past i
@@ -83,11 +85,11 @@ module _ (text : List ℕ) (asked : AllYes (textQuestions Ours text)) (k : ℕ) 
       let e : length numbers + i - length (spots Kind.Unit text) ≡ i = omega (arith, spots-many) in
       sought-past (spots Kind.Unit text) (length numbers + i) (omega (arith, spots-many)) ∙ ap Past e
 
-  nowhere : hasLoader text k ≡ false → inSecond (sought Kind.Unit text (placeIn numbers k)) ≡ Refused (record { number = 27; line = 0 }) 0
+  nowhere : hasLoader text k ≡ false → inSecond (sought Kind.Unit text (loaderPlace numbers k)) ≡ Refused (record { number = 27; line = 0 }) 0
   unfolding sought
   nowhere h =
-      ap inSecond (sought-past (spots Kind.Unit text) (placeIn numbers k)
-      (omega (arith, spots-many, ltb-false (placeIn numbers k) (length numbers) (place-found k numbers ∙ h))))
+      ap inSecond (sought-past (spots Kind.Unit text) (loaderPlace numbers k)
+      (omega (arith, spots-many, ltb-false (loaderPlace numbers k) (length numbers) (place-found k numbers ∙ h))))
 
 -- ---- both texts
 module _ (one two : List ℕ) (k : ℕ) where
@@ -116,30 +118,30 @@ module _ (one two : List ℕ) (k : ℕ) where
     abbrev b : List ℕ
     b = loaders (sheetIn Ours two)
 
-    in-one : hasLoader one k ≡ true → locatedAt one two (placeIn (a ++ b) k) ≡ First (spotOf one k .start) (spotOf one k .end)
+    in-one : hasLoader one k ≡ true → locatedAt one two (loaderPlace (a ++ b) k) ≡ First (spotOf one k .start) (spotOf one k .end)
     in-one h =
-        ap (locatedAt one two) (place-both k a b ∙ ap (λ (c : Bool). cond c (placeIn a k) (length a + placeIn b k)) h)
+        ap (locatedAt one two) (place-both k a b ∙ ap (λ (c : Bool). cond c (loaderPlace a k) (length a + loaderPlace b k)) h)
         ∙ ap (inEither two) (spot-there one (first-asked one two e) k h)
 
-    past-one : hasLoader one k ≡ false → locatedAt one two (placeIn (a ++ b) k) ≡ inSecond (sought Kind.Unit two (placeIn b k))
+    past-one : hasLoader one k ≡ false → locatedAt one two (loaderPlace (a ++ b) k) ≡ inSecond (sought Kind.Unit two (loaderPlace b k))
     past-one h =
-        ap (locatedAt one two) (place-both k a b ∙ ap (λ (c : Bool). cond c (placeIn a k) (length a + placeIn b k)) h)
-        ∙ ap (inEither two) (spot-past one (first-asked one two e) k (placeIn b k))
+        ap (locatedAt one two) (place-both k a b ∙ ap (λ (c : Bool). cond c (loaderPlace a k) (length a + loaderPlace b k)) h)
+        ∙ ap (inEither two) (spot-past one (first-asked one two e) k (loaderPlace b k))
 
     both-loaders : loaders (mergedIn one two) ≡ a ++ b
     unfolding merged
     both-loaders = map-append (λ u. u .loader) (sheetIn Ours one .units) (sheetIn Ours two .units)
 
     -- the code's place among the units of both is the definition's
-    pub found-located : (ks : List ℕ) → ks ≡ loaders (mergedIn one two) → locatedAt one two (placeIn ks k) ≡ foundLine one two k
+    pub found-located : (ks : List ℕ) → ks ≡ loaders (mergedIn one two) → locatedAt one two (loaderPlace ks k) ≡ foundLine one two k
     unfolding foundLine questionsOfLine firstNo
     found-located ks is =
-        ap (λ (xs : List ℕ). locatedAt one two (placeIn xs k)) (is ∙ both-loaders)
+        ap (λ (xs : List ℕ). locatedAt one two (loaderPlace xs k)) (is ∙ both-loaders)
         ∙ go (hasLoader one k) (hasLoader two k) refl refl
         ∙ ap₂ (λ (v : Verdict) (s : ℕ). foundBy v s (placeOf one two k))
         (sym (first-then (mergeQuestions one two) (ask 27 0 (hasLoader one k || hasLoader two k) ∷ []) allYes e)) (sym none-blamed)
       where
-        go : (c d : Bool) → hasLoader one k ≡ c → hasLoader two k ≡ d → locatedAt one two (placeIn (a ++ b) k)
+        go : (c d : Bool) → hasLoader one k ≡ c → hasLoader two k ≡ d → locatedAt one two (loaderPlace (a ++ b) k)
             ≡ foundBy (cond (c || d) allYes (no 27 0)) 0
             (cond c (First (spotOf one k .start) (spotOf one k .end)) (Second (spotOf two k .start) (spotOf two k .end)))
         go true d p q = in-one p
@@ -159,5 +161,5 @@ module _ (one two : List ℕ) (k : ℕ) where
       go : (v : Verdict) (b : Bool) → Inside (foundBy v (blamedSheet one two)
           (cond b (First (spotOf one k .start) (spotOf one k .end)) (Second (spotOf two k .start) (spotOf two k .end))))
       go (no q n) b = tt
-      go allYes true = spot-inside Kind.Unit one (placeIn (loaders (sheetIn Ours one)) k)
-      go allYes false = spot-inside Kind.Unit two (placeIn (loaders (sheetIn Ours two)) k)
+      go allYes true = spot-inside Kind.Unit one (loaderPlace (loaders (sheetIn Ours one)) k)
+      go allYes false = spot-inside Kind.Unit two (loaderPlace (loaders (sheetIn Ours two)) k)

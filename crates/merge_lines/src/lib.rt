@@ -1,6 +1,6 @@
 // The line of a unit of two sheets, where it stands.
 ghost use mathlib.Core.Path.{_≡_};
-ghost use Rattle.merge_lines.specs.Lines.{placeIn, locatedAt, foundLine, PartAsked};
+ghost use Rattle.merge_lines.specs.Lines.{loaderPlace, locatedAt, foundLine, PartAsked};
 use merge_join::BOTH_RULES;
 use merge_join::BOTH_UNITS;
 use merge_questions::Joined;
@@ -18,7 +18,7 @@ pub enum LineFound {
 
 // The first place of a loader number, or how many numbers there are.
 fn place_of(numbers: &[u16], loader: u16) -> usize
-    ensures { λ r. ⌜ r ≡ placeIn (now (numbers .entry)) loader ⌝ }
+    ensures { λ r. ⌜ r ≡ loaderPlace (now (numbers .entry)) loader ⌝ }
 {
     let mut j = 0;
     while j < numbers.len() {

@@ -24,8 +24,8 @@ use Rattle.merge_questions.specs.declared.Joined.the-variants as Joined
 -- ---- the lines that refusals name, all of the second text
 
 -- the number of the j-th line of a kind, from 0; 0 where there is none
-abbrev pub lineAt : List ℕ → Kind → ℕ → ℕ
-lineAt text k j = getD (spots k text) j noSpot .number
+abbrev pub lineNumber : List ℕ → Kind → ℕ → ℕ
+lineNumber text k j = getD (spots k text) j noSpot .number
 
 -- ---- 19, 20 and 9, of two spans and of the loader numbers of two sheets
 
@@ -35,9 +35,9 @@ sharedAt ones twos j = member (getD twos j 0) ones
 
 abbrev pub unitQuestions : List ℕ → ℕ → ℕ → List ℕ → List ℕ → List Question
 unitQuestions two p q ones twos =
-    ask 19 (lineAt two Kind.Sheet 0) (eqb p q) ∷
-    ask 20 (lineAt two Kind.Unit (firstPlace (length twos) (sharedAt ones twos))) (every (λ k. not (member k ones)) twos) ∷
-    ask 9 (lineAt two Kind.Unit (maxUnits - length ones)) (leb (length (ones ++ twos)) maxUnits) ∷
+    ask 19 (lineNumber two Kind.Sheet 0) (eqb p q) ∷
+    ask 20 (lineNumber two Kind.Unit (firstPlace (length twos) (sharedAt ones twos))) (every (λ k. not (member k ones)) twos) ∷
+    ask 9 (lineNumber two Kind.Unit (maxUnits - length ones)) (leb (length (ones ++ twos)) maxUnits) ∷
     []
 
 -- ---- 21 and 10, of the rules of two sheets
@@ -57,8 +57,8 @@ lastOn rs q = lastPassing (length rs) (λ j. onStretch (q .from) (q .to) (getD r
 -- of the combined rules, by the place among the second sheet's rules of the last on a stretch, and of the one that makes too many
 abbrev pub stretchQuestions : List ℕ → (Rule → ℕ) → List Rule → ℕ → List Question
 stretchQuestions two last combined past =
-    ask 21 (lineAt two Kind.Rule (last (firstCrossed combined))) (every (λ r. not (crossed r)) combined) ∷
-    ask 10 (lineAt two Kind.Rule past) (leb (length combined) maxRules) ∷
+    ask 21 (lineNumber two Kind.Rule (last (firstCrossed combined))) (every (λ r. not (crossed r)) combined) ∷
+    ask 10 (lineNumber two Kind.Rule past) (leb (length combined) maxRules) ∷
     []
 
 abbrev pub ruleQuestions : List ℕ → List Rule → List Rule → List Question

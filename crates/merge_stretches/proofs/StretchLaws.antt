@@ -2,7 +2,7 @@
 -- Key idea: past each yes the questions that are left decide; no rule crosses exactly where the search comes to the end, and the first of those that cross
 -- is the one at the place that it finds.
 use Prim.Native.Nat.{ℕ, _-_, _≤_, _<_}
-use mathlib.Core.Path.{_≡_, refl, sym, ap, ap₂, _∙_}
+use mathlib.Core.Path.{_≡_, sym, ap, ap₂, _∙_}
 use mathlib.Core.Bool.{Bool, not}
 use mathlib.Core.List.{List, [], _∷_}
 use native.Mathlib.Omega.{arith}
@@ -20,7 +20,7 @@ use Rattle.sheet.specs.Questions.{rulesOf}
 use Rattle.sheet.specs.QuestionLaws.{rulesOf-length, rulesOf-at}
 use Rattle.merge_sheets.specs.Merge.{crossed}
 use Rattle.read_form.specs.declared.Kind.the-variants as Kind
-use Rattle.merge_questions.specs.Merging.{lineAt, stretchQuestions}
+use Rattle.merge_questions.specs.Merging.{lineNumber, stretchQuestions}
 use Rattle.merge_questions.specs.FirstLaws.{first-same, firstIn, none-first, head-first}
 
 -- ---- the combined rules
@@ -52,20 +52,20 @@ module _ (two froms tos lows highs : List ℕ) (ts : length tos ≡ length froms
   abbrev pub crossing : Rule
   crossing = record { from = getD froms place 0; to = getD tos place 0; low = getD lows place 0; high = getD highs place 0 }
 
-  pub no-21 : place < length froms → asked ≡ no 21 (lineAt two Kind.Rule (last crossing))
+  pub no-21 : place < length froms → asked ≡ no 21 (lineNumber two Kind.Rule (last crossing))
   no-21 h =
       no-here _ 21 _ _ (none-crosses _ (lt-ltb place (length froms) h))
-      ∙ ap (λ (r : Rule). no 21 (lineAt two Kind.Rule (last r)))
+      ∙ ap (λ (r : Rule). no 21 (lineNumber two Kind.Rule (last r)))
       (head-first crossed noRule rs ∙ ap (λ (j : ℕ). getD rs j noRule) same-place ∙ rulesOf-at froms tos lows highs ts ls hs place h)
 
   module _ (none : length froms ≤ place) where
     -- 10 decides
-    last-asked : asked ≡ firstNo (ask 10 (lineAt two Kind.Rule past) (leb (length rs) maxRules) ∷ [])
+    last-asked : asked ≡ firstNo (ask 10 (lineNumber two Kind.Rule past) (leb (length rs) maxRules) ∷ [])
     last-asked = yes-here _ 21 _ _ (none-crosses _ (le-ltb place (length froms) none))
 
-    pub no-10 : maxRules < length froms → asked ≡ no 10 (lineAt two Kind.Rule past)
+    pub no-10 : maxRules < length froms → asked ≡ no 10 (lineNumber two Kind.Rule past)
     no-10 h = last-asked ∙ no-here _ 10 _ _ (lt-leb (length rs) maxRules (omega (arith, many)))
 
     pub all-yes : length froms ≤ maxRules → asked ≡ allYes
     unfolding firstNo
-    all-yes h = last-asked ∙ yes-here _ 10 (lineAt two Kind.Rule past) [] (le-leb (length rs) maxRules (omega (arith, many)))
+    all-yes h = last-asked ∙ yes-here _ 10 (lineNumber two Kind.Rule past) [] (le-leb (length rs) maxRules (omega (arith, many)))

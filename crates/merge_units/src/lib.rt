@@ -6,7 +6,7 @@ ghost use Rattle.lists.specs.First.{firstPlace};
 ghost use Rattle.sheet.specs.Sizes.{maxUnits};
 ghost use Rattle.loaders.specs.Chains.{chains, Linked};
 ghost use Rattle.questions.specs.Questions.{no, verdictOf, firstNo};
-ghost use Rattle.merge_questions.specs.Merging.{lineAt, sharedAt, unitQuestions};
+ghost use Rattle.merge_questions.specs.Merging.{lineNumber, sharedAt, unitQuestions};
 use questions::Checked;
 use questions::Refusal;
 use read_form::Kind;
@@ -42,7 +42,7 @@ fn first_shared(ones: &[u16], twos: &[u16]) -> usize
 
 // A refusal that names the j-th line of a kind.
 fn refuse(number: usize, text: &[u8], kind: Kind, j: usize) -> Checked
-    ensures { λ r. ⌜ verdictOf r ≡ no number (lineAt (now (text .entry)) kind j) ⌝ }
+    ensures { λ r. ⌜ verdictOf r ≡ no number (lineNumber (now (text .entry)) kind j) ⌝ }
 {
     Checked::No(Refusal {
         number: number,

@@ -2,7 +2,7 @@
 -- Key idea: from a place on, what is left of the line leads from the present state where the whole line leads from the start (`Going`). The line feed takes
 -- that state to the code of the line's kind, and no other byte takes it to a state of a line that has ended.
 use Prim.Native.Nat.{ℕ, _+_, _-_, _≤_, _<_}
-use mathlib.Core.Path.{_≡_, refl, sym, ap, ap₂, _∙_}
+use mathlib.Core.Path.{_≡_, refl, sym, ap, _∙_}
 use mathlib.Core.Bool.{Bool, true, false}
 use mathlib.Core.List.{List}
 use native.Mathlib.Omega.{arith}

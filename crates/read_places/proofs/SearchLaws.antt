@@ -21,7 +21,6 @@ use Rattle.read_form.specs.Grid.{code}
 use Rattle.read_form.specs.declared.Kind.{Kind}
 use Rattle.read_places.specs.Places.{Placed, placedAt, placedFrom, isOf, spotsIn, spots, soughtIn, sought}
 use Rattle.read_places.specs.declared.Spot.{Spot}
-use Rattle.read_places.specs.declared.Sought.{Sought}
 use Rattle.read_places.specs.declared.Sought.the-variants.{At, Past}
 
 -- at the place `at`, where line n begins: the answer is the one of this place among the lines of the kind that are left

@@ -4,7 +4,7 @@
 -- that passes its questions says its content's values.
 use Prim.Native.Nat.{ℕ, suc, _+_, _-_, _<_}
 use mathlib.Core.Path.{_≡_, refl, sym, ap, subst, _∙_}
-use mathlib.Core.Bool.{Bool, true, false, _&&_, cond}
+use mathlib.Core.Bool.{true, cond}
 use mathlib.Core.List.{List, [], _∷_, _++_, map, append-assoc, List·Memᴰ·head, Memᴰ·append-right}
 use native.Mathlib.Omega.{arith}
 use lib.Dec.{T}
@@ -29,7 +29,7 @@ use Rattle.read_line.specs.Line.{valuesOf, lineOf}
 use Rattle.read_line.specs.declared.Line.the-variants as Line
 use Rattle.read_questions.specs.Reading.{unitOf, sheetIn, lineQuestions}
 use Rattle.read_places.specs.Places.{Placed, isOf, spots, noSpot}
-use Rattle.read_places.specs.PlacesLaws.{Passes, each-passes, kind-is, unitSaid, unit-lines, unit-count, noLine, around, spot-stands}
+use Rattle.read_places.specs.PlacesLaws.{LinePasses, each-passes, kind-is, unitOn, unit-lines, unit-count, noLine, around, spot-stands}
 use Rattle.read_places.specs.declared.Spot.{Spot}
 
 -- at the spot s of the text stands a line, with a line feed behind it, that says the unit u of its sheet
@@ -46,8 +46,8 @@ pub record LineOfUnit (text : List ℕ) (u : SheetUnit) (s : Spot) : Type 0 wher
   pub listed : In u (sheetIn Ours text .units)
 
 -- a line of this kind that passes its questions says its unit
-unit-told : (l : TextLine) → Passes Ours l → T (isOf Kind.Unit l)
-    → let u = unitSaid l in lineOf Ours (l .bytes) true ≡ Line.Unit (u .loader) (u .window .first) (u .window .last)
+unit-told : (l : TextLine) → LinePasses Ours l → T (isOf Kind.Unit l)
+    → let u = unitOn l in lineOf Ours (l .bytes) true ≡ Line.Unit (u .loader) (u .window .first) (u .window .last)
 unfolding contentOf
 unit-told l p t = p .says ∙ go (formOf Ours (l .bytes)) (subst T (kind-is l p Kind.Unit) t)
   where
@@ -60,12 +60,12 @@ unit-told l p t = p .says ∙ go (formOf Ours (l .bytes)) (subst T (kind-is l p 
     go Kind.Rule t = absurd t
     go Kind.Other t = absurd t
 
-no-unit : unitSaid noLine ≡ noUnit
+no-unit : unitOn noLine ≡ noUnit
 unfolding contentOf matches Words.text
 no-unit = refl
 
-said-at : (ls : List TextLine) (j : ℕ) → getD (map unitSaid ls) j noUnit ≡ unitSaid (getD ls j noLine)
-said-at ls j = ap (getD (map unitSaid ls) j) (sym no-unit) ∙ List·getD-map unitSaid ls j noLine
+said-at : (ls : List TextLine) (j : ℕ) → getD (map unitOn ls) j noUnit ≡ unitOn (getD ls j noLine)
+said-at ls j = ap (getD (map unitOn ls) j) (sym no-unit) ∙ List·getD-map unitOn ls j noLine
 
 -- ---- the bytes at a spot
 part-is : (b l f a : List ℕ) (start size : ℕ) → length b ≡ start → length l ≡ size → take size (drop start (b ++ ((l ++ f) ++ a))) ≡ l
@@ -85,9 +85,9 @@ line-says text asked j h =
     let here = ap (λ (p : Placed). p .line) at in
     let passed = each-passes Ours 1 [] (lines text) asked l
     (subst (λ (ls : List TextLine). In l ls) (sym (r .split)) (Memᴰ·append-right (r .before) (List·Memᴰ·head refl))) in
-    let said : unitSaid l ≡ u =
+    let said : unitOn l ≡ u =
     sym (ap (λ (us : List SheetUnit). getD us j noUnit) (unit-lines text asked) ∙ said-at (keep (isOf Kind.Unit) (lines text)) j
-    ∙ ap unitSaid (sym (found .line) ∙ here)) in
+    ∙ ap unitOn (sym (found .line) ∙ here)) in
     let start : s .start ≡ length b = ap (λ (q : Spot). q .start) (found .spot) ∙ omega (arith, ap (λ (q : Placed). q .spot .start) at) in
     let end : s .end ≡ length b + length (l .bytes) = ap (λ (q : Spot). q .end) (found .spot) ∙ omega (arith, ap (λ (q : Placed). q .spot .end) at) in
     record {

@@ -40,7 +40,7 @@ use Rattle.read_places.specs.declared.Sought.the-variants.{At, Past}
 
 -- ---- a line whose questions are all answered yes
 
-pub record Passes (h : House) (l : TextLine) : Type 0 where
+pub record LinePasses (h : House) (l : TextLine) : Type 0 where
   pub ended : l .ended ≡ true
   pub printable : printable (l .bytes) ≡ true
   pub says : lineOf h (l .bytes) true ≡ valuesOf (contentOf h (l .bytes))
@@ -49,7 +49,7 @@ is-true : (b : Bool) → T b → b ≡ true
 is-true true t = refl
 is-true false t = absurd t
 
-passes : (h : House) (n : ℕ) (before : List Content) (l : TextLine) → AllYes (questionsOf h n before l (contentOf h (l .bytes))) → Passes h l
+passes : (h : House) (n : ℕ) (before : List Content) (l : TextLine) → AllYes (questionsOf h n before l (contentOf h (l .bytes))) → LinePasses h l
 unfolding lineOf said
 passes h n before l asked =
     let yes = yes-at (questionsOf h n before l x) asked in
@@ -70,14 +70,14 @@ passes h n before l asked =
     go false b q tp tb tq = absurd tp
 
 pub each-passes : (h : House) (n : ℕ) (before : List Content) (ls : List TextLine) → AllYes (lineQuestions h n before ls)
-    → (l : TextLine) → In l ls → Passes h l
+    → (l : TextLine) → In l ls → LinePasses h l
 unfolding lineQuestions
 each-passes h n before [] asked l m = absurd (List·Memᴰ·not-nil m)
 each-passes h n before (k ∷ ls) asked l m =
     let x = contentOf h (k .bytes) in
     let now = questionsOf h n before k x in
     let later = lineQuestions h (suc n) (before ++ (x ∷ [])) ls in
-    ⊎-elim (λ e. subst (Passes h) (sym e) (passes h n before k (yes-front now later asked)))
+    ⊎-elim (λ e. subst (LinePasses h) (sym e) (passes h n before k (yes-front now later asked)))
     (each-passes h (suc n) (before ++ (x ∷ [])) ls (yes-back now later asked) l) (List·Memᴰ·cases-cons m)
 
 -- ---- the lines of a kind
@@ -98,20 +98,20 @@ module _ {A : Type 0} (k : Kind) (f : Content → List A) (g : TextLine → A) w
       go false = refl
 
 -- the unit and the rule that a line says
-abbrev pub unitSaid : TextLine → SheetUnit
-unitSaid l = headOr noUnit (unitOf (contentOf Ours (l .bytes)))
+abbrev pub unitOn : TextLine → SheetUnit
+unitOn l = headOr noUnit (unitOf (contentOf Ours (l .bytes)))
 
-abbrev pub ruleSaid : TextLine → Rule
-ruleSaid l = headOr noRule (ruleOf (contentOf Ours (l .bytes)))
+abbrev pub ruleOn : TextLine → Rule
+ruleOn l = headOr noRule (ruleOf (contentOf Ours (l .bytes)))
 
-module _ (l : TextLine) (p : Passes Ours l) where
+module _ (l : TextLine) (p : LinePasses Ours l) where
   pub kind-is : (k : Kind) → isOf k l ≡ sameKind (formOf Ours (l .bytes)) k
   unfolding kindOf
   kind-is k = ap₂ (λ (e q : Bool). e && sameKind (cond q (formOf Ours (l .bytes)) Kind.Unprintable) k) (p .ended) (p .printable)
 
-  unit-given : Gives Kind.Unit unitOf unitSaid l
+  unit-given : Gives Kind.Unit unitOf unitOn l
   unfolding contentOf
-  unit-given = go (formOf Ours (l .bytes)) ∙ ap (λ (b : Bool). cond b (unitSaid l ∷ []) []) (sym (kind-is Kind.Unit))
+  unit-given = go (formOf Ours (l .bytes)) ∙ ap (λ (b : Bool). cond b (unitOn l ∷ []) []) (sym (kind-is Kind.Unit))
     where
       go : (q : Kind) → let us = unitOf (formContent Ours q (l .bytes)) in us ≡ cond (sameKind q Kind.Unit) (headOr noUnit us ∷ []) []
       go Kind.Unprintable = refl
@@ -121,9 +121,9 @@ module _ (l : TextLine) (p : Passes Ours l) where
       go Kind.Rule = refl
       go Kind.Other = refl
 
-  rule-given : Gives Kind.Rule ruleOf ruleSaid l
+  rule-given : Gives Kind.Rule ruleOf ruleOn l
   unfolding contentOf
-  rule-given = go (formOf Ours (l .bytes)) ∙ ap (λ (b : Bool). cond b (ruleSaid l ∷ []) []) (sym (kind-is Kind.Rule))
+  rule-given = go (formOf Ours (l .bytes)) ∙ ap (λ (b : Bool). cond b (ruleOn l ∷ []) []) (sym (kind-is Kind.Rule))
     where
       go : (q : Kind) → let rs = ruleOf (formContent Ours q (l .bytes)) in rs ≡ cond (sameKind q Kind.Rule) (headOr noRule rs ∷ []) []
       go Kind.Unprintable = refl
@@ -186,19 +186,19 @@ sought-number (s ∷ ss) (suc j) = sought-number ss j
 -- a text whose lines pass all questions
 module _ (text : List ℕ) (asked : AllYes (lineQuestions Ours 1 [] (lines text))) where
   -- the j-th line of the kind says the j-th unit, or the j-th rule
-  pub unit-lines : sheetIn Ours text .units ≡ map unitSaid (keep (isOf Kind.Unit) (lines text))
+  pub unit-lines : sheetIn Ours text .units ≡ map unitOn (keep (isOf Kind.Unit) (lines text))
   unfolding sheetIn unitsIn
-  unit-lines = given Kind.Unit unitOf unitSaid (lines text) (λ l m. unit-given l (each-passes Ours 1 [] (lines text) asked l m))
+  unit-lines = given Kind.Unit unitOf unitOn (lines text) (λ l m. unit-given l (each-passes Ours 1 [] (lines text) asked l m))
 
-  pub rule-lines : sheetIn Ours text .rules ≡ map ruleSaid (keep (isOf Kind.Rule) (lines text))
+  pub rule-lines : sheetIn Ours text .rules ≡ map ruleOn (keep (isOf Kind.Rule) (lines text))
   unfolding sheetIn rulesIn
-  rule-lines = given Kind.Rule ruleOf ruleSaid (lines text) (λ l m. rule-given l (each-passes Ours 1 [] (lines text) asked l m))
+  rule-lines = given Kind.Rule ruleOf ruleOn (lines text) (λ l m. rule-given l (each-passes Ours 1 [] (lines text) asked l m))
 
   pub unit-count : length (spots Kind.Unit text) ≡ length (sheetIn Ours text .units)
-  unit-count = spots-counted Kind.Unit text ∙ sym (ap length unit-lines ∙ length-map (keep (isOf Kind.Unit) (lines text)) unitSaid)
+  unit-count = spots-counted Kind.Unit text ∙ sym (ap length unit-lines ∙ length-map (keep (isOf Kind.Unit) (lines text)) unitOn)
 
   pub rule-count : length (spots Kind.Rule text) ≡ length (sheetIn Ours text .rules)
-  rule-count = spots-counted Kind.Rule text ∙ sym (ap length rule-lines ∙ length-map (keep (isOf Kind.Rule) (lines text)) ruleSaid)
+  rule-count = spots-counted Kind.Rule text ∙ sym (ap length rule-lines ∙ length-map (keep (isOf Kind.Rule) (lines text)) ruleOn)
 
 -- ---- where a line stands
 
@@ -262,7 +262,8 @@ module _ (k : Kind) (text : List ℕ) (j : ℕ) where
   unfolding spots
   spot-stands h =
       let p = getD (keptOf k text) j noPlace in
-      let kept = in-keep (λ (p : Placed). isOf k (p .line)) p (placed text) (in-at noPlace (keptOf k text) j (omega (arith, length-map (keptOf k text) (λ p. p .spot)))) in
+      let there = in-at noPlace (keptOf k text) j (omega (arith, length-map (keptOf k text) (λ p. p .spot))) in
+      let kept = in-keep (λ (p : Placed). isOf k (p .line)) p (placed text) there in
       record {
         placed = p;
         spot = List·getD-map (λ (p : Placed). p .spot) (keptOf k text) j noPlace;

@@ -95,7 +95,8 @@ returns-2 : tie.Need-returns-2
 returns-2 c wa wb h =
     let t = c .before .before .before .before in
     let q = rules-call t in
-    refused-rules wa wb _ _ _ _ _ h _ _ _ (passed q wa wb h) _ _ (came-to q wa wb h ∙ ap verdictBy (c .before .before .stretches .given .1)) (c .blamed2 .ensures)
+    refused-rules wa wb _ _ _ _ _ h _ _ _ (passed q wa wb h) _ _ (came-to q wa wb h ∙ ap verdictBy (c .before .before .stretches .given .1))
+    (c .blamed2 .ensures)
 
 -- the combined rules of the same rules
 front-of : (before now : Columns) (rs all : List Rule) (k : ℕ) → rs ≡ all → AtFront (mergedRules rs) k before now → AtFront (mergedRules all) k before now

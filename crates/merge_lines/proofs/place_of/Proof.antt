@@ -9,7 +9,7 @@ use lib.Dec.{eqb}
 use lib.ListN.{length, getD}
 use borrow.Author.Tests.{eq-eqb, ne-eqb}
 use Rattle.lists.specs.First.{firstFrom, first-passed, first-failed, first-none}
-use Rattle.merge_lines.specs.Lines.{placeIn}
+use Rattle.merge_lines.specs.Lines.{loaderPlace}
 use Rattle.merge_lines.proofs.place_of.Statement.{statement}
 use Rattle.merge_lines.proofs.place_of.Tie as tie
 
@@ -17,7 +17,7 @@ abbrev isAt : List ℕ → ℕ → ℕ → Bool
 isAt ks k j = eqb (getD ks j 0) k
 
 abbrev Inv-loop : tie.InvT-loop
-Inv-loop numbers loader j₀ j = (j ≤ length numbers) × (firstFrom (length numbers - j) j (isAt numbers loader) ≡ placeIn numbers loader)
+Inv-loop numbers loader j₀ j = (j ≤ length numbers) × (firstFrom (length numbers - j) j (isAt numbers loader) ≡ loaderPlace numbers loader)
 
 abbrev μ-loop : tie.MeasureT-loop
 μ-loop numbers loader j₀ j = length numbers - j

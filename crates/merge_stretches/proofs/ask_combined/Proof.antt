@@ -8,7 +8,7 @@ use Rattle.read_form.specs.declared.Kind.the-variants as Kind
 use Rattle.sheet.specs.Sheet.{Rule}
 use Rattle.lists.specs.Last.{lastPassing}
 use Rattle.merge_rules.specs.Columns.{stretchAt}
-use Rattle.merge_questions.specs.Merging.{lineAt}
+use Rattle.merge_questions.specs.Merging.{lineNumber}
 use Rattle.merge_stretches.specs.Stretches.{lastAt}
 use Rattle.merge_stretches.proofs.StretchLaws.{no-21, no-10, all-yes}
 use Rattle.merge_stretches.proofs.ask_combined.Statement.{statement}
@@ -29,7 +29,7 @@ returns c =
     let a = z .args in
     let e = s .first-crossed .ensures in
     ap (no 21) (c .line-number .ensures)
-    ∙ ap (λ (j : ℕ). no 21 (lineAt (a .two .now) Kind.Rule j)) (c .before .last-on .ensures
+    ∙ ap (λ (j : ℕ). no 21 (lineNumber (a .two .now) Kind.Rule j)) (c .before .last-on .ensures
     ∙ ap (λ (p : ℕ). lastPassing (length (a .from .now)) (stretchAt (a .from .now) (a .to .now) (getD (a .froms .now) p 0) (getD (a .tos .now) p 0))) e)
     ∙ sym (no-21 (a .two .now) (a .froms .now) (a .tos .now) (a .lows .now) (a .highs .now) (z .pre .1) (z .pre .2) (z .pre .3) (last z) (a .past)
     (omega (arith, e, c .before .before .before .before .if1 .taken)))

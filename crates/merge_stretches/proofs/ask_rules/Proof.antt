@@ -99,7 +99,8 @@ asked-both c =
     c .ask-combined .ensures
     ∙ asked-is (a .two .now) (last z) (rules z) _ (a .n) (k .combine .result .past)
     (last-past (a .from .now) (a .to .now) (a .low .now) (a .high .now) (z .pre .0 .0) (z .pre .0 .1) (z .pre .0 .2) (a .n))
-    (fronts-are (merged k) (k .combine .result .count) (e .0) _ _ _ _ _ _ _ _ (e .1 .1 .0) (e .1 .1 .1 .0) (e .1 .1 .1 .1 .0) (e .1 .1 .1 .1 .1)) (e .1 .0) (few z)
+    (fronts-are (merged k) (k .combine .result .count) (e .0) _ _ _ _ _ _ _ _ (e .1 .1 .0) (e .1 .1 .1 .0) (e .1 .1 .1 .1 .0) (e .1 .1 .1 .1 .1))
+    (e .1 .0) (few z)
 
 returns : tie.Need-returns
 returns c =

@@ -5,7 +5,7 @@ use native.Mathlib.Omega.{arith}
 use borrow.Author.Needs.{needs}
 use Rattle.questions.specs.Questions.{no}
 use Rattle.read_form.specs.declared.Kind.the-variants as Kind
-use Rattle.merge_questions.specs.Merging.{lineAt}
+use Rattle.merge_questions.specs.Merging.{lineNumber}
 use Rattle.merge_units.proofs.UnitLaws.{no-19, no-20, no-9, all-yes}
 use Rattle.merge_units.proofs.ask_units.Statement.{statement}
 use Rattle.merge_units.proofs.ask_units.Tie as tie
@@ -24,7 +24,7 @@ returns-2 c =
     let s = c .before .before in
     let a = start (s .before) .args in
     let e = s .first-shared .ensures in
-    c .refuse2 .ensures ∙ ap (λ (j : ℕ). no 20 (lineAt (a .two .now) Kind.Unit j)) e
+    c .refuse2 .ensures ∙ ap (λ (j : ℕ). no 20 (lineNumber (a .two .now) Kind.Unit j)) e
     ∙ sym (no-20 (a .two .now) (a .p) (a .q) (a .ones .now) (a .twos .now) (s .before .if1 .left) (omega (arith, e, c .before .if2 .taken)))
 
 returns-3 : tie.Need-returns-3

@@ -74,7 +74,8 @@ loop-again c k e =
     let on : ℕ → Type 0 = λ m. Searching k (text h) (start h .args .j) (r .result .place + 1) (h .loop .n + 1) m in
     let i = h .loop .inv k e in
     ⊎-elim
-    (λ p. subst on (sym (p .2)) (search-counted _ _ _ _ _ _ i _ (in-whole (f .before)) (r .ensures .0) _ (r .ensures .1) (same k _ _ e (p .0 .taken)) (p .1 .left)))
+    (λ p. subst on (sym (p .2)) (search-counted _ _ _ _ _ _ i _ (in-whole (f .before)) (r .ensures .0) _ (r .ensures .1) (same k _ _ e (p .0 .taken))
+    (p .1 .left)))
     (λ p. subst on (sym (p .1)) (search-passed _ _ _ _ _ _ i _ (in-whole (f .before)) (r .ensures .0) _ (r .ensures .1) (other k _ _ e (p .0 .left))))
     (c .before .if1 .came)
 
