@@ -85,6 +85,12 @@ fn every_link_leads_somewhere() {
     assert!(count > 50, "only {count} links were found");
 }
 
+/// The rows of the table of conditions of docs/PROMISES.md.
+fn conditions(promises: &str) -> impl Iterator<Item = &str> {
+    let part = promises.split("## ").find(|part| part.starts_with("The user's conditions")).expect("the table of conditions");
+    part.lines().filter(|l| l.starts_with("| ")).skip(1)
+}
+
 #[test]
 fn theorems_stand_where_the_promises_say() {
     let document = root().join("docs/PROMISES.md");
@@ -101,25 +107,61 @@ fn theorems_stand_where_the_promises_say() {
     for label in labels(&text).keys() {
         assert!(text.contains(&format!("][{label}]")), "docs/PROMISES.md: nothing has the label {label}");
     }
-    let conditions = text.split("## ").find(|part| part.starts_with("The user's conditions")).expect("the table of conditions");
-    for row in conditions.lines().filter(|l| l.starts_with("| ")).skip(1) {
+    for row in conditions(&text) {
         let meets = row.trim_matches('|').split(" | ").nth(1).unwrap();
         let bare = meets.split("[`").map(|part| part.split_once(']').map_or(part, |p| p.1)).collect::<String>();
         assert!(meets.contains("[`") && !bare.contains('`'), "docs/PROMISES.md: a row without a link for each name: {row}");
     }
 }
 
-/// The wrong programs of every crate, as `crate/label`.
-fn wrong_programs() -> BTreeSet<String> {
-    let mut all = BTreeSet::new();
+/// The wrong programs of every crate by their names, `crate/label`: those that the gate tries (`must-fail/`) and the others (`must-fail/more/`).
+fn wrong_programs() -> BTreeMap<String, PathBuf> {
+    let mut all = BTreeMap::new();
     for folder in fs::read_dir(root().join("crates")).unwrap().map(|e| e.unwrap()) {
-        let Ok(edits) = fs::read_dir(folder.path().join("must-fail")) else { continue };
-        for edit in edits.map(|e| e.unwrap().path()) {
-            let label = edit.file_stem().unwrap().to_str().unwrap();
-            all.insert(format!("{}/{label}", folder.file_name().to_str().unwrap()));
+        for tier in ["must-fail", "must-fail/more"] {
+            let Ok(files) = fs::read_dir(folder.path().join(tier)) else { continue };
+            for edit in files.map(|e| e.unwrap().path()).filter(|path| path.is_file()) {
+                assert_eq!(edit.extension().unwrap(), "edit", "{} is tried by nothing", edit.display());
+                let name = format!("{}/{}", folder.file_name().to_str().unwrap(), edit.file_stem().unwrap().to_str().unwrap());
+                assert!(all.insert(name.clone(), edit).is_none(), "{name} stands in both folders");
+            }
         }
     }
     all
+}
+
+/// What an edit replaces: for each pair of its `old:` and `new:` lines the file, the text that stands there and the one that takes its place.
+fn replacements(edit: &str) -> Vec<(&str, &str, &str)> {
+    let (mut file, mut old, mut all) = ("", "", Vec::new());
+    for line in edit.lines() {
+        if let Some(name) = line.strip_prefix("file: ") {
+            file = name;
+        } else if let Some(text) = line.strip_prefix("old: ") {
+            old = text;
+        } else if let Some(text) = line.strip_prefix("new:") {
+            all.push((file, old, text.strip_prefix(' ').unwrap_or(text)));
+            old = "";
+        }
+    }
+    all
+}
+
+/// As `rt must-fail` makes them, those too that the gate does not try.
+#[test]
+fn wrong_programs_can_be_made() {
+    for (name, edit) in wrong_programs() {
+        let folder = root().join("crates").join(name.split_once('/').unwrap().0);
+        let edit = fs::read_to_string(edit).unwrap();
+        let pairs = replacements(&edit);
+        assert!(!pairs.is_empty(), "{name} replaces nothing");
+        let mut files = BTreeMap::new();
+        for (file, old, new) in pairs {
+            assert!(["src/", "specs/", "proofs/"].iter().any(|part| file.starts_with(part)), "{name}: {file} is no file of a crate");
+            let text = files.entry(file).or_insert_with(|| fs::read_to_string(folder.join(file)).unwrap_or_else(|e| panic!("{name}: {file}: {e}")));
+            assert_eq!(text.matches(old).count(), 1, "{name}: so often stands in {file}: {old}");
+            *text = text.replacen(old, new, 1);
+        }
+    }
 }
 
 #[test]
@@ -127,10 +169,21 @@ fn the_promises_name_every_wrong_program() {
     let text = fs::read_to_string(root().join("docs/PROMISES.md")).unwrap();
     let is_name = |part: &str| part.contains('/') && part.chars().all(|c| c.is_ascii_lowercase() || c.is_ascii_digit() || "_/".contains(c));
     let named: BTreeSet<String> = text.split('`').skip(1).step_by(2).filter(|part| is_name(part) && !part.ends_with('/')).map(str::to_string).collect();
-    let there = wrong_programs();
+    let there: BTreeSet<String> = wrong_programs().into_keys().collect();
     assert!(there.len() > 100, "only {} wrong programs were found", there.len());
     assert_eq!(named.difference(&there).collect::<Vec<_>>(), Vec::<&String>::new(), "named, and not there");
     assert_eq!(there.difference(&named).collect::<Vec<_>>(), Vec::<&String>::new(), "there, and not named");
+}
+
+#[test]
+fn the_gate_tries_a_wrong_program_of_each_condition() {
+    let text = fs::read_to_string(root().join("docs/PROMISES.md")).unwrap();
+    let there = wrong_programs();
+    for row in conditions(&text) {
+        let mut named = row.trim_matches('|').split(" | ").last().unwrap().split('`').skip(1).step_by(2);
+        let tried = named.any(|name| there.get(name).is_some_and(|edit| edit.parent().unwrap().ends_with("must-fail")));
+        assert!(tried, "docs/PROMISES.md: of this row the gate tries none: {row}");
+    }
 }
 
 #[test]
