@@ -153,7 +153,7 @@ module _ (h : House) (query : Query) (input page left : List ℕ) (next : ℕ) (
   -- ---- 2 and 3. A text that is not refused
   module _ (all-yes : verdict h input ≡ allYes) where
     -- gets what was asked of a sheet that fits where some assignment meets all windows and all rules of the sheet in the text,
-    page-if-lawful : (x : List ℕ) → T (lawful s x) → FitPage query
+    pub page-if-lawful : (x : List ℕ) → T (lawful s x) → FitPage query
     page-if-lawful x l = go (way all-yes)
       where
         go : Way → FitPage query

@@ -137,3 +137,14 @@ oneIf-split true false false f g h k = absurd (⊎-elim (λ x. x) (λ x. x) (f t
 oneIf-split false true r f g h k = absurd (g tt)
 oneIf-split false false true f g h k = absurd (h tt)
 oneIf-split false false false f g h k = refl
+
+-- a set in two parts
+pub count-split : (n : ℕ) (p q r : ℕ → Bool) → ((j : ℕ) → j < n → T (p j) → T (q j) ⊎ T (r j)) → ((j : ℕ) → j < n → T (q j) → T (p j))
+    → ((j : ℕ) → j < n → T (r j) → T (p j)) → ((j : ℕ) → j < n → T (q j) → T (r j) → ⊥) → count n p ≡ count n q + count n r
+unfolding count
+count-split zero p q r f g h k = refl
+count-split (suc n) p q r f g h k = omega (
+  arith,
+  oneIf-split (p n) (q n) (r n) (f n (omega arith)) (g n (omega arith)) (h n (omega arith)) (k n (omega arith)),
+  count-split n p q r (λ j l. f j (omega arith)) (λ j l. g j (omega arith)) (λ j l. h j (omega arith)) (λ j l. k j (omega arith)),
+)

@@ -67,3 +67,24 @@ least-in x (y ∷ ys) h = ⊎-elim (λ e. List·Memᴰ·head e) (λ m. List·Mem
 
 pub least-is : (g : ℕ) (xs : List ℕ) → In g xs → ((x : ℕ) → In x xs → g ≤ x) → least xs ≡ g
 least-is g xs h f = omega (arith, least-le g xs h, f (least xs) (least-in g xs h))
+
+-- ---- lists whose numbers are among another's, and lists of the same numbers
+pub least-more : (x : ℕ) (xs ys : List ℕ) → In x xs → ((k : ℕ) → In k xs → In k ys) → least ys ≤ least xs
+least-more x xs ys m f = least-le (least xs) ys (f (least xs) (least-in x xs m))
+
+pub greatest-more : (x : ℕ) (xs ys : List ℕ) → In x xs → ((k : ℕ) → In k xs → In k ys) → greatest xs ≤ greatest ys
+greatest-more x xs ys m f = greatest-ge (greatest xs) ys (f (greatest xs) (greatest-in x xs m))
+
+pub least-same : (xs ys : List ℕ) → ((k : ℕ) → In k xs → In k ys) → ((k : ℕ) → In k ys → In k xs) → least xs ≡ least ys
+least-same [] [] f g = refl
+least-same [] (y ∷ ys) f g = absurd (List·Memᴰ·not-nil (g y (List·Memᴰ·head refl)))
+least-same (x ∷ xs) [] f g = absurd (List·Memᴰ·not-nil (f x (List·Memᴰ·head refl)))
+least-same (x ∷ xs) (y ∷ ys) f g =
+    omega (arith, least-more x (x ∷ xs) (y ∷ ys) (List·Memᴰ·head refl) f, least-more y (y ∷ ys) (x ∷ xs) (List·Memᴰ·head refl) g)
+
+pub greatest-same : (xs ys : List ℕ) → ((k : ℕ) → In k xs → In k ys) → ((k : ℕ) → In k ys → In k xs) → greatest xs ≡ greatest ys
+greatest-same [] [] f g = refl
+greatest-same [] (y ∷ ys) f g = absurd (List·Memᴰ·not-nil (g y (List·Memᴰ·head refl)))
+greatest-same (x ∷ xs) [] f g = absurd (List·Memᴰ·not-nil (f x (List·Memᴰ·head refl)))
+greatest-same (x ∷ xs) (y ∷ ys) f g =
+    omega (arith, greatest-more x (x ∷ xs) (y ∷ ys) (List·Memᴰ·head refl) f, greatest-more y (y ∷ ys) (x ∷ xs) (List·Memᴰ·head refl) g)

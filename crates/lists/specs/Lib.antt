@@ -8,3 +8,4 @@ pub mod Slices
 pub mod First
 pub mod Last
 pub mod FrontLaws
+pub mod Permutations

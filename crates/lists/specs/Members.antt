@@ -119,6 +119,12 @@ in-at d [] i h = absurd (omega arith)
 in-at d (x ∷ xs) zero h = List·Memᴰ·head refl
 in-at d (x ∷ xs) (suc i) h = List·Memᴰ·tail (in-at d xs i (omega arith))
 
+-- and what is in it stands at a place
+pub place-in : {A : Type 0} (d x : A) (xs : List A) → In x xs → (i : ℕ) × (i < length xs) × (getD xs i d ≡ x)
+place-in d x [] m = absurd (List·Memᴰ·not-nil m)
+place-in d x (y ∷ ys) m =
+    ⊎-elim (λ e. (0, omega arith, sym e)) (λ n. let r = place-in d x ys n in (suc (r .0), omega (arith, r .1), r .2)) (List·Memᴰ·cases-cons m)
+
 pub every-at : {A : Type 0} (t : A → Bool) (d : A) (xs : List A) → T (every t xs) → (i : ℕ) → i < length xs → T (t (getD xs i d))
 every-at t d [] h i l = absurd (omega arith)
 every-at t d (x ∷ xs) h zero l = left (t x) (every t xs) h
@@ -184,3 +190,12 @@ every-append t (x ∷ xs) ys = ap (λ (b : Bool). t x && b) (every-append t xs y
 
 pub every-both : {A : Type 0} (t : A → Bool) (xs ys : List A) → T (every t xs) → T (every t ys) → T (every t (xs ++ ys))
 every-both t xs ys h k = subst T (sym (every-append t xs ys)) (both (every t xs) (every t ys) h k)
+
+-- ---- the entries of one list and then of another that pass
+pub keep-append : {A : Type 0} (t : A → Bool) (xs ys : List A) → keep t (xs ++ ys) ≡ keep t xs ++ keep t ys
+keep-append t [] ys = refl
+keep-append t (x ∷ xs) ys = ap (consIf (t x) x) (keep-append t xs ys) ∙ go (t x)
+  where
+    go : (b : Bool) → consIf b x (keep t xs ++ keep t ys) ≡ consIf b x (keep t xs) ++ keep t ys
+    go true = refl
+    go false = refl

@@ -12,20 +12,13 @@ use lib.ListN.{length, getD, set}
 use borrow.Author.Tests.{eq-eqb, ne-eqb}
 use Rattle.slots.specs.Slots.{Slot}
 use Rattle.lists.specs.Lists.{keep, consIf, smallest, largest, least, greatest}
+use Rattle.lists.specs.Members.{keep-append}
 use Rattle.sheet.specs.Sheet.{Rule, onStretch}
 use Rattle.sheet.specs.PlanLaws.{noRule}
 use Rattle.merge_sheets.specs.Merge.{firsts, combinedOn, mergedRules, tightened, withRule}
 use Rattle.merge_sheets.specs.MergeLaws.{same-stretch}
 
 -- ---- lists
-
-keep-append : {A : Type 0} (t : A → Bool) (xs ys : List A) → keep t (xs ++ ys) ≡ keep t xs ++ keep t ys
-keep-append t [] ys = refl
-keep-append t (x ∷ xs) ys = ap (consIf (t x) x) (keep-append t xs ys) ∙ go (t x)
-  where
-    go : (b : Bool) → consIf b x (keep t xs ++ keep t ys) ≡ consIf b x (keep t xs) ++ keep t ys
-    go true = refl
-    go false = refl
 
 largest-last : (n x : ℕ) (xs : List ℕ) → largest n (xs ++ (x ∷ [])) ≡ max (largest n xs) x
 largest-last n x [] = omega arith

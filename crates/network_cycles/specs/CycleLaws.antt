@@ -3,8 +3,8 @@
 use mathlib.Core.Path.{_≡_, sym, ap, _∙_, subst}
 use mathlib.Core.Logic.{_⊎_, inl, inr, ⊎-elim}
 use mathlib.Core.Bool.{_&&_}
-use mathlib.Core.List.{List, [], _∷_, _++_, Memᴰ·append-left, Memᴰ·append-right, Memᴰ·cast}
-use mathlib.Core.List.{List·Memᴰ·head, List·Memᴰ·tail, List·Memᴰ·not-nil, List·Memᴰ·cases-cons, List·Memᴰ·append-cases}
+use mathlib.Core.List.{List, _∷_, _++_, Memᴰ·append-left, Memᴰ·append-right, Memᴰ·cast}
+use mathlib.Core.List.{List·Memᴰ·head, List·Memᴰ·tail, List·Memᴰ·append-cases}
 use Prim.Native.Nat.{ℕ, suc, _≤_, _<_}
 use native.Mathlib.Omega.{arith}
 use native.Mathlib.Nat.{eq-or-lt-of-le}
@@ -15,7 +15,7 @@ use lib.IntN.{pos}
 use lib.Signed.{_<ℤ_, ltZ}
 use Rattle.integers.specs.Parts.{ints}
 use Rattle.lists.specs.Lists.{every}
-use Rattle.lists.specs.Members.{In, both, in-every}
+use Rattle.lists.specs.Members.{In, both, place-in, in-every}
 use Rattle.network.specs.Network.{Weights, around, distinct, lowestFirst, isNegativeCycle}
 use Rattle.network.specs.NetworkLaws.{Upto, upto-append, upto-left, upto-right, every-of-upto, around-turned}
 use Rattle.network.specs.NetworkLaws.{Cycle, Distinct, distinct-left, distinct-right, distinct-apart, distinct-join, distinct-test}
@@ -27,9 +27,7 @@ pub record Place (x : ℕ) (c : List ℕ) : Type 0 where
   pub value : getD c place 0 ≡ x
 
 pub at-in : (x : ℕ) (c : List ℕ) → In x c → Place x c
-at-in x [] m = absurd (List·Memᴰ·not-nil m)
-at-in x (a ∷ bs) m = ⊎-elim (λ e. record { place = 0; inside = omega arith; value = sym e })
-    (λ n. let r = at-in x bs n in record { place = suc (r .place); inside = omega (arith, r .inside); value = r .value }) (List·Memᴰ·cases-cons m)
+at-in x c m = let r = place-in 0 x c m in record { place = r .0; inside = r .1; value = r .2 }
 
 -- ---- a cycle turned to start at place i, where its least boundary stands
 module _ (top : ℕ) (d : Weights) (us : List ℕ) (low : ℕ) (vs : List ℕ) (r : Cycle top d (us ++ low ∷ vs))

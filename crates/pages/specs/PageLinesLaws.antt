@@ -179,6 +179,37 @@ placed-says span k x e l = go (leb x span)
     go true = unit-says k x e l
     go false = carried-says k e l
 
+-- the unit lines with a slot are as many as the units that have it
+module _ (span : ℕ) (loaders slots first last count low high : ℕ → ℕ) where
+  abbrev unitOf : ℕ → Said
+  unitOf = unitSaid span loaders slots first last
+
+  unit-counted : (t j : ℕ) → t ≤ span → isUnitWith t (unitOf j) ≡ eqb t (slots j)
+  unit-counted t j h = go (leb (slots j) span) refl
+    where
+      go : (b : Bool) → leb (slots j) span ≡ b
+          → isUnitWith t (cond b (unit (loaders j) (slots j) (first j) (last j)) (carried (loaders j) (first j) (last j))) ≡ eqb t (slots j)
+      go true e = refl
+      go false e = sym (ne-eqb t (slots j) (λ z. omega (arith, leb-false (slots j) span e)))
+
+  units-counted : (t i k : ℕ) → t ≤ span → howMany (isUnitWith t) (map unitOf (run i k)) ≡ howMany (eqb t) (map slots (run i k))
+  units-counted t i zero h = refl
+  units-counted t i (suc k) h = ap₂ (λ b n. oneIf b + n) (unit-counted t i h) (units-counted t (suc i) k h)
+
+  no-units : (t i k : ℕ) → howMany (isUnitWith t) (map (slotSaid count low high) (run i k)) ≡ 0
+  no-units t i zero = refl
+  no-units t i (suc k) = omega (arith, no-units t (suc i) k)
+
+  pub lines-counted : (t m n i k : ℕ) → t ≤ span
+      → unitLinesWith t (plan m ∷ (map unitOf (run 0 n) ++ map (slotSaid count low high) (run i k))) ≡ howMany (eqb t) (map slots (run 0 n))
+  lines-counted t m n i k h =
+      omega (
+        arith,
+        howMany-append (isUnitWith t) (map unitOf (run 0 n)) (map (slotSaid count low high) (run i k)),
+        units-counted t 0 n h,
+        no-units t i k,
+      )
+
 module _ (span : ℕ) (loaders slots first last : List ℕ) (low high : ℕ → ℕ) where
   abbrev page : List ℕ
   page = planPage span loaders slots first last low high
@@ -202,34 +233,12 @@ module _ (span : ℕ) (loaders slots first last : List ℕ) (low high : ℕ → 
       (read-lines (slotLineAt (unitsAt slots) low high) (ofSlot (unitsAt slots)) (λ t. slot-says t (unitsAt slots t) (low t) (high t)) 1 (suc span - 1) []
       ∙ ap (λ ls. map (ofSlot (unitsAt slots)) (fromTo 1 span) ++ ls) read-nothing ∙ append-nil (map (ofSlot (unitsAt slots)) (fromTo 1 span))))
 
-  -- the unit lines with a slot are as many as the units that have it
-  unit-counted : (t j : ℕ) → t ≤ span → isUnitWith t (ofUnit j) ≡ eqb t (getD slots j 0)
-  unit-counted t j h = go (leb (getD slots j 0) span) refl
-    where
-      go : (b : Bool) → leb (getD slots j 0) span ≡ b
-          → isUnitWith t (cond b (unit (getD loaders j 0) (getD slots j 0) (getD first j 0) (getD last j 0))
-          (carried (getD loaders j 0) (getD first j 0) (getD last j 0))) ≡ eqb t (getD slots j 0)
-      go true e = refl
-      go false e = sym (ne-eqb t (getD slots j 0) (λ z. omega (arith, leb-false (getD slots j 0) span e)))
-
-  units-counted : (t i k : ℕ) → t ≤ span → howMany (isUnitWith t) (map ofUnit (run i k)) ≡ howMany (eqb t) (map (λ j. getD slots j 0) (run i k))
-  units-counted t i zero h = refl
-  units-counted t i (suc k) h = ap₂ (λ b n. oneIf b + n) (unit-counted t i h) (units-counted t (suc i) k h)
-
-  no-units : (t i k : ℕ) → howMany (isUnitWith t) (map (ofSlot (unitsAt slots)) (run i k)) ≡ 0
-  no-units t i zero = refl
-  no-units t i (suc k) = omega (arith, no-units t (suc i) k)
-
   lines-with : (t : ℕ) → t ≤ span → unitLinesWith t (readLines page) ≡ unitsAt slots t
   lines-with t h =
-      omega (
-        arith,
-        ap (unitLinesWith t) counted-read,
-        howMany-append (isUnitWith t) (map ofUnit (run 0 (length slots))) (map (ofSlot (unitsAt slots)) (fromTo 1 span)),
-        units-counted t 0 (length slots) h,
-        no-units t 1 (suc span - 1),
-        ap (howMany (eqb t)) (listOf-is (λ j. getD slots j 0) 0 (length slots) slots refl (λ j h. refl)),
-      )
+      ap (unitLinesWith t) counted-read
+      ∙ lines-counted span (λ j. getD loaders j 0) (λ j. getD slots j 0) (λ j. getD first j 0) (λ j. getD last j 0) (unitsAt slots) low high
+      t (length slots) (length slots) 1 (suc span - 1) h
+      ∙ sym (ap (howMany (eqb t)) (listOf-is (λ j. getD slots j 0) 0 (length slots) slots refl (λ j h. refl)))
 
   -- The lines of the page, all of them: the head with the number of units; the units in their order; the slots in theirs, each with the number of these
   -- very lines that give a unit this slot.

@@ -95,7 +95,7 @@ module _ (s : Sheet) (t : List ℤ) (size : length t ≡ places s) (solved : Sol
   pub table-at : take (places s) left ≡ t
   table-at = ap (take (places s)) is ∙ take-at t (drop (places s) room) (places s) size
 
-  entry-at : (a b : ℕ) → a ≤ top s → b ≤ top s → entry (boundaries s) left a b ≡ entry (boundaries s) t a b
+  pub entry-at : (a b : ℕ) → a ≤ top s → b ≤ top s → entry (boundaries s) left a b ≡ entry (boundaries s) t a b
   entry-at a b ha hb =
       ap (λ r. entry (boundaries s) r a b) is
       ∙ List·getD-append t (drop (places s) room) (pos 0) (a * boundaries s + b) (omega (arith, size, row-inside a (boundaries s) (omega arith)))

@@ -73,7 +73,7 @@ module _ (s : Sheet) (ok : Valid s) where
   seats : (x : List ℕ) → T (lawful s x) → Seated (s .units) x
   seats x l = lawful-iff s x .0 l .seated
 
-  complete : (x : List ℕ) → Printed s x → Complete (length (s .units)) (top s) (firsts s) (lasts s) (λ b. countIn 1 b x) (at x)
+  pub complete : (x : List ℕ) → Printed s x → Complete (length (s .units)) (top s) (firsts s) (lasts s) (λ b. countIn 1 b x) (at x)
   complete x h = record {
     seated = seats x (h .legal) .inside;
     counts = λ b hb. sym (howMany-count (within 1 b) 0 x ∙ ap (λ (m : ℕ). count m (seatedBy (at x) b)) (seats x (h .legal) .size));

@@ -1,0 +1,353 @@
+-- What customers may compare: 1. the same units and the same rules, listed in another order; 2. wider windows and looser rules, all else equal.
+-- Of two sheets, of two calls of `plan` and of `decide`, and of two answers to texts, none of them refused. docs/RULES.md, "Waves to compare".
+-- What the words mean stands in compare_sheets/specs/Comparing.antt (`Relisted`, `SameLoader`, `seatsClosing`, `ClosesAlone`, `Looser`) and in Calls.antt (a call,
+-- an answer, its lines).
+-- Key idea: every lawful plan of the one sheet is one of the other, unit by unit, and all that is answered follows from the lawful plans.
+use mathlib.Core.Path.{_≡_, sym, ap, _∙_, subst}
+use mathlib.Core.Logic.{_↔_}
+use mathlib.Core.List.{List}
+use Prim.Native.Nat.{ℕ, suc, _≤_, _<_}
+use native.Mathlib.Omega.{arith}
+use lib.Dec.{T}
+use lib.ListN.{length, getD}
+use lib.Seq.{getD-take}
+use lib.IntN.{ℤ}
+use lib.Signed.{_≤ℤ_}
+use Rattle.lists.specs.Members.{In}
+use Rattle.network.specs.Table.{entry}
+use Rattle.slots.specs.Slots.{Slot, Boundary, slotBefore}
+use Rattle.sheet.specs.Sizes.{topOf}
+use Rattle.sheet.specs.Sheet.{Sheet, WrittenSheet, constraints, loaders, top, boundaries, lawful, countIn, leastIn, greatestIn, earliest, latest, printedPlan}
+use Rattle.sheet.specs.Lists.{givenBy, writtenBy}
+use Rattle.plan_rooms.specs.Rooms.{planLent, decideLent, roomsFit}
+use Rattle.plan_ask.specs.Asking.{Listed}
+use Rattle.plan_ask.specs.SolvableLaws.{asked-lists}
+use Rattle.plan_answers.specs.Reply as says
+use Rattle.plan_conditions.specs.Statements.{SomeLawful, NoneLawful}
+use Rattle.plan_conditions.specs.Conditions as plans
+use Rattle.plan_conditions.specs.DecideConditions as decides
+use Rattle.read_questions.specs.Reading.{roomsForAll}
+use Rattle.read_questions.specs.AcceptedLaws.{reading-accepts, reading-loaders}
+use Rattle.pages.specs.PageLines.{slot, range, other}
+use Rattle.wave_words.specs.declared.Query.{Query}
+use Rattle.wave_words.specs.declared.Query.the-variants.{Plan, Fits}
+use Rattle.answer_conditions.specs.AnswerConditions as answers
+use Rattle.compare_sheets.specs.Comparing.{Accepted, Relisted, SameLoader, seatsClosing, ClosesAlone, Looser}
+use Rattle.compare_sheets.specs.AlongLaws.{relisted-back}
+use Rattle.compare_sheets.specs.LooserLaws as looser
+use Rattle.compare.specs.Calls.{PlanCall, planOf, DecideCall, TextAnswer, sheetOf, linesOf, IsPlan, IsFit, IsNone, otherLines, SaysBetween}
+use Rattle.compare.specs.CallLaws.{Alike, relisted-alike, lists-alike, units-length, Tabled, tables-same, tables-looser, earliest-is, latest-is}
+use Rattle.compare.specs.PageLaws as pages
+
+-- ---- what is known of each call and answer by itself
+
+listedP : (p : PlanCall) → Listed (p .lists)
+listedP p = asked-lists (p .lists) (roomsFit (givenBy (p .lists)) (planLent (p .before))) (p .asked)
+
+listedD : (p : DecideCall) → Listed (p .lists)
+listedD p = asked-lists (p .lists) (roomsFit (givenBy (p .lists)) (decideLent (p .before))) (p .asked)
+
+planIff : (p : PlanCall) → (p .reply ≡ says.plan) ↔ SomeLawful (givenBy (p .lists))
+planIff p = plans.plan-exactly-when-lawful (p .lists) (p .before) (p .reply) (p .after) (p .settled) (p .asked)
+
+fitsIff : (p : DecideCall) → (p .reply ≡ says.plan) ↔ SomeLawful (givenBy (p .lists))
+fitsIff p = decides.fits-exactly-when-lawful (p .lists) (p .before) (p .reply) (p .after) (p .settled) (p .asked)
+
+tabledP : (p : PlanCall) → p .reply ≡ says.plan → Tabled (givenBy (p .lists)) (p .after .table)
+tabledP p f =
+    let P = plans.call-planned (p .lists) (p .before) (p .reply) (p .after) (p .settled) f in
+    record { table = P .table; size = P .size; solved = P .solved; room = p .before .table; is = ap (λ r. r .table) (P .left) }
+
+tabledD : (p : DecideCall) → p .reply ≡ says.plan → Tabled (givenBy (p .lists)) (p .after .table)
+tabledD p f =
+    let P = decides.call-planned (p .lists) (p .before) (p .reply) (p .after) (p .settled) f in
+    record { table = P .table; size = P .size; solved = P .solved; room = p .before .table; is = ap (λ r. r .table) (P .left) }
+
+acceptedT : {query : Query} (p : TextAnswer query) → Accepted (sheetOf p)
+acceptedT p = record { sheet = reading-accepts (p .house) (p .input) roomsForAll (p .asked); loaders = reading-loaders (p .house) (p .input) roomsForAll (p .asked) }
+
+planPage : (p : TextAnswer Plan) → SomeLawful (constraints (sheetOf p)) → IsPlan p (printedPlan (constraints (sheetOf p)))
+planPage p x = answers.page-if-lawful (p .house) Plan (p .input) (p .page) (p .left) (p .next) (p .answered) (p .size) (p .asked) (x .0) (x .1)
+
+fitPage : (p : TextAnswer Fits) → SomeLawful (constraints (sheetOf p)) → IsFit p
+fitPage p x = answers.page-if-lawful (p .house) Fits (p .input) (p .page) (p .left) (p .next) (p .answered) (p .size) (p .asked) (x .0) (x .1)
+
+nonePage : {query : Query} (p : TextAnswer query) → NoneLawful (constraints (sheetOf p)) → (ring : List Boundary) × IsNone p ring
+nonePage {query} p = answers.ring-otherwise (p .house) query (p .input) (p .page) (p .left) (p .next) (p .answered) (p .size) (p .asked)
+
+-- where the one has a lawful plan exactly when the other has, the one has none exactly when the other has none
+none-there : (s t : Sheet) → (SomeLawful t → SomeLawful s) → NoneLawful s → NoneLawful t
+none-there s t f none x l = let y = f (x, l) in none (y .0) (y .1)
+
+-- ======== 1. The same span, the same units and the same rules, listed in another order
+
+-- ---- Two accepted sheets
+module _ (w v : WrittenSheet) (listed : Relisted w v) (okw : Accepted w) (okv : Accepted v) where
+  abbrev pub s : Sheet
+  s = constraints w
+
+  abbrev pub t : Sheet
+  t = constraints v
+
+  A : Alike s t (SameLoader w v)
+  A = relisted-alike w v listed okw okv
+
+  -- agree on plan or none,
+  pub sheets-plan : SomeLawful s ↔ SomeLawful t
+  sheets-plan = A .some
+
+  -- on every count range: that of every stretch, which may end with the carried place or be that place alone,
+  pub sheets-ranges : (first last : Slot) → (leastIn s first last ≡ leastIn t first last) × (greatestIn s first last ≡ greatestIn t first last)
+  sheets-ranges first last = (A .least first last, A .greatest first last)
+
+  -- on each loader's narrowed window,
+  pub sheets-windows : (i j : ℕ) → SameLoader w v i j → (earliest s i ≡ earliest t j) × (latest s i ≡ latest t j)
+  sheets-windows i j l = (A .early i j l, A .late i j l)
+
+  module _ (some : SomeLawful s) where
+    -- and on every slot's count in the printed plan, that of the carried place too.
+    pub sheets-counts : (u : Slot) → 1 ≤ u → u ≤ slotBefore (top s) → countIn u u (printedPlan s) ≡ countIn u u (printedPlan t)
+    sheets-counts = A .counts some
+
+    -- Seats differ only among loaders with equal closing slots: of each closing slot as many loaders have each slot in the one plan as in the other,
+    pub sheets-seats : (closing u : Slot) → seatsClosing s (printedPlan s) closing u ≡ seatsClosing t (printedPlan t) closing u
+    sheets-seats = A .closing some
+
+    -- and a loader whose closing slot is its alone keeps its seat.
+    pub sheets-alone : (i j : ℕ) → SameLoader w v i j → ClosesAlone s i → getD (printedPlan s) i 0 ≡ getD (printedPlan t) j 0
+    sheets-alone = A .seat some
+
+-- ---- Two calls of `plan` that are not refused
+module _ (p q : PlanCall) (listed : Relisted (writtenBy (p .lists)) (writtenBy (q .lists))) where
+  abbrev pub one : Sheet
+  one = givenBy (p .lists)
+
+  abbrev pub two : Sheet
+  two = givenBy (q .lists)
+
+  abbrev pub Same : ℕ → ℕ → Type 0
+  Same = SameLoader (writtenBy (p .lists)) (writtenBy (q .lists))
+
+  B : Alike one two Same
+  B = lists-alike (p .lists) (q .lists) (listedP p) (listedP q) listed
+
+  -- agree on plan or none;
+  pub plans-plan : (p .reply ≡ says.plan) ↔ (q .reply ≡ says.plan)
+  plans-plan = (λ f. planIff q .1 (B .some .0 (planIff p .0 f)), λ f. planIff p .1 (B .some .1 (planIff q .0 f)))
+
+  pub plans-none : ((k : ℕ) × (p .reply ≡ says.none k)) ↔ ((k : ℕ) × (q .reply ≡ says.none k))
+  plans-none = (
+    (λ f. let r = plans.ring-otherwise (q .lists) (q .before) (q .reply) (q .after) (q .settled) (q .asked) (none-there one two (B .some .1)
+        (plans.none-unlawful (p .lists) (p .before) (p .reply) (p .after) (p .settled) (f .0) (f .1))) in (r .0, r .1)),
+    (λ f. let r = plans.ring-otherwise (p .lists) (p .before) (p .reply) (p .after) (p .settled) (p .asked) (none-there two one (B .some .0)
+        (plans.none-unlawful (q .lists) (q .before) (q .reply) (q .after) (q .settled) (f .0) (f .1))) in (r .0, r .1)),
+  )
+
+  module _ (plan : p .reply ≡ says.plan) where
+    some : SomeLawful one
+    some = planIff p .0 plan
+
+    plan′ : q .reply ≡ says.plan
+    plan′ = plans-plan .0 plan
+
+    inside : (i : ℕ) → i < length (writtenBy (p .lists) .units) → i < length (one .units)
+    inside i h = subst (λ k. i < k) (units-length (p .lists) (listedP p)) h
+
+    inside′ : (j : ℕ) → j < length (writtenBy (q .lists) .units) → j < length (two .units)
+    inside′ j h = subst (λ k. j < k) (units-length (q .lists) (listedP q)) h
+
+    front : planOf p ≡ printedPlan one
+    front = plans.plan-at (p .lists) (p .before) (p .reply) (p .after) (p .settled) plan
+
+    front′ : planOf q ≡ printedPlan two
+    front′ = plans.plan-at (q .lists) (q .before) (q .reply) (q .after) (q .settled) plan′
+
+    -- on every entry of the table: the greatest count of each stretch, and minus its least;
+    pub plans-ranges : (a b : Boundary) → a ≤ top one → b ≤ top one → entry (boundaries one) (p .after .table) a b ≡ entry (boundaries two) (q .after .table) a b
+    plans-ranges = tables-same one two Same B (p .after .table) (q .after .table) (tabledP p plan) (tabledP q plan′)
+
+    -- on each loader's narrowed window;
+    pub plans-windows : (i j : ℕ) → Same i j
+        → (getD (p .after .earliest) i 0 ≡ getD (q .after .earliest) j 0) × (getD (p .after .latest) i 0 ≡ getD (q .after .latest) j 0)
+    plans-windows i j l =
+        let hi = inside i (l .one) in
+        let hj = inside′ j (l .other) in
+        let there = B .some .0 some in (
+          earliest-is one some (p .after .earliest) i hi (plans.earliest-slot (p .lists) (p .before) (p .reply) (p .after) (p .settled) plan)
+              ∙ B .early i j l
+              ∙ sym (earliest-is two there (q .after .earliest) j hj (plans.earliest-slot (q .lists) (q .before) (q .reply) (q .after) (q .settled) plan′)),
+          latest-is one some (p .after .latest) i hi (plans.latest-slot (p .lists) (p .before) (p .reply) (p .after) (p .settled) plan)
+              ∙ B .late i j l
+              ∙ sym (latest-is two there (q .after .latest) j hj (plans.latest-slot (q .lists) (q .before) (q .reply) (q .after) (q .settled) plan′)),
+        )
+
+    -- on every slot's count in the plan, that of the carried place too;
+    pub plans-counts : (u : Slot) → 1 ≤ u → u ≤ slotBefore (top one) → countIn u u (planOf p) ≡ countIn u u (planOf q)
+    plans-counts u h hu = ap (countIn u u) front ∙ B .counts some u h hu ∙ sym (ap (countIn u u) front′)
+
+    -- and on seats, but among loaders with equal closing slots.
+    pub plans-seats : (closing u : Slot) → seatsClosing one (planOf p) closing u ≡ seatsClosing two (planOf q) closing u
+    plans-seats c u = ap (λ x. seatsClosing one x c u) front ∙ B .closing some c u ∙ sym (ap (λ x. seatsClosing two x c u) front′)
+
+    pub plans-alone : (i j : ℕ) → Same i j → ClosesAlone one i → getD (p .after .plan) i 0 ≡ getD (q .after .plan) j 0
+    plans-alone i j l alone =
+        sym (getD-take (length (one .units)) (p .after .plan) i 0 (inside i (l .one)))
+        ∙ ap (λ x. getD x i 0) front ∙ B .seat some i j l alone ∙ sym (ap (λ x. getD x j 0) front′)
+        ∙ getD-take (length (two .units)) (q .after .plan) j 0 (inside′ j (l .other))
+
+-- ---- Two calls of `decide` that are not refused
+module _ (p q : DecideCall) (listed : Relisted (writtenBy (p .lists)) (writtenBy (q .lists))) where
+  abbrev pub oneD : Sheet
+  oneD = givenBy (p .lists)
+
+  abbrev pub twoD : Sheet
+  twoD = givenBy (q .lists)
+
+  C : Alike oneD twoD (SameLoader (writtenBy (p .lists)) (writtenBy (q .lists)))
+  C = lists-alike (p .lists) (q .lists) (listedD p) (listedD q) listed
+
+  -- agree on fits or none,
+  pub decisions-fit : (p .reply ≡ says.plan) ↔ (q .reply ≡ says.plan)
+  decisions-fit = (λ f. fitsIff q .1 (C .some .0 (fitsIff p .0 f)), λ f. fitsIff p .1 (C .some .1 (fitsIff q .0 f)))
+
+  pub decisions-none : ((k : ℕ) × (p .reply ≡ says.none k)) ↔ ((k : ℕ) × (q .reply ≡ says.none k))
+  decisions-none = (
+    (λ f. let r = decides.ring-otherwise (q .lists) (q .before) (q .reply) (q .after) (q .settled) (q .asked) (none-there oneD twoD (C .some .1)
+        (decides.none-unlawful (p .lists) (p .before) (p .reply) (p .after) (p .settled) (f .0) (f .1))) in (r .0, r .1)),
+    (λ f. let r = decides.ring-otherwise (p .lists) (p .before) (p .reply) (p .after) (p .settled) (p .asked) (none-there twoD oneD (C .some .0)
+        (decides.none-unlawful (q .lists) (q .before) (q .reply) (q .after) (q .settled) (f .0) (f .1))) in (r .0, r .1)),
+  )
+
+  -- and on every entry of the table.
+  pub decisions-ranges : p .reply ≡ says.plan
+      → (a b : Boundary) → a ≤ top oneD → b ≤ top oneD → entry (boundaries oneD) (p .after .table) a b ≡ entry (boundaries twoD) (q .after .table) a b
+  decisions-ranges fits = tables-same oneD twoD _ C (p .after .table) (q .after .table) (tabledD p fits) (tabledD q (decisions-fit .0 fits))
+
+-- ---- Two answers to texts, of whichever house, that are not refused and were asked for a plan
+module _ (p q : TextAnswer Plan) (listed : Relisted (sheetOf p) (sheetOf q)) where
+  D : Alike (constraints (sheetOf p)) (constraints (sheetOf q)) (SameLoader (sheetOf p) (sheetOf q))
+  D = relisted-alike (sheetOf p) (sheetOf q) listed (acceptedT p) (acceptedT q)
+
+  back : Relisted (sheetOf q) (sheetOf p)
+  back = relisted-back (sheetOf p) (sheetOf q) listed
+
+  -- are both the page of a plan or both that of a ring.
+  pub answers-plan : ((x : List Slot) × IsPlan p x) ↔ ((x : List Slot) × IsPlan q x)
+  answers-plan = (
+    (λ x. (printedPlan (constraints (sheetOf q)), planPage q (D .some .0 (x .0, x .1 .legal)))),
+    (λ x. (printedPlan (constraints (sheetOf p)), planPage p (D .some .1 (x .0, x .1 .legal)))),
+  )
+
+  pub answers-none : ((ring : List Boundary) × IsNone p ring) ↔ ((ring : List Boundary) × IsNone q ring)
+  answers-none = (
+    (λ r. nonePage q (none-there (constraints (sheetOf p)) (constraints (sheetOf q)) (D .some .1) (r .1 .unlawful))),
+    (λ r. nonePage p (none-there (constraints (sheetOf q)) (constraints (sheetOf p)) (D .some .0) (r .1 .unlawful))),
+  )
+
+  module _ (x : List Slot) (page : IsPlan p x) where
+    someT : SomeLawful (constraints (sheetOf p))
+    someT = (x, page .legal)
+
+    here : IsPlan p (printedPlan (constraints (sheetOf p)))
+    here = planPage p someT
+
+    there : IsPlan q (printedPlan (constraints (sheetOf q)))
+    there = planPage q (D .some .0 someT)
+
+    -- Pages of plans have the same head and the same slot lines, with their counts and ranges: all lines but the units';
+    pub answers-lines : otherLines (linesOf p) ≡ otherLines (linesOf q)
+    answers-lines = pages.others-same (sheetOf p) (sheetOf q) listed D someT (linesOf p) (linesOf q) here there
+
+    -- each loader's line has the same `between`;
+    pub answers-between : (loader first last : ℕ) → SaysBetween loader first last (linesOf p) ↔ SaysBetween loader first last (linesOf q)
+    answers-between k e f = (
+      pages.between-there (sheetOf p) (sheetOf q) listed D someT (linesOf p) (linesOf q) here there k e f,
+      pages.between-there (sheetOf q) (sheetOf p) back (relisted-alike (sheetOf q) (sheetOf p) back (acceptedT q) (acceptedT p)) (D .some .0 someT)
+          (linesOf q) (linesOf p) there here k e f,
+    )
+
+    -- and that of a loader whose closing slot is its alone is the same line, its seat too. (The unit at place i has the line behind the head and i others.)
+    pub answers-alone : (i j : ℕ) → SameLoader (sheetOf p) (sheetOf q) i j → ClosesAlone (constraints (sheetOf p)) i
+        → getD (linesOf p) (suc i) other ≡ getD (linesOf q) (suc j) other
+    answers-alone = pages.line-same (sheetOf p) (sheetOf q) listed D someT (linesOf p) (linesOf q) here there
+
+-- ---- Two such answers that were asked only whether they fit
+module _ (p q : TextAnswer Fits) (listed : Relisted (sheetOf p) (sheetOf q)) where
+  E : Alike (constraints (sheetOf p)) (constraints (sheetOf q)) (SameLoader (sheetOf p) (sheetOf q))
+  E = relisted-alike (sheetOf p) (sheetOf q) listed (acceptedT p) (acceptedT q)
+
+  -- are the same, line by line, where the one says that it fits,
+  pub fits-lines : IsFit p → linesOf p ≡ linesOf q
+  fits-lines f = pages.fits-same (sheetOf p) (sheetOf q) listed E (linesOf p) (linesOf q) f (fitPage q (E .some .0 (f .some)))
+
+  -- and else both the page of a ring.
+  pub fits-none : ((ring : List Boundary) × IsNone p ring) ↔ ((ring : List Boundary) × IsNone q ring)
+  fits-none = (
+    (λ r. nonePage q (none-there (constraints (sheetOf p)) (constraints (sheetOf q)) (E .some .1) (r .1 .unlawful))),
+    (λ r. nonePage p (none-there (constraints (sheetOf q)) (constraints (sheetOf p)) (E .some .0) (r .1 .unlawful))),
+  )
+
+-- ======== 2. Wider windows and, on the same stretches, looser rules, any number of them, and all else equal
+
+-- ---- Of two sheets
+module _ (s t : Sheet) (more : Looser s t) where
+  -- a plan never becomes none: each lawful plan stays one;
+  pub looser-plan : (x : List Slot) → T (lawful s x) → T (lawful t x)
+  looser-plan = looser.looser-lawful s t more
+
+  -- and where there was a plan no least count rises and no greatest falls, of any stretch.
+  pub looser-ranges : SomeLawful s → (first last : Slot) → (leastIn t first last ≤ leastIn s first last) × (greatestIn s first last ≤ greatestIn t first last)
+  looser-ranges x first last = (looser.looser-least s t more (x .0) (x .1) first last, looser.looser-greatest s t more (x .0) (x .1) first last)
+
+  there-too : SomeLawful s → SomeLawful t
+  there-too x = (x .0, looser-plan (x .0) (x .1))
+
+  tops : top s ≡ top t
+  unfolding top
+  tops = ap topOf (more .span)
+
+-- ---- Of two calls of `plan`: no entry of the table falls. (An entry is a greatest count, or minus a least one.)
+module _ (p q : PlanCall) (more : Looser (givenBy (p .lists)) (givenBy (q .lists))) (plan : p .reply ≡ says.plan) where
+  pub looser-planned : q .reply ≡ says.plan
+  looser-planned = planIff q .1 (there-too (givenBy (p .lists)) (givenBy (q .lists)) more (planIff p .0 plan))
+
+  pub looser-table : (a b : Boundary) → a ≤ top (givenBy (p .lists)) → b ≤ top (givenBy (p .lists))
+      → entry (boundaries (givenBy (p .lists))) (p .after .table) a b ≤ℤ entry (boundaries (givenBy (q .lists))) (q .after .table) a b
+  looser-table =
+      tables-looser (givenBy (p .lists)) (givenBy (q .lists)) more (planIff p .0 plan) (p .after .table) (q .after .table) (tabledP p plan)
+      (tabledP q looser-planned) (tops (givenBy (p .lists)) (givenBy (q .lists)) more)
+
+-- ---- Of two calls of `decide`, the same
+module _ (p q : DecideCall) (more : Looser (givenBy (p .lists)) (givenBy (q .lists))) (fits : p .reply ≡ says.plan) where
+  pub looser-decided : q .reply ≡ says.plan
+  looser-decided = fitsIff q .1 (there-too (givenBy (p .lists)) (givenBy (q .lists)) more (fitsIff p .0 fits))
+
+  pub looser-decided-table : (a b : Boundary) → a ≤ top (givenBy (p .lists)) → b ≤ top (givenBy (p .lists))
+      → entry (boundaries (givenBy (p .lists))) (p .after .table) a b ≤ℤ entry (boundaries (givenBy (q .lists))) (q .after .table) a b
+  looser-decided-table =
+      tables-looser (givenBy (p .lists)) (givenBy (q .lists)) more (fitsIff p .0 fits) (p .after .table) (q .after .table) (tabledD p fits)
+      (tabledD q looser-decided) (tops (givenBy (p .lists)) (givenBy (q .lists)) more)
+
+-- ---- Of two answers to texts: the page of a plan stays one, and no slot line's least rises and no greatest falls
+module _ (p q : TextAnswer Plan) (more : Looser (constraints (sheetOf p)) (constraints (sheetOf q))) (x : List Slot) (page : IsPlan p x) where
+  pub looser-answer : IsPlan q (printedPlan (constraints (sheetOf q)))
+  looser-answer = planPage q (there-too (constraints (sheetOf p)) (constraints (sheetOf q)) more (x, page .legal))
+
+  pub looser-lines : (u c l g c′ l′ g′ : ℕ) → In (slot u c l g) (linesOf p) → In (slot u c′ l′ g′) (linesOf q) → (l′ ≤ l) × (g ≤ g′)
+  looser-lines u c l g c′ l′ g′ m n =
+      let a = pages.range-is (loaders (sheetOf p)) (constraints (sheetOf p)) x (linesOf p) page u c l g m in
+      let b = pages.range-is (loaders (sheetOf q)) (constraints (sheetOf q)) _ (linesOf q) looser-answer u c′ l′ g′ n in
+      let r = looser-ranges (constraints (sheetOf p)) (constraints (sheetOf q)) more (x, page .legal) u u in
+      (omega (arith, a .0, b .0, r .0), omega (arith, a .1, b .1, r .1))
+
+-- ---- And where it was asked only whether it fits
+module _ (p q : TextAnswer Fits) (more : Looser (constraints (sheetOf p)) (constraints (sheetOf q))) (page : IsFit p) where
+  pub looser-fit : IsFit q
+  looser-fit = fitPage q (there-too (constraints (sheetOf p)) (constraints (sheetOf q)) more (page .some))
+
+  pub looser-fit-lines : (u l g l′ g′ : ℕ) → In (range u l g) (linesOf p) → In (range u l′ g′) (linesOf q) → (l′ ≤ l) × (g ≤ g′)
+  looser-fit-lines u l g l′ g′ m n =
+      let a = pages.fits-range-is (constraints (sheetOf p)) (linesOf p) page u l g m in
+      let b = pages.fits-range-is (constraints (sheetOf q)) (linesOf q) looser-fit u l′ g′ n in
+      let r = looser-ranges (constraints (sheetOf p)) (constraints (sheetOf q)) more (page .some) u u in
+      (omega (arith, a .0, b .0, r .0), omega (arith, a .1, b .1, r .1))

@@ -1,0 +1,1 @@
+// The same wave listed differently, and waves that are allowed more: definitions and laws only.

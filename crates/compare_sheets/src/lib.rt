@@ -1,0 +1,1 @@
+// Sheets that customers compare: definitions and laws only.
