@@ -91,7 +91,8 @@ impl Rooms {
     }
 }
 
-fn differ<T: PartialEq + std::fmt::Debug>(name: &str, got: &T, expected: &T) -> Option<String> {
+/// Says where two values differ.
+pub fn differ<T: PartialEq + std::fmt::Debug>(name: &str, got: &T, expected: &T) -> Option<String> {
     (got != expected).then(|| format!("{name}:\n     got {got:?}\nexpected {expected:?}"))
 }
 

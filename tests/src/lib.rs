@@ -7,6 +7,7 @@
 
 pub mod calls;
 pub mod cases;
+pub mod comparing;
 pub mod computed;
 pub mod damage;
 pub mod enumerated;

@@ -1,7 +1,7 @@
 -- What customers may compare: 1. the same units and the same rules, listed in another order; 2. wider windows and looser rules, all else equal.
 -- Of two sheets, of two calls of `plan` and of `decide`, and of two answers to texts, none of them refused. docs/RULES.md, "Waves to compare".
--- What the words mean stands in compare_sheets/specs/Comparing.antt (`Relisted`, `SameLoader`, `seatsClosing`, `ClosesAlone`, `Looser`) and in Calls.antt (a call,
--- an answer, its lines).
+-- What the words mean stands in compare_sheets/specs/Comparing.antt (`Relisted`, `SameLoader`, `seatsClosing`, `ClosesAlone`, `Looser`) and in Calls.antt (a
+-- call, an answer, its lines).
 -- Key idea: every lawful plan of the one sheet is one of the other, unit by unit, and all that is answered follows from the lawful plans.
 use mathlib.Core.Path.{_≡_, sym, ap, _∙_, subst}
 use mathlib.Core.Logic.{_↔_}
@@ -64,7 +64,10 @@ tabledD p f =
     record { table = P .table; size = P .size; solved = P .solved; room = p .before .table; is = ap (λ r. r .table) (P .left) }
 
 acceptedT : {query : Query} (p : TextAnswer query) → Accepted (sheetOf p)
-acceptedT p = record { sheet = reading-accepts (p .house) (p .input) roomsForAll (p .asked); loaders = reading-loaders (p .house) (p .input) roomsForAll (p .asked) }
+acceptedT p = record {
+  sheet = reading-accepts (p .house) (p .input) roomsForAll (p .asked);
+  loaders = reading-loaders (p .house) (p .input) roomsForAll (p .asked);
+}
 
 planPage : (p : TextAnswer Plan) → SomeLawful (constraints (sheetOf p)) → IsPlan p (printedPlan (constraints (sheetOf p)))
 planPage p x = answers.page-if-lawful (p .house) Plan (p .input) (p .page) (p .left) (p .next) (p .answered) (p .size) (p .asked) (x .0) (x .1)
@@ -89,33 +92,33 @@ module _ (w v : WrittenSheet) (listed : Relisted w v) (okw : Accepted w) (okv : 
   abbrev pub t : Sheet
   t = constraints v
 
-  A : Alike s t (SameLoader w v)
-  A = relisted-alike w v listed okw okv
+  sheets-alike : Alike s t (SameLoader w v)
+  sheets-alike = relisted-alike w v listed okw okv
 
   -- agree on plan or none,
   pub sheets-plan : SomeLawful s ↔ SomeLawful t
-  sheets-plan = A .some
+  sheets-plan = sheets-alike .some
 
   -- on every count range: that of every stretch, which may end with the carried place or be that place alone,
   pub sheets-ranges : (first last : Slot) → (leastIn s first last ≡ leastIn t first last) × (greatestIn s first last ≡ greatestIn t first last)
-  sheets-ranges first last = (A .least first last, A .greatest first last)
+  sheets-ranges first last = (sheets-alike .least first last, sheets-alike .greatest first last)
 
   -- on each loader's narrowed window,
   pub sheets-windows : (i j : ℕ) → SameLoader w v i j → (earliest s i ≡ earliest t j) × (latest s i ≡ latest t j)
-  sheets-windows i j l = (A .early i j l, A .late i j l)
+  sheets-windows i j l = (sheets-alike .early i j l, sheets-alike .late i j l)
 
   module _ (some : SomeLawful s) where
     -- and on every slot's count in the printed plan, that of the carried place too.
     pub sheets-counts : (u : Slot) → 1 ≤ u → u ≤ slotBefore (top s) → countIn u u (printedPlan s) ≡ countIn u u (printedPlan t)
-    sheets-counts = A .counts some
+    sheets-counts = sheets-alike .counts some
 
     -- Seats differ only among loaders with equal closing slots: of each closing slot as many loaders have each slot in the one plan as in the other,
     pub sheets-seats : (closing u : Slot) → seatsClosing s (printedPlan s) closing u ≡ seatsClosing t (printedPlan t) closing u
-    sheets-seats = A .closing some
+    sheets-seats = sheets-alike .closing some
 
     -- and a loader whose closing slot is its alone keeps its seat.
     pub sheets-alone : (i j : ℕ) → SameLoader w v i j → ClosesAlone s i → getD (printedPlan s) i 0 ≡ getD (printedPlan t) j 0
-    sheets-alone = A .seat some
+    sheets-alone = sheets-alike .seat some
 
 -- ---- Two calls of `plan` that are not refused
 module _ (p q : PlanCall) (listed : Relisted (writtenBy (p .lists)) (writtenBy (q .lists))) where
@@ -128,18 +131,18 @@ module _ (p q : PlanCall) (listed : Relisted (writtenBy (p .lists)) (writtenBy (
   abbrev pub Same : ℕ → ℕ → Type 0
   Same = SameLoader (writtenBy (p .lists)) (writtenBy (q .lists))
 
-  B : Alike one two Same
-  B = lists-alike (p .lists) (q .lists) (listedP p) (listedP q) listed
+  plans-alike : Alike one two Same
+  plans-alike = lists-alike (p .lists) (q .lists) (listedP p) (listedP q) listed
 
   -- agree on plan or none;
   pub plans-plan : (p .reply ≡ says.plan) ↔ (q .reply ≡ says.plan)
-  plans-plan = (λ f. planIff q .1 (B .some .0 (planIff p .0 f)), λ f. planIff p .1 (B .some .1 (planIff q .0 f)))
+  plans-plan = (λ f. planIff q .1 (plans-alike .some .0 (planIff p .0 f)), λ f. planIff p .1 (plans-alike .some .1 (planIff q .0 f)))
 
   pub plans-none : ((k : ℕ) × (p .reply ≡ says.none k)) ↔ ((k : ℕ) × (q .reply ≡ says.none k))
   plans-none = (
-    (λ f. let r = plans.ring-otherwise (q .lists) (q .before) (q .reply) (q .after) (q .settled) (q .asked) (none-there one two (B .some .1)
+    (λ f. let r = plans.ring-otherwise (q .lists) (q .before) (q .reply) (q .after) (q .settled) (q .asked) (none-there one two (plans-alike .some .1)
         (plans.none-unlawful (p .lists) (p .before) (p .reply) (p .after) (p .settled) (f .0) (f .1))) in (r .0, r .1)),
-    (λ f. let r = plans.ring-otherwise (p .lists) (p .before) (p .reply) (p .after) (p .settled) (p .asked) (none-there two one (B .some .0)
+    (λ f. let r = plans.ring-otherwise (p .lists) (p .before) (p .reply) (p .after) (p .settled) (p .asked) (none-there two one (plans-alike .some .0)
         (plans.none-unlawful (q .lists) (q .before) (q .reply) (q .after) (q .settled) (f .0) (f .1))) in (r .0, r .1)),
   )
 
@@ -163,8 +166,9 @@ module _ (p q : PlanCall) (listed : Relisted (writtenBy (p .lists)) (writtenBy (
     front′ = plans.plan-at (q .lists) (q .before) (q .reply) (q .after) (q .settled) plan′
 
     -- on every entry of the table: the greatest count of each stretch, and minus its least;
-    pub plans-ranges : (a b : Boundary) → a ≤ top one → b ≤ top one → entry (boundaries one) (p .after .table) a b ≡ entry (boundaries two) (q .after .table) a b
-    plans-ranges = tables-same one two Same B (p .after .table) (q .after .table) (tabledP p plan) (tabledP q plan′)
+    pub plans-ranges : (a b : Boundary) → a ≤ top one → b ≤ top one
+        → entry (boundaries one) (p .after .table) a b ≡ entry (boundaries two) (q .after .table) a b
+    plans-ranges = tables-same one two Same plans-alike (p .after .table) (q .after .table) (tabledP p plan) (tabledP q plan′)
 
     -- on each loader's narrowed window;
     pub plans-windows : (i j : ℕ) → Same i j
@@ -172,27 +176,27 @@ module _ (p q : PlanCall) (listed : Relisted (writtenBy (p .lists)) (writtenBy (
     plans-windows i j l =
         let hi = inside i (l .one) in
         let hj = inside′ j (l .other) in
-        let there = B .some .0 some in (
+        let there = plans-alike .some .0 some in (
           earliest-is one some (p .after .earliest) i hi (plans.earliest-slot (p .lists) (p .before) (p .reply) (p .after) (p .settled) plan)
-              ∙ B .early i j l
+              ∙ plans-alike .early i j l
               ∙ sym (earliest-is two there (q .after .earliest) j hj (plans.earliest-slot (q .lists) (q .before) (q .reply) (q .after) (q .settled) plan′)),
           latest-is one some (p .after .latest) i hi (plans.latest-slot (p .lists) (p .before) (p .reply) (p .after) (p .settled) plan)
-              ∙ B .late i j l
+              ∙ plans-alike .late i j l
               ∙ sym (latest-is two there (q .after .latest) j hj (plans.latest-slot (q .lists) (q .before) (q .reply) (q .after) (q .settled) plan′)),
         )
 
     -- on every slot's count in the plan, that of the carried place too;
     pub plans-counts : (u : Slot) → 1 ≤ u → u ≤ slotBefore (top one) → countIn u u (planOf p) ≡ countIn u u (planOf q)
-    plans-counts u h hu = ap (countIn u u) front ∙ B .counts some u h hu ∙ sym (ap (countIn u u) front′)
+    plans-counts u h hu = ap (countIn u u) front ∙ plans-alike .counts some u h hu ∙ sym (ap (countIn u u) front′)
 
     -- and on seats, but among loaders with equal closing slots.
     pub plans-seats : (closing u : Slot) → seatsClosing one (planOf p) closing u ≡ seatsClosing two (planOf q) closing u
-    plans-seats c u = ap (λ x. seatsClosing one x c u) front ∙ B .closing some c u ∙ sym (ap (λ x. seatsClosing two x c u) front′)
+    plans-seats c u = ap (λ x. seatsClosing one x c u) front ∙ plans-alike .closing some c u ∙ sym (ap (λ x. seatsClosing two x c u) front′)
 
     pub plans-alone : (i j : ℕ) → Same i j → ClosesAlone one i → getD (p .after .plan) i 0 ≡ getD (q .after .plan) j 0
     plans-alone i j l alone =
         sym (getD-take (length (one .units)) (p .after .plan) i 0 (inside i (l .one)))
-        ∙ ap (λ x. getD x i 0) front ∙ B .seat some i j l alone ∙ sym (ap (λ x. getD x j 0) front′)
+        ∙ ap (λ x. getD x i 0) front ∙ plans-alike .seat some i j l alone ∙ sym (ap (λ x. getD x j 0) front′)
         ∙ getD-take (length (two .units)) (q .after .plan) j 0 (inside′ j (l .other))
 
 -- ---- Two calls of `decide` that are not refused
@@ -203,30 +207,30 @@ module _ (p q : DecideCall) (listed : Relisted (writtenBy (p .lists)) (writtenBy
   abbrev pub twoD : Sheet
   twoD = givenBy (q .lists)
 
-  C : Alike oneD twoD (SameLoader (writtenBy (p .lists)) (writtenBy (q .lists)))
-  C = lists-alike (p .lists) (q .lists) (listedD p) (listedD q) listed
+  decisions-alike : Alike oneD twoD (SameLoader (writtenBy (p .lists)) (writtenBy (q .lists)))
+  decisions-alike = lists-alike (p .lists) (q .lists) (listedD p) (listedD q) listed
 
   -- agree on fits or none,
   pub decisions-fit : (p .reply ≡ says.plan) ↔ (q .reply ≡ says.plan)
-  decisions-fit = (λ f. fitsIff q .1 (C .some .0 (fitsIff p .0 f)), λ f. fitsIff p .1 (C .some .1 (fitsIff q .0 f)))
+  decisions-fit = (λ f. fitsIff q .1 (decisions-alike .some .0 (fitsIff p .0 f)), λ f. fitsIff p .1 (decisions-alike .some .1 (fitsIff q .0 f)))
 
   pub decisions-none : ((k : ℕ) × (p .reply ≡ says.none k)) ↔ ((k : ℕ) × (q .reply ≡ says.none k))
   decisions-none = (
-    (λ f. let r = decides.ring-otherwise (q .lists) (q .before) (q .reply) (q .after) (q .settled) (q .asked) (none-there oneD twoD (C .some .1)
+    (λ f. let r = decides.ring-otherwise (q .lists) (q .before) (q .reply) (q .after) (q .settled) (q .asked) (none-there oneD twoD (decisions-alike .some .1)
         (decides.none-unlawful (p .lists) (p .before) (p .reply) (p .after) (p .settled) (f .0) (f .1))) in (r .0, r .1)),
-    (λ f. let r = decides.ring-otherwise (p .lists) (p .before) (p .reply) (p .after) (p .settled) (p .asked) (none-there twoD oneD (C .some .0)
+    (λ f. let r = decides.ring-otherwise (p .lists) (p .before) (p .reply) (p .after) (p .settled) (p .asked) (none-there twoD oneD (decisions-alike .some .0)
         (decides.none-unlawful (q .lists) (q .before) (q .reply) (q .after) (q .settled) (f .0) (f .1))) in (r .0, r .1)),
   )
 
   -- and on every entry of the table.
   pub decisions-ranges : p .reply ≡ says.plan
       → (a b : Boundary) → a ≤ top oneD → b ≤ top oneD → entry (boundaries oneD) (p .after .table) a b ≡ entry (boundaries twoD) (q .after .table) a b
-  decisions-ranges fits = tables-same oneD twoD _ C (p .after .table) (q .after .table) (tabledD p fits) (tabledD q (decisions-fit .0 fits))
+  decisions-ranges fits = tables-same oneD twoD _ decisions-alike (p .after .table) (q .after .table) (tabledD p fits) (tabledD q (decisions-fit .0 fits))
 
 -- ---- Two answers to texts, of whichever house, that are not refused and were asked for a plan
 module _ (p q : TextAnswer Plan) (listed : Relisted (sheetOf p) (sheetOf q)) where
-  D : Alike (constraints (sheetOf p)) (constraints (sheetOf q)) (SameLoader (sheetOf p) (sheetOf q))
-  D = relisted-alike (sheetOf p) (sheetOf q) listed (acceptedT p) (acceptedT q)
+  answers-alike : Alike (constraints (sheetOf p)) (constraints (sheetOf q)) (SameLoader (sheetOf p) (sheetOf q))
+  answers-alike = relisted-alike (sheetOf p) (sheetOf q) listed (acceptedT p) (acceptedT q)
 
   back : Relisted (sheetOf q) (sheetOf p)
   back = relisted-back (sheetOf p) (sheetOf q) listed
@@ -234,14 +238,14 @@ module _ (p q : TextAnswer Plan) (listed : Relisted (sheetOf p) (sheetOf q)) whe
   -- are both the page of a plan or both that of a ring.
   pub answers-plan : ((x : List Slot) × IsPlan p x) ↔ ((x : List Slot) × IsPlan q x)
   answers-plan = (
-    (λ x. (printedPlan (constraints (sheetOf q)), planPage q (D .some .0 (x .0, x .1 .legal)))),
-    (λ x. (printedPlan (constraints (sheetOf p)), planPage p (D .some .1 (x .0, x .1 .legal)))),
+    (λ x. (printedPlan (constraints (sheetOf q)), planPage q (answers-alike .some .0 (x .0, x .1 .legal)))),
+    (λ x. (printedPlan (constraints (sheetOf p)), planPage p (answers-alike .some .1 (x .0, x .1 .legal)))),
   )
 
   pub answers-none : ((ring : List Boundary) × IsNone p ring) ↔ ((ring : List Boundary) × IsNone q ring)
   answers-none = (
-    (λ r. nonePage q (none-there (constraints (sheetOf p)) (constraints (sheetOf q)) (D .some .1) (r .1 .unlawful))),
-    (λ r. nonePage p (none-there (constraints (sheetOf q)) (constraints (sheetOf p)) (D .some .0) (r .1 .unlawful))),
+    (λ r. nonePage q (none-there (constraints (sheetOf p)) (constraints (sheetOf q)) (answers-alike .some .1) (r .1 .unlawful))),
+    (λ r. nonePage p (none-there (constraints (sheetOf q)) (constraints (sheetOf p)) (answers-alike .some .0) (r .1 .unlawful))),
   )
 
   module _ (x : List Slot) (page : IsPlan p x) where
@@ -252,39 +256,39 @@ module _ (p q : TextAnswer Plan) (listed : Relisted (sheetOf p) (sheetOf q)) whe
     here = planPage p someT
 
     there : IsPlan q (printedPlan (constraints (sheetOf q)))
-    there = planPage q (D .some .0 someT)
+    there = planPage q (answers-alike .some .0 someT)
 
     -- Pages of plans have the same head and the same slot lines, with their counts and ranges: all lines but the units';
     pub answers-lines : otherLines (linesOf p) ≡ otherLines (linesOf q)
-    answers-lines = pages.others-same (sheetOf p) (sheetOf q) listed D someT (linesOf p) (linesOf q) here there
+    answers-lines = pages.others-same (sheetOf p) (sheetOf q) listed answers-alike someT (linesOf p) (linesOf q) here there
 
     -- each loader's line has the same `between`;
     pub answers-between : (loader first last : ℕ) → SaysBetween loader first last (linesOf p) ↔ SaysBetween loader first last (linesOf q)
     answers-between k e f = (
-      pages.between-there (sheetOf p) (sheetOf q) listed D someT (linesOf p) (linesOf q) here there k e f,
-      pages.between-there (sheetOf q) (sheetOf p) back (relisted-alike (sheetOf q) (sheetOf p) back (acceptedT q) (acceptedT p)) (D .some .0 someT)
+      pages.between-there (sheetOf p) (sheetOf q) listed answers-alike someT (linesOf p) (linesOf q) here there k e f,
+      pages.between-there (sheetOf q) (sheetOf p) back (relisted-alike (sheetOf q) (sheetOf p) back (acceptedT q) (acceptedT p)) (answers-alike .some .0 someT)
           (linesOf q) (linesOf p) there here k e f,
     )
 
     -- and that of a loader whose closing slot is its alone is the same line, its seat too. (The unit at place i has the line behind the head and i others.)
     pub answers-alone : (i j : ℕ) → SameLoader (sheetOf p) (sheetOf q) i j → ClosesAlone (constraints (sheetOf p)) i
         → getD (linesOf p) (suc i) other ≡ getD (linesOf q) (suc j) other
-    answers-alone = pages.line-same (sheetOf p) (sheetOf q) listed D someT (linesOf p) (linesOf q) here there
+    answers-alone = pages.line-same (sheetOf p) (sheetOf q) listed answers-alike someT (linesOf p) (linesOf q) here there
 
 -- ---- Two such answers that were asked only whether they fit
 module _ (p q : TextAnswer Fits) (listed : Relisted (sheetOf p) (sheetOf q)) where
-  E : Alike (constraints (sheetOf p)) (constraints (sheetOf q)) (SameLoader (sheetOf p) (sheetOf q))
-  E = relisted-alike (sheetOf p) (sheetOf q) listed (acceptedT p) (acceptedT q)
+  fits-alike : Alike (constraints (sheetOf p)) (constraints (sheetOf q)) (SameLoader (sheetOf p) (sheetOf q))
+  fits-alike = relisted-alike (sheetOf p) (sheetOf q) listed (acceptedT p) (acceptedT q)
 
   -- are the same, line by line, where the one says that it fits,
   pub fits-lines : IsFit p → linesOf p ≡ linesOf q
-  fits-lines f = pages.fits-same (sheetOf p) (sheetOf q) listed E (linesOf p) (linesOf q) f (fitPage q (E .some .0 (f .some)))
+  fits-lines f = pages.fits-same (sheetOf p) (sheetOf q) listed fits-alike (linesOf p) (linesOf q) f (fitPage q (fits-alike .some .0 (f .some)))
 
   -- and else both the page of a ring.
   pub fits-none : ((ring : List Boundary) × IsNone p ring) ↔ ((ring : List Boundary) × IsNone q ring)
   fits-none = (
-    (λ r. nonePage q (none-there (constraints (sheetOf p)) (constraints (sheetOf q)) (E .some .1) (r .1 .unlawful))),
-    (λ r. nonePage p (none-there (constraints (sheetOf q)) (constraints (sheetOf p)) (E .some .0) (r .1 .unlawful))),
+    (λ r. nonePage q (none-there (constraints (sheetOf p)) (constraints (sheetOf q)) (fits-alike .some .1) (r .1 .unlawful))),
+    (λ r. nonePage p (none-there (constraints (sheetOf q)) (constraints (sheetOf p)) (fits-alike .some .0) (r .1 .unlawful))),
   )
 
 -- ======== 2. Wider windows and, on the same stretches, looser rules, any number of them, and all else equal

@@ -47,6 +47,10 @@ module _ (ks : List ℕ) (s : Sheet) (x : List Slot) (ls : List Said) (p : PlanP
   abbrev ofUnit : ℕ → Said
   ofUnit = unitSaid (s .span) (λ j. getD ks j 0) (λ j. getD x j 0) (earliest s) (latest s)
 
+  -- the same, by whether its slot is in the span
+  abbrev lineBy : Bool → ℕ → Said
+  lineBy b j = cond b (unit (getD ks j 0) (getD x j 0) (earliest s j) (latest s j)) (carried (getD ks j 0) (earliest s j) (latest s j))
+
   abbrev ofSlot : ℕ → Said
   ofSlot = slotSaid (λ t. unitLinesWith t ls) (λ t. leastIn s t t) (λ t. greatestIn s t t)
 
@@ -55,8 +59,7 @@ module _ (ks : List ℕ) (s : Sheet) (x : List Slot) (ls : List Said) (p : PlanP
   no-units i zero = refl
   no-units i (suc k) = go (leb (getD x i 0) (s .span)) (no-units (suc i) k)
     where
-      go : (b : Bool) → otherLines (map ofUnit (run (suc i) k)) ≡ [] → otherLines (cond b (unit (getD ks i 0) (getD x i 0) (earliest s i) (latest s i)) (carried (getD ks i 0) (earliest s i) (latest s i))
-          ∷ map ofUnit (run (suc i) k)) ≡ []
+      go : (b : Bool) → otherLines (map ofUnit (run (suc i) k)) ≡ [] → otherLines (lineBy b i ∷ map ofUnit (run (suc i) k)) ≡ []
       go true e = e
       go false e = e
 
@@ -95,8 +98,7 @@ module _ (ks : List ℕ) (s : Sheet) (x : List Slot) (ls : List Said) (p : PlanP
   pub between-of : (j : ℕ) → j < n → SaysBetween (getD ks j 0) (earliest s j) (latest s j) ls
   between-of j h = go (leb (getD x j 0) (s .span)) (unit-in j h)
     where
-      go : (b : Bool) → In (cond b (unit (getD ks j 0) (getD x j 0) (earliest s j) (latest s j)) (carried (getD ks j 0) (earliest s j) (latest s j))) ls
-          → SaysBetween (getD ks j 0) (earliest s j) (latest s j) ls
+      go : (b : Bool) → In (lineBy b j) ls → SaysBetween (getD ks j 0) (earliest s j) (latest s j) ls
       go true m = inl (getD x j 0, m)
       go false m = inr m
 
@@ -126,8 +128,7 @@ module _ (ks : List ℕ) (s : Sheet) (x : List Slot) (ls : List Said) (p : PlanP
       (List·Memᴰ·append-cases (map ofUnit (run 0 n)) r))
       (List·Memᴰ·cases-cons (subst (In (slot t c l g)) (p .lines) m))
     where
-      no-unit : (j : ℕ) (b : Bool)
-          → slot t c l g ≡ cond b (unit (getD ks j 0) (getD x j 0) (earliest s j) (latest s j)) (carried (getD ks j 0) (earliest s j) (latest s j)) → ⊥
+      no-unit : (j : ℕ) (b : Bool) → slot t c l g ≡ lineBy b j → ⊥
       no-unit j true e = let z : _≡_ {A = ℕ} 0 1 = cc in omega arith
       no-unit j false e = let z : _≡_ {A = ℕ} 0 1 = cc in omega arith
 

@@ -135,7 +135,8 @@ module _ (w v : WrittenSheet) (listed : Relisted w v) where
         subst (λ n. T (within (r .low) (r .high) n)) (along-count (r .from) (r .to)) (every-in (obeys x) r (w .rules) k obeyed))))
 
     -- and has each loader's unit in the same slot.
-    pub along-seat : Accepted v → (i j : ℕ) → SameLoader w v i j → seat (getD (w .units) i noUnit) (getD x i 0) ≡ seat (getD (v .units) j noUnit) (getD along j 0)
+    pub along-seat : Accepted v → (i j : ℕ) → SameLoader w v i j
+        → seat (getD (w .units) i noUnit) (getD x i 0) ≡ seat (getD (v .units) j noUnit) (getD along j 0)
     unfolding along
     along-seat ok i j l =
         let mine : Seat = seat (getD (w .units) i noUnit) (getD x i 0) in

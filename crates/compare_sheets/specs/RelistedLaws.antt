@@ -120,11 +120,13 @@ module _ (w v : WrittenSheet) (listed : Relisted w v) where
 
       pub same-earliest : earliest s i ≡ earliest t j
       unfolding earliest
-      same-earliest = least-same (map mine (lawfulPlans s)) (map yours (lawfulPlans t)) (values-reached s t mine yours there) (values-reached t s yours mine again)
+      same-earliest =
+          least-same (map mine (lawfulPlans s)) (map yours (lawfulPlans t)) (values-reached s t mine yours there) (values-reached t s yours mine again)
 
       pub same-latest : latest s i ≡ latest t j
       unfolding latest
-      same-latest = greatest-same (map mine (lawfulPlans s)) (map yours (lawfulPlans t)) (values-reached s t mine yours there) (values-reached t s yours mine again)
+      same-latest =
+          greatest-same (map mine (lawfulPlans s)) (map yours (lawfulPlans t)) (values-reached s t mine yours there) (values-reached t s yours mine again)
 
     -- ---- where some plan is lawful, of the printed plans
     module _ (x : List Slot) (l : T (lawful s x)) where
@@ -191,7 +193,8 @@ module _ (w v : WrittenSheet) (listed : Relisted w v) where
           let c = lasts t j in
           let u = at (printedPlan t) j in
           let sits = closingIn (lasts t) (at (printedPlan t)) c u in
-          let some = count-lt (length (t .units)) (λ _. false) sits j inside (both (eqb c c) (eqb u u) (eqb-refl c) (eqb-refl u)) (λ h. h) (λ a h q. absurd q) in
+          let some = count-lt (length (t .units)) (λ _. false) sits j inside
+          (both (eqb c c) (eqb u u) (eqb-refl c) (eqb-refl u)) (λ h. h) (λ a h q. absurd q) in
           let f = count-find (length (s .units)) (closingIn (lasts s) (at (printedPlan s)) c u)
           (omega (arith, some, closing-count s (printedPlan s) c u, closing-count t (printedPlan t) c u, same-closing c u)) in
           let closes = eqb→eq (lasts s (f .0)) c (left (eqb (lasts s (f .0)) c) (eqb (at (printedPlan s) (f .0)) u) (f .2)) in

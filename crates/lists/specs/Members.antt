@@ -29,6 +29,10 @@ right true b p = p
 right false b p = absurd p
 
 -- the same of tests that are known to be true
+pub is-true : (b : Bool) → T b → b ≡ true
+is-true true h = refl
+is-true false h = absurd h
+
 pub false-not-true : {A : Type 0} → false ≡ true → A
 false-not-true h = absurd (subst T (sym h) tt)
 

@@ -1,7 +1,7 @@
 -- The line given for a loader number is a whole line of its text, and says the unit of the merged sheet with that number.
 -- Key idea: nothing is refused, so that the sheet that has the unit has a line that says it, and the merged sheet has the units of both.
 use Prim.Native.Nat.{ℕ}
-use mathlib.Core.Path.{_≡_, refl, sym, subst, _∙_}
+use mathlib.Core.Path.{_≡_, sym, subst, _∙_}
 use mathlib.Core.Bool.{Bool, true, false, _||_}
 use mathlib.Core.List.{List, [], _∷_, map, Memᴰ·append-left, Memᴰ·append-right}
 use native.Mathlib.Omega.{arith}
@@ -9,7 +9,7 @@ use lib.Dec.{T, eqb}
 use lib.ListN.{length, getD, length-map, List·getD-map}
 use borrow.Author.Tests.{eqb-true, ltb-true}
 use Rattle.lists.specs.First.{first-at}
-use Rattle.lists.specs.Members.{In}
+use Rattle.lists.specs.Members.{In, is-true}
 use Rattle.questions.specs.Questions.{ask, allYes, firstNo, AllYes}
 use Rattle.questions.specs.FirstNoLaws.{yes-every, every-yes, yes-front, yes-back, yes-at}
 use Rattle.sheet.specs.Sheet.{SheetUnit, loaders}
@@ -69,7 +69,3 @@ module _ (one two : List ℕ) (k : ℕ) (e : firstNo (questionsOfLine one two k)
   second-says h =
       says two (second-asked one two merge-yes) (subst (λ (b : Bool). (b || hasLoader two k) ≡ true) h (is-true _ either))
       (λ u m. Memᴰ·append-right (sheetIn Ours one .units) m)
-    where
-      is-true : (b : Bool) → T b → b ≡ true
-      is-true true t = refl
-      is-true false t = absurd t

@@ -11,7 +11,7 @@ use lib.Dec.{T, eqb, leb, ltb}
 use lib.ListN.{length, getD}
 use lib.IntN.{negℤ}
 use borrow.Author.Tests.{ne-eqb, leb-false}
-use Rattle.lists.specs.Members.{left, right}
+use Rattle.lists.specs.Members.{left, right, is-true}
 use Rattle.lists.specs.Values.{listOf-is, values-same}
 use Rattle.lists.specs.Lists.{run, fromTo, howMany, oneIf, joined}
 use Rattle.integers.specs.Parts.{up}
@@ -69,10 +69,6 @@ clear-sound : (rs : List Reading) (i : ℕ) → T (clear rs i) → T (sound (nth
 clear-sound [] i h = absurd h
 clear-sound (r ∷ rs) zero h = h
 clear-sound (r ∷ rs) (suc i) h = clear-sound rs i (right (formsApart (r .form) (nth rs i .form)) (clear rs i) h)
-
-is-true : (b : Bool) → T b → b ≡ true
-is-true true h = refl
-is-true false h = absurd h
 
 clear-separated : (rs : List Reading) (i : ℕ) → T (clear rs i) → separated (nth rs i .form) ≡ true
 clear-separated rs i h = let f = nth rs i .form in is-true (separated f) (left (separated f) (wordsPrintable f) (clear-sound rs i h))

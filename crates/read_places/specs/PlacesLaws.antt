@@ -12,7 +12,7 @@ use native.Mathlib.Decide.{decLt}
 use lib.Dec.{T}
 use lib.ListN.{length, getD, length-map, length-append, List·getD-map, List·getD-eq-default}
 use Rattle.lists.specs.Lists.{every, consIf, keep, joined}
-use Rattle.lists.specs.Members.{In, in-keep, in-at, right}
+use Rattle.lists.specs.Members.{In, is-true, in-keep, in-at, right}
 use Rattle.questions.specs.Questions.{AllYes}
 use Rattle.questions.specs.FirstNoLaws.{yes-front, yes-back, yes-at}
 use Rattle.sheet.specs.Sheet.{Rule, SheetUnit, headOr}
@@ -44,10 +44,6 @@ pub record LinePasses (h : House) (l : TextLine) : Type 0 where
   pub ended : l .ended ≡ true
   pub printable : printable (l .bytes) ≡ true
   pub says : lineOf h (l .bytes) true ≡ valuesOf (contentOf h (l .bytes))
-
-is-true : (b : Bool) → T b → b ≡ true
-is-true true t = refl
-is-true false t = absurd t
 
 passes : (h : House) (n : ℕ) (before : List Content) (l : TextLine) → AllYes (questionsOf h n before l (contentOf h (l .bytes))) → LinePasses h l
 unfolding lineOf said

@@ -1,5 +1,5 @@
 -- The first no of both texts is written, or the merged sheet that then stands at the front of the lists.
-use mathlib.Core.Path.{_≡_, refl, sym, ap, subst, _∙_}
+use mathlib.Core.Path.{_≡_, refl, sym, ap, _∙_}
 use mathlib.Core.List.{List}
 use Prim.Native.Nat.{ℕ}
 use native.Mathlib.Omega.{arith}
@@ -13,7 +13,8 @@ use Rattle.read_whole.specs.Fronts.{fronts}
 use Rattle.sheet_texts.specs.SheetText.{sheetText}
 use Rattle.print_bytes.specs.Writing.{withBytes, refusedLine}
 use Rattle.merge_questions.specs.Merging.{joinedReply, joinedBlame}
-use Rattle.merge_join.specs.Join.{joinReply, MergedAtFront, LeavesMerged}
+use Rattle.merge_join.specs.ClearedLaws.{left-of}
+use Rattle.merge_join.specs.Join.{joinReply, MergedAtFront}
 use Rattle.write_fronts.specs.Outcome as says
 use Rattle.merge_text.proofs.JoinedLaws.{refusal-small, refusal-told, sheet-held, sheet-told}
 use Rattle.merge_text.proofs.merge_text.Statement.{statement}
@@ -52,7 +53,7 @@ read-told c = sym (ap joinedReply (c .joined2 .given .1)) ∙ sheet-call c .join
 at-front : (c : tie.After-joined2) → let p = sheet-call c in MergedAtFront (c .joined2 .given .0 .0) (one p) (two p) (after p)
 at-front c =
     let p = sheet-call c in
-    subst (λ r. LeavesMerged r (one p) (two p) (after p)) (c .joined2 .given .1) (p .join .ensures .1 .1)
+    left-of _ _ _ _ _ (c .joined2 .given .1) (p .join .ensures .1 .1)
 
 put-refused-requires : tie.Need-put-refused-requires
 put-refused-requires c κs =
