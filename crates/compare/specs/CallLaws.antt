@@ -20,16 +20,21 @@ use Rattle.sheet.specs.Solved.{Solved}
 use Rattle.sheet.specs.Lists.{WrittenLists, givenBy, writtenBy}
 use Rattle.sheet.specs.WrittenLaws.{unitsOf-length, written-constraints}
 use Rattle.plans.specs.CountLaws.{greatest-entry, least-entry}
-use Rattle.plan_rooms.specs.Rooms.{places}
+use Rattle.plan_rooms.specs.Rooms.{places, planLent, decideLent, roomsFit}
 use Rattle.plan_ask.specs.Asking.{Listed}
 use Rattle.plan_ask.specs.ListedLaws.{as-many-units, written-accepted, written-new}
+use Rattle.plan_ask.specs.SolvableLaws.{asked-lists}
 use Rattle.plan_answers.specs.Planning.{tableIn}
-use Rattle.plan_conditions.specs.Statements.{SomeLawful, AllEarliest, AllLatest}
+use Rattle.plan_answers.specs.Reply as says
+use Rattle.plan_conditions.specs.Conditions as plans
+use Rattle.plan_conditions.specs.DecideConditions as decides
+use Rattle.plan_conditions.specs.Statements.{SomeLawful, NoneLawful, AllEarliest, AllLatest}
 use Rattle.plan_conditions.specs.SharedConditions.{entry-at}
 use Rattle.compare_sheets.specs.Comparing.{Accepted, Relisted, SameLoader, seatsClosing, ClosesAlone, Looser}
 use Rattle.compare_sheets.specs.RelistedLaws.{same-top, same-number, same-lawful, same-least, same-greatest, same-earliest, same-latest}
 use Rattle.compare_sheets.specs.RelistedLaws.{same-counts, same-closing, same-seat}
 use Rattle.compare_sheets.specs.LooserLaws.{looser-least, looser-greatest}
+use Rattle.compare.specs.Calls.{PlanCall, DecideCall}
 
 -- ---- all that two sheets of one wave agree on, so that it is carried at once to the sheets of a call's lists
 
@@ -140,3 +145,45 @@ module _ (s : Sheet) (x : SomeLawful s) (room : List Slot) (j : ℕ) (h : j < le
       let r = A j h .1 in
       let y = latest-attained s (x .0) (x .1) j in
       omega (arith, r .2, latest-bound s (r .0) (r .1) j, y .2, A j h .0 (y .0) (y .1))
+
+-- ---- what is known of a call by itself
+
+-- where the second sheet has a lawful plan only if the first has, it has none if the first has none
+pub none-there : (s t : Sheet) → (SomeLawful t → SomeLawful s) → NoneLawful s → NoneLawful t
+none-there s t f none x l = let y = f (x, l) in none (y .0) (y .1)
+
+module _ (p : PlanCall) where
+  pub plan-listed : Listed (p .lists)
+  plan-listed = asked-lists (p .lists) (roomsFit (givenBy (p .lists)) (planLent (p .before))) (p .asked)
+
+  pub plan-iff : (p .reply ≡ says.plan) ↔ SomeLawful (givenBy (p .lists))
+  plan-iff = plans.plan-exactly-when-lawful (p .lists) (p .before) (p .reply) (p .after) (p .settled) (p .asked)
+
+  pub plan-none-iff : ((k : ℕ) × (p .reply ≡ says.none k)) ↔ NoneLawful (givenBy (p .lists))
+  plan-none-iff = (
+    λ f. plans.none-unlawful (p .lists) (p .before) (p .reply) (p .after) (p .settled) (f .0) (f .1),
+    λ none. let r = plans.ring-otherwise (p .lists) (p .before) (p .reply) (p .after) (p .settled) (p .asked) none in (r .0, r .1),
+  )
+
+  pub plan-tabled : p .reply ≡ says.plan → Tabled (givenBy (p .lists)) (p .after .table)
+  plan-tabled f =
+      let P = plans.call-planned (p .lists) (p .before) (p .reply) (p .after) (p .settled) f in
+      record { table = P .table; size = P .size; solved = P .solved; room = p .before .table; is = ap (λ r. r .table) (P .left) }
+
+module _ (p : DecideCall) where
+  pub decide-listed : Listed (p .lists)
+  decide-listed = asked-lists (p .lists) (roomsFit (givenBy (p .lists)) (decideLent (p .before))) (p .asked)
+
+  pub fits-iff : (p .reply ≡ says.plan) ↔ SomeLawful (givenBy (p .lists))
+  fits-iff = decides.fits-exactly-when-lawful (p .lists) (p .before) (p .reply) (p .after) (p .settled) (p .asked)
+
+  pub decide-none-iff : ((k : ℕ) × (p .reply ≡ says.none k)) ↔ NoneLawful (givenBy (p .lists))
+  decide-none-iff = (
+    λ f. decides.none-unlawful (p .lists) (p .before) (p .reply) (p .after) (p .settled) (f .0) (f .1),
+    λ none. let r = decides.ring-otherwise (p .lists) (p .before) (p .reply) (p .after) (p .settled) (p .asked) none in (r .0, r .1),
+  )
+
+  pub decide-tabled : p .reply ≡ says.plan → Tabled (givenBy (p .lists)) (p .after .table)
+  decide-tabled f =
+      let P = decides.call-planned (p .lists) (p .before) (p .reply) (p .after) (p .settled) f in
+      record { table = P .table; size = P .size; solved = P .solved; room = p .before .table; is = ap (λ r. r .table) (P .left) }

@@ -18,69 +18,21 @@ use Rattle.network.specs.Table.{entry}
 use Rattle.slots.specs.Slots.{Slot, Boundary, slotBefore}
 use Rattle.sheet.specs.Sizes.{topOf}
 use Rattle.sheet.specs.Sheet.{Sheet, WrittenSheet, constraints, loaders, top, boundaries, lawful, countIn, leastIn, greatestIn, earliest, latest, printedPlan}
+use Rattle.sheet.specs.QuestionLaws.{accepted-valid}
 use Rattle.sheet.specs.Lists.{givenBy, writtenBy}
-use Rattle.plan_rooms.specs.Rooms.{planLent, decideLent, roomsFit}
-use Rattle.plan_ask.specs.Asking.{Listed}
-use Rattle.plan_ask.specs.SolvableLaws.{asked-lists}
 use Rattle.plan_answers.specs.Reply as says
-use Rattle.plan_conditions.specs.Statements.{SomeLawful, NoneLawful}
+use Rattle.plan_conditions.specs.Statements.{SomeLawful}
 use Rattle.plan_conditions.specs.Conditions as plans
-use Rattle.plan_conditions.specs.DecideConditions as decides
-use Rattle.read_questions.specs.Reading.{roomsForAll}
-use Rattle.read_questions.specs.AcceptedLaws.{reading-accepts, reading-loaders}
 use Rattle.pages.specs.PageLines.{slot, range, other}
-use Rattle.wave_words.specs.declared.Query.{Query}
 use Rattle.wave_words.specs.declared.Query.the-variants.{Plan, Fits}
-use Rattle.answer_conditions.specs.AnswerConditions as answers
 use Rattle.compare_sheets.specs.Comparing.{Accepted, Relisted, SameLoader, seatsClosing, ClosesAlone, Looser}
 use Rattle.compare_sheets.specs.AlongLaws.{relisted-back}
 use Rattle.compare_sheets.specs.LooserLaws as looser
 use Rattle.compare.specs.Calls.{PlanCall, planOf, DecideCall, TextAnswer, sheetOf, linesOf, IsPlan, IsFit, IsNone, otherLines, SaysBetween}
-use Rattle.compare.specs.CallLaws.{Alike, relisted-alike, lists-alike, units-length, Tabled, tables-same, tables-looser, earliest-is, latest-is}
+use Rattle.compare.specs.CallLaws.{Alike, relisted-alike, lists-alike, units-length, tables-same, tables-looser, earliest-is, latest-is, none-there}
+use Rattle.compare.specs.CallLaws.{plan-listed, plan-iff, plan-none-iff, plan-tabled, decide-listed, fits-iff, decide-none-iff, decide-tabled}
 use Rattle.compare.specs.PageLaws as pages
-
--- ---- what is known of each call and answer by itself
-
-listedP : (p : PlanCall) → Listed (p .lists)
-listedP p = asked-lists (p .lists) (roomsFit (givenBy (p .lists)) (planLent (p .before))) (p .asked)
-
-listedD : (p : DecideCall) → Listed (p .lists)
-listedD p = asked-lists (p .lists) (roomsFit (givenBy (p .lists)) (decideLent (p .before))) (p .asked)
-
-planIff : (p : PlanCall) → (p .reply ≡ says.plan) ↔ SomeLawful (givenBy (p .lists))
-planIff p = plans.plan-exactly-when-lawful (p .lists) (p .before) (p .reply) (p .after) (p .settled) (p .asked)
-
-fitsIff : (p : DecideCall) → (p .reply ≡ says.plan) ↔ SomeLawful (givenBy (p .lists))
-fitsIff p = decides.fits-exactly-when-lawful (p .lists) (p .before) (p .reply) (p .after) (p .settled) (p .asked)
-
-tabledP : (p : PlanCall) → p .reply ≡ says.plan → Tabled (givenBy (p .lists)) (p .after .table)
-tabledP p f =
-    let P = plans.call-planned (p .lists) (p .before) (p .reply) (p .after) (p .settled) f in
-    record { table = P .table; size = P .size; solved = P .solved; room = p .before .table; is = ap (λ r. r .table) (P .left) }
-
-tabledD : (p : DecideCall) → p .reply ≡ says.plan → Tabled (givenBy (p .lists)) (p .after .table)
-tabledD p f =
-    let P = decides.call-planned (p .lists) (p .before) (p .reply) (p .after) (p .settled) f in
-    record { table = P .table; size = P .size; solved = P .solved; room = p .before .table; is = ap (λ r. r .table) (P .left) }
-
-acceptedT : {query : Query} (p : TextAnswer query) → Accepted (sheetOf p)
-acceptedT p = record {
-  sheet = reading-accepts (p .house) (p .input) roomsForAll (p .asked);
-  loaders = reading-loaders (p .house) (p .input) roomsForAll (p .asked);
-}
-
-planPage : (p : TextAnswer Plan) → SomeLawful (constraints (sheetOf p)) → IsPlan p (printedPlan (constraints (sheetOf p)))
-planPage p x = answers.page-if-lawful (p .house) Plan (p .input) (p .page) (p .left) (p .next) (p .answered) (p .size) (p .asked) (x .0) (x .1)
-
-fitPage : (p : TextAnswer Fits) → SomeLawful (constraints (sheetOf p)) → IsFit p
-fitPage p x = answers.page-if-lawful (p .house) Fits (p .input) (p .page) (p .left) (p .next) (p .answered) (p .size) (p .asked) (x .0) (x .1)
-
-nonePage : {query : Query} (p : TextAnswer query) → NoneLawful (constraints (sheetOf p)) → (ring : List Boundary) × IsNone p ring
-nonePage {query} p = answers.ring-otherwise (p .house) query (p .input) (p .page) (p .left) (p .next) (p .answered) (p .size) (p .asked)
-
--- where the one has a lawful plan exactly when the other has, the one has none exactly when the other has none
-none-there : (s t : Sheet) → (SomeLawful t → SomeLawful s) → NoneLawful s → NoneLawful t
-none-there s t f none x l = let y = f (x, l) in none (y .0) (y .1)
+use Rattle.compare.specs.PageLaws.{text-accepted, page-of-plan, page-of-fit, page-none-iff}
 
 -- ======== 1. The same span, the same units and the same rules, listed in another order
 
@@ -132,32 +84,30 @@ module _ (p q : PlanCall) (listed : Relisted (writtenBy (p .lists)) (writtenBy (
   Same = SameLoader (writtenBy (p .lists)) (writtenBy (q .lists))
 
   plans-alike : Alike one two Same
-  plans-alike = lists-alike (p .lists) (q .lists) (listedP p) (listedP q) listed
+  plans-alike = lists-alike (p .lists) (q .lists) (plan-listed p) (plan-listed q) listed
 
   -- agree on plan or none;
   pub plans-plan : (p .reply ≡ says.plan) ↔ (q .reply ≡ says.plan)
-  plans-plan = (λ f. planIff q .1 (plans-alike .some .0 (planIff p .0 f)), λ f. planIff p .1 (plans-alike .some .1 (planIff q .0 f)))
+  plans-plan = (λ f. plan-iff q .1 (plans-alike .some .0 (plan-iff p .0 f)), λ f. plan-iff p .1 (plans-alike .some .1 (plan-iff q .0 f)))
 
   pub plans-none : ((k : ℕ) × (p .reply ≡ says.none k)) ↔ ((k : ℕ) × (q .reply ≡ says.none k))
   plans-none = (
-    (λ f. let r = plans.ring-otherwise (q .lists) (q .before) (q .reply) (q .after) (q .settled) (q .asked) (none-there one two (plans-alike .some .1)
-        (plans.none-unlawful (p .lists) (p .before) (p .reply) (p .after) (p .settled) (f .0) (f .1))) in (r .0, r .1)),
-    (λ f. let r = plans.ring-otherwise (p .lists) (p .before) (p .reply) (p .after) (p .settled) (p .asked) (none-there two one (plans-alike .some .0)
-        (plans.none-unlawful (q .lists) (q .before) (q .reply) (q .after) (q .settled) (f .0) (f .1))) in (r .0, r .1)),
+    λ f. plan-none-iff q .1 (none-there one two (plans-alike .some .1) (plan-none-iff p .0 f)),
+    λ f. plan-none-iff p .1 (none-there two one (plans-alike .some .0) (plan-none-iff q .0 f)),
   )
 
   module _ (plan : p .reply ≡ says.plan) where
     some : SomeLawful one
-    some = planIff p .0 plan
+    some = plan-iff p .0 plan
 
     plan′ : q .reply ≡ says.plan
     plan′ = plans-plan .0 plan
 
     inside : (i : ℕ) → i < length (writtenBy (p .lists) .units) → i < length (one .units)
-    inside i h = subst (λ k. i < k) (units-length (p .lists) (listedP p)) h
+    inside i h = subst (λ k. i < k) (units-length (p .lists) (plan-listed p)) h
 
     inside′ : (j : ℕ) → j < length (writtenBy (q .lists) .units) → j < length (two .units)
-    inside′ j h = subst (λ k. j < k) (units-length (q .lists) (listedP q)) h
+    inside′ j h = subst (λ k. j < k) (units-length (q .lists) (plan-listed q)) h
 
     front : planOf p ≡ printedPlan one
     front = plans.plan-at (p .lists) (p .before) (p .reply) (p .after) (p .settled) plan
@@ -168,7 +118,7 @@ module _ (p q : PlanCall) (listed : Relisted (writtenBy (p .lists)) (writtenBy (
     -- on every entry of the table: the greatest count of each stretch, and minus its least;
     pub plans-ranges : (a b : Boundary) → a ≤ top one → b ≤ top one
         → entry (boundaries one) (p .after .table) a b ≡ entry (boundaries two) (q .after .table) a b
-    plans-ranges = tables-same one two Same plans-alike (p .after .table) (q .after .table) (tabledP p plan) (tabledP q plan′)
+    plans-ranges = tables-same one two Same plans-alike (p .after .table) (q .after .table) (plan-tabled p plan) (plan-tabled q plan′)
 
     -- on each loader's narrowed window;
     pub plans-windows : (i j : ℕ) → Same i j
@@ -208,29 +158,27 @@ module _ (p q : DecideCall) (listed : Relisted (writtenBy (p .lists)) (writtenBy
   twoD = givenBy (q .lists)
 
   decisions-alike : Alike oneD twoD (SameLoader (writtenBy (p .lists)) (writtenBy (q .lists)))
-  decisions-alike = lists-alike (p .lists) (q .lists) (listedD p) (listedD q) listed
+  decisions-alike = lists-alike (p .lists) (q .lists) (decide-listed p) (decide-listed q) listed
 
   -- agree on fits or none,
   pub decisions-fit : (p .reply ≡ says.plan) ↔ (q .reply ≡ says.plan)
-  decisions-fit = (λ f. fitsIff q .1 (decisions-alike .some .0 (fitsIff p .0 f)), λ f. fitsIff p .1 (decisions-alike .some .1 (fitsIff q .0 f)))
+  decisions-fit = (λ f. fits-iff q .1 (decisions-alike .some .0 (fits-iff p .0 f)), λ f. fits-iff p .1 (decisions-alike .some .1 (fits-iff q .0 f)))
 
   pub decisions-none : ((k : ℕ) × (p .reply ≡ says.none k)) ↔ ((k : ℕ) × (q .reply ≡ says.none k))
   decisions-none = (
-    (λ f. let r = decides.ring-otherwise (q .lists) (q .before) (q .reply) (q .after) (q .settled) (q .asked) (none-there oneD twoD (decisions-alike .some .1)
-        (decides.none-unlawful (p .lists) (p .before) (p .reply) (p .after) (p .settled) (f .0) (f .1))) in (r .0, r .1)),
-    (λ f. let r = decides.ring-otherwise (p .lists) (p .before) (p .reply) (p .after) (p .settled) (p .asked) (none-there twoD oneD (decisions-alike .some .0)
-        (decides.none-unlawful (q .lists) (q .before) (q .reply) (q .after) (q .settled) (f .0) (f .1))) in (r .0, r .1)),
+    λ f. decide-none-iff q .1 (none-there oneD twoD (decisions-alike .some .1) (decide-none-iff p .0 f)),
+    λ f. decide-none-iff p .1 (none-there twoD oneD (decisions-alike .some .0) (decide-none-iff q .0 f)),
   )
 
   -- and on every entry of the table.
   pub decisions-ranges : p .reply ≡ says.plan
       → (a b : Boundary) → a ≤ top oneD → b ≤ top oneD → entry (boundaries oneD) (p .after .table) a b ≡ entry (boundaries twoD) (q .after .table) a b
-  decisions-ranges fits = tables-same oneD twoD _ decisions-alike (p .after .table) (q .after .table) (tabledD p fits) (tabledD q (decisions-fit .0 fits))
+  decisions-ranges fits = tables-same oneD twoD _ decisions-alike (p .after .table) (q .after .table) (decide-tabled p fits) (decide-tabled q (decisions-fit .0 fits))
 
 -- ---- Two answers to texts, of whichever house, that are not refused and were asked for a plan
 module _ (p q : TextAnswer Plan) (listed : Relisted (sheetOf p) (sheetOf q)) where
   answers-alike : Alike (constraints (sheetOf p)) (constraints (sheetOf q)) (SameLoader (sheetOf p) (sheetOf q))
-  answers-alike = relisted-alike (sheetOf p) (sheetOf q) listed (acceptedT p) (acceptedT q)
+  answers-alike = relisted-alike (sheetOf p) (sheetOf q) listed (text-accepted p) (text-accepted q)
 
   back : Relisted (sheetOf q) (sheetOf p)
   back = relisted-back (sheetOf p) (sheetOf q) listed
@@ -238,14 +186,14 @@ module _ (p q : TextAnswer Plan) (listed : Relisted (sheetOf p) (sheetOf q)) whe
   -- are both the page of a plan or both that of a ring.
   pub answers-plan : ((x : List Slot) × IsPlan p x) ↔ ((x : List Slot) × IsPlan q x)
   answers-plan = (
-    (λ x. (printedPlan (constraints (sheetOf q)), planPage q (answers-alike .some .0 (x .0, x .1 .legal)))),
-    (λ x. (printedPlan (constraints (sheetOf p)), planPage p (answers-alike .some .1 (x .0, x .1 .legal)))),
+    (λ x. (printedPlan (constraints (sheetOf q)), page-of-plan q (answers-alike .some .0 (x .0, x .1 .legal)))),
+    (λ x. (printedPlan (constraints (sheetOf p)), page-of-plan p (answers-alike .some .1 (x .0, x .1 .legal)))),
   )
 
   pub answers-none : ((ring : List Boundary) × IsNone p ring) ↔ ((ring : List Boundary) × IsNone q ring)
   answers-none = (
-    (λ r. nonePage q (none-there (constraints (sheetOf p)) (constraints (sheetOf q)) (answers-alike .some .1) (r .1 .unlawful))),
-    (λ r. nonePage p (none-there (constraints (sheetOf q)) (constraints (sheetOf p)) (answers-alike .some .0) (r .1 .unlawful))),
+    λ f. page-none-iff q .1 (none-there (constraints (sheetOf p)) (constraints (sheetOf q)) (answers-alike .some .1) (page-none-iff p .0 f)),
+    λ f. page-none-iff p .1 (none-there (constraints (sheetOf q)) (constraints (sheetOf p)) (answers-alike .some .0) (page-none-iff q .0 f)),
   )
 
   module _ (x : List Slot) (page : IsPlan p x) where
@@ -253,10 +201,10 @@ module _ (p q : TextAnswer Plan) (listed : Relisted (sheetOf p) (sheetOf q)) whe
     someT = (x, page .legal)
 
     here : IsPlan p (printedPlan (constraints (sheetOf p)))
-    here = planPage p someT
+    here = page-of-plan p someT
 
     there : IsPlan q (printedPlan (constraints (sheetOf q)))
-    there = planPage q (answers-alike .some .0 someT)
+    there = page-of-plan q (answers-alike .some .0 someT)
 
     -- Pages of plans have the same head and the same slot lines, with their counts and ranges: all lines but the units';
     pub answers-lines : otherLines (linesOf p) ≡ otherLines (linesOf q)
@@ -266,11 +214,28 @@ module _ (p q : TextAnswer Plan) (listed : Relisted (sheetOf p) (sheetOf q)) whe
     pub answers-between : (loader first last : ℕ) → SaysBetween loader first last (linesOf p) ↔ SaysBetween loader first last (linesOf q)
     answers-between k e f = (
       pages.between-there (sheetOf p) (sheetOf q) listed answers-alike someT (linesOf p) (linesOf q) here there k e f,
-      pages.between-there (sheetOf q) (sheetOf p) back (relisted-alike (sheetOf q) (sheetOf p) back (acceptedT q) (acceptedT p)) (answers-alike .some .0 someT)
+      pages.between-there (sheetOf q) (sheetOf p) back (relisted-alike (sheetOf q) (sheetOf p) back (text-accepted q) (text-accepted p)) (answers-alike .some .0 someT)
           (linesOf q) (linesOf p) there here k e f,
     )
 
-    -- and that of a loader whose closing slot is its alone is the same line, its seat too. (The unit at place i has the line behind the head and i others.)
+    -- the plans of the two pages have the same count in every slot, the carried place included;
+    module _ (y : List Slot) (other-page : IsPlan q y) where
+      mine : x ≡ printedPlan (constraints (sheetOf p))
+      mine = pages.plan-is (loaders (sheetOf p)) (constraints (sheetOf p)) x (linesOf p) page (accepted-valid _ (text-accepted p .sheet))
+
+      yours : y ≡ printedPlan (constraints (sheetOf q))
+      yours = pages.plan-is (loaders (sheetOf q)) (constraints (sheetOf q)) y (linesOf q) other-page (accepted-valid _ (text-accepted q .sheet))
+
+      pub answers-counts : (u : Slot) → 1 ≤ u → u ≤ slotBefore (top (constraints (sheetOf p))) → countIn u u x ≡ countIn u u y
+      answers-counts u h hu = ap (countIn u u) mine ∙ answers-alike .counts someT u h hu ∙ sym (ap (countIn u u) yours)
+
+      -- of each closing slot as many loaders have each slot in the one as in the other;
+      pub answers-seats : (closing u : Slot) → seatsClosing (constraints (sheetOf p)) x closing u ≡ seatsClosing (constraints (sheetOf q)) y closing u
+      answers-seats c u =
+          ap (λ z. seatsClosing (constraints (sheetOf p)) z c u) mine ∙ answers-alike .closing someT c u
+          ∙ sym (ap (λ z. seatsClosing (constraints (sheetOf q)) z c u) yours)
+
+    -- and the line of a loader whose closing slot is its alone is the same, its seat too. (The unit at place i has the line behind the head and i others.)
     pub answers-alone : (i j : ℕ) → SameLoader (sheetOf p) (sheetOf q) i j → ClosesAlone (constraints (sheetOf p)) i
         → getD (linesOf p) (suc i) other ≡ getD (linesOf q) (suc j) other
     answers-alone = pages.line-same (sheetOf p) (sheetOf q) listed answers-alike someT (linesOf p) (linesOf q) here there
@@ -278,17 +243,17 @@ module _ (p q : TextAnswer Plan) (listed : Relisted (sheetOf p) (sheetOf q)) whe
 -- ---- Two such answers that were asked only whether they fit
 module _ (p q : TextAnswer Fits) (listed : Relisted (sheetOf p) (sheetOf q)) where
   fits-alike : Alike (constraints (sheetOf p)) (constraints (sheetOf q)) (SameLoader (sheetOf p) (sheetOf q))
-  fits-alike = relisted-alike (sheetOf p) (sheetOf q) listed (acceptedT p) (acceptedT q)
+  fits-alike = relisted-alike (sheetOf p) (sheetOf q) listed (text-accepted p) (text-accepted q)
 
   -- are the same, line by line, where the one says that it fits,
   pub fits-lines : IsFit p → linesOf p ≡ linesOf q
-  fits-lines f = pages.fits-same (sheetOf p) (sheetOf q) listed fits-alike (linesOf p) (linesOf q) f (fitPage q (fits-alike .some .0 (f .some)))
+  fits-lines f = pages.fits-same (sheetOf p) (sheetOf q) listed fits-alike (linesOf p) (linesOf q) f (page-of-fit q (fits-alike .some .0 (f .some)))
 
   -- and else both the page of a ring.
   pub fits-none : ((ring : List Boundary) × IsNone p ring) ↔ ((ring : List Boundary) × IsNone q ring)
   fits-none = (
-    (λ r. nonePage q (none-there (constraints (sheetOf p)) (constraints (sheetOf q)) (fits-alike .some .1) (r .1 .unlawful))),
-    (λ r. nonePage p (none-there (constraints (sheetOf q)) (constraints (sheetOf p)) (fits-alike .some .0) (r .1 .unlawful))),
+    λ f. page-none-iff q .1 (none-there (constraints (sheetOf p)) (constraints (sheetOf q)) (fits-alike .some .1) (page-none-iff p .0 f)),
+    λ f. page-none-iff p .1 (none-there (constraints (sheetOf q)) (constraints (sheetOf p)) (fits-alike .some .0) (page-none-iff q .0 f)),
   )
 
 -- ======== 2. Wider windows and, on the same stretches, looser rules, any number of them, and all else equal
@@ -313,29 +278,29 @@ module _ (s t : Sheet) (more : Looser s t) where
 -- ---- Of two calls of `plan`: no entry of the table falls. (An entry is a greatest count, or minus a least one.)
 module _ (p q : PlanCall) (more : Looser (givenBy (p .lists)) (givenBy (q .lists))) (plan : p .reply ≡ says.plan) where
   pub looser-planned : q .reply ≡ says.plan
-  looser-planned = planIff q .1 (there-too (givenBy (p .lists)) (givenBy (q .lists)) more (planIff p .0 plan))
+  looser-planned = plan-iff q .1 (there-too (givenBy (p .lists)) (givenBy (q .lists)) more (plan-iff p .0 plan))
 
   pub looser-table : (a b : Boundary) → a ≤ top (givenBy (p .lists)) → b ≤ top (givenBy (p .lists))
       → entry (boundaries (givenBy (p .lists))) (p .after .table) a b ≤ℤ entry (boundaries (givenBy (q .lists))) (q .after .table) a b
   looser-table =
-      tables-looser (givenBy (p .lists)) (givenBy (q .lists)) more (planIff p .0 plan) (p .after .table) (q .after .table) (tabledP p plan)
-      (tabledP q looser-planned) (tops (givenBy (p .lists)) (givenBy (q .lists)) more)
+      tables-looser (givenBy (p .lists)) (givenBy (q .lists)) more (plan-iff p .0 plan) (p .after .table) (q .after .table) (plan-tabled p plan)
+      (plan-tabled q looser-planned) (tops (givenBy (p .lists)) (givenBy (q .lists)) more)
 
 -- ---- Of two calls of `decide`, the same
 module _ (p q : DecideCall) (more : Looser (givenBy (p .lists)) (givenBy (q .lists))) (fits : p .reply ≡ says.plan) where
   pub looser-decided : q .reply ≡ says.plan
-  looser-decided = fitsIff q .1 (there-too (givenBy (p .lists)) (givenBy (q .lists)) more (fitsIff p .0 fits))
+  looser-decided = fits-iff q .1 (there-too (givenBy (p .lists)) (givenBy (q .lists)) more (fits-iff p .0 fits))
 
   pub looser-decided-table : (a b : Boundary) → a ≤ top (givenBy (p .lists)) → b ≤ top (givenBy (p .lists))
       → entry (boundaries (givenBy (p .lists))) (p .after .table) a b ≤ℤ entry (boundaries (givenBy (q .lists))) (q .after .table) a b
   looser-decided-table =
-      tables-looser (givenBy (p .lists)) (givenBy (q .lists)) more (fitsIff p .0 fits) (p .after .table) (q .after .table) (tabledD p fits)
-      (tabledD q looser-decided) (tops (givenBy (p .lists)) (givenBy (q .lists)) more)
+      tables-looser (givenBy (p .lists)) (givenBy (q .lists)) more (fits-iff p .0 fits) (p .after .table) (q .after .table) (decide-tabled p fits)
+      (decide-tabled q looser-decided) (tops (givenBy (p .lists)) (givenBy (q .lists)) more)
 
 -- ---- Of two answers to texts: the page of a plan stays one, and no slot line's least rises and no greatest falls
 module _ (p q : TextAnswer Plan) (more : Looser (constraints (sheetOf p)) (constraints (sheetOf q))) (x : List Slot) (page : IsPlan p x) where
   pub looser-answer : IsPlan q (printedPlan (constraints (sheetOf q)))
-  looser-answer = planPage q (there-too (constraints (sheetOf p)) (constraints (sheetOf q)) more (x, page .legal))
+  looser-answer = page-of-plan q (there-too (constraints (sheetOf p)) (constraints (sheetOf q)) more (x, page .legal))
 
   pub looser-lines : (u c l g c′ l′ g′ : ℕ) → In (slot u c l g) (linesOf p) → In (slot u c′ l′ g′) (linesOf q) → (l′ ≤ l) × (g ≤ g′)
   looser-lines u c l g c′ l′ g′ m n =
@@ -347,7 +312,7 @@ module _ (p q : TextAnswer Plan) (more : Looser (constraints (sheetOf p)) (const
 -- ---- And where it was asked only whether it fits
 module _ (p q : TextAnswer Fits) (more : Looser (constraints (sheetOf p)) (constraints (sheetOf q))) (page : IsFit p) where
   pub looser-fit : IsFit q
-  looser-fit = fitPage q (there-too (constraints (sheetOf p)) (constraints (sheetOf q)) more (page .some))
+  looser-fit = page-of-fit q (there-too (constraints (sheetOf p)) (constraints (sheetOf q)) more (page .some))
 
   pub looser-fit-lines : (u l g l′ g′ : ℕ) → In (range u l g) (linesOf p) → In (range u l′ g′) (linesOf q) → (l′ ≤ l) × (g ≤ g′)
   looser-fit-lines u l g l′ g′ m n =

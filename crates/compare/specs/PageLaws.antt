@@ -2,7 +2,7 @@
 -- Key idea: a plan's page is its head, a line for each unit and a line for each slot, and what these say of the sheet is known. So where two sheets agree, the
 -- lines do.
 use mathlib.Core.Path.{_≡_, refl, sym, ap, ap₂, _∙_, subst}
-use mathlib.Core.Logic.{inl, inr, ⊎-elim}
+use mathlib.Core.Logic.{_↔_, inl, inr, ⊎-elim}
 use mathlib.Core.Bool.{Bool, true, false, not, cond}
 use mathlib.Core.List.{List, [], _∷_, _++_, map, Memᴰ·append-left, List·Memᴰ·tail, List·Memᴰ·cases-cons, List·Memᴰ·append-cases}
 use Prim.Native.Nat.{ℕ, zero, suc, _-_, _≤_, _<_}
@@ -13,16 +13,24 @@ use Rattle.lists.specs.Lists.{run, fromTo, within, howMany}
 use Rattle.lists.specs.Members.{In, within-iff, in-map, map-in, run-in, keep-append}
 use Rattle.lists.specs.Counts.{howMany-count, count-le}
 use Rattle.lists.specs.Values.{length-listOf, listOf-at, listOf-is, values-same}
-use Rattle.slots.specs.Slots.{Slot}
+use Rattle.slots.specs.Slots.{Slot, Boundary}
 use Rattle.sheet.specs.Sheet.{Sheet, WrittenSheet, constraints, loaders, top, countIn, leastIn, greatestIn, earliest, latest, printedPlan}
-use Rattle.sheet.specs.PlanLaws.{lawful-iff}
+use Rattle.sheet.specs.PlanLaws.{lawful-iff, greatestIn-bound}
+use Rattle.sheet.specs.PotentialLaws.{Valid}
+use Rattle.plans.specs.PrintedLaws.{printed-unique}
 use Rattle.pages.specs.PageLines.{Said, plan, unit, carried, slot, fits, range, other, unitLinesWith, unitSaid, slotSaid, rangeSaid}
 use Rattle.pages.specs.PageLinesLaws.{lines-counted}
 use Rattle.pages.specs.Pages.{PlanPage, FitsPage}
-use Rattle.compare_sheets.specs.Comparing.{Relisted, SameLoader, ClosesAlone}
+use Rattle.compare_sheets.specs.Comparing.{Accepted, Relisted, SameLoader, ClosesAlone}
 use Rattle.compare_sheets.specs.AlongLaws.{other-place}
-use Rattle.plan_conditions.specs.Statements.{SomeLawful}
-use Rattle.compare.specs.Calls.{isUnitLine, otherLines, SaysBetween}
+use Rattle.compare_sheets.specs.RelistedLaws.{printed}
+use Rattle.plan_conditions.specs.Statements.{SomeLawful, NoneLawful}
+use Rattle.read_questions.specs.Reading.{roomsForAll}
+use Rattle.read_questions.specs.AcceptedLaws.{reading-accepts, reading-loaders}
+use Rattle.wave_words.specs.declared.Query.{Query}
+use Rattle.wave_words.specs.declared.Query.the-variants.{Plan, Fits}
+use Rattle.answer_conditions.specs.AnswerConditions as answers
+use Rattle.compare.specs.Calls.{TextAnswer, sheetOf, IsPlan, IsFit, IsNone, isUnitLine, otherLines, SaysBetween}
 use Rattle.compare.specs.CallLaws.{Alike}
 
 -- the entries that are one number, as the entries from it to it
@@ -81,6 +89,16 @@ module _ (ks : List ℕ) (s : Sheet) (x : List Slot) (ls : List Said) (p : PlanP
       (λ t. unitLinesWith t ls) (λ t. leastIn s t t) (λ t. greatestIn s t t) t n n 1 (suc (s .span) - 1) h
       ∙ sym (ap (howMany (eqb t)) (listOf-is (λ j. getD x j 0) 0 n x (lawful-iff s x .0 (p .legal) .seated .size) (λ j l. refl)))
       ∙ howMany-one t x
+
+  -- the plan of the page is the printed plan
+  pub plan-is : Valid s → x ≡ printedPlan s
+  plan-is valid =
+      let P = printed s valid x (p .legal) in
+      printed-unique s valid (printedPlan s) x P (record {
+        legal = p .legal;
+        early = λ b h hb. omega (arith, greatestIn-bound s x (p .legal) 1 b, p .soonest (printedPlan s) (P .legal) b h hb, P .early b h hb);
+        order = p .seated;
+      })
 
   -- behind the head stands the line of each unit
   pub unit-line : (j : ℕ) → j < n → getD ls (suc j) other ≡ ofUnit j
@@ -215,3 +233,22 @@ fits-same w v listed A ls ms P Q =
     (values-same (rangeSaid (λ u. leastIn one u u) (λ u. greatestIn one u u)) there 1 (suc (one .span) - 1)
     (λ u h hu. let low = A .least u u in let high = A .greatest u u in cc) ∙ ap (λ k. map there (fromTo 1 k)) (listed .span))
     ∙ sym (Q .lines)
+
+-- ---- what is known of an answer by itself
+pub text-accepted : {query : Query} (p : TextAnswer query) → Accepted (sheetOf p)
+text-accepted p = record {
+  sheet = reading-accepts (p .house) (p .input) roomsForAll (p .asked);
+  loaders = reading-loaders (p .house) (p .input) roomsForAll (p .asked);
+}
+
+pub page-of-plan : (p : TextAnswer Plan) → SomeLawful (constraints (sheetOf p)) → IsPlan p (printedPlan (constraints (sheetOf p)))
+page-of-plan p x = answers.page-if-lawful (p .house) Plan (p .input) (p .page) (p .left) (p .next) (p .answered) (p .size) (p .asked) (x .0) (x .1)
+
+pub page-of-fit : (p : TextAnswer Fits) → SomeLawful (constraints (sheetOf p)) → IsFit p
+page-of-fit p x = answers.page-if-lawful (p .house) Fits (p .input) (p .page) (p .left) (p .next) (p .answered) (p .size) (p .asked) (x .0) (x .1)
+
+pub page-none-iff : {query : Query} (p : TextAnswer query) → ((ring : List Boundary) × IsNone p ring) ↔ NoneLawful (constraints (sheetOf p))
+page-none-iff {query} p = (
+  λ r. r .1 .unlawful,
+  λ none. answers.ring-otherwise (p .house) query (p .input) (p .page) (p .left) (p .next) (p .answered) (p .size) (p .asked) none,
+)

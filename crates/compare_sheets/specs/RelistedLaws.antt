@@ -41,7 +41,7 @@ module _ (w v : WrittenSheet) (listed : Relisted w v) where
 
 -- ---- an accepted sheet that has a lawful plan, by itself
 module _ (s : Sheet) (valid : Valid s) (x : List Slot) (l : T (lawful s x)) where
-  printed : Printed s (printedPlan s)
+  pub printed : Printed s (printedPlan s)
   printed = let t = lawful-solved s valid x l in some-printed s (t .0) (t .1)
 
   seating : Complete (length (s .units)) (top s) (firsts s) (lasts s) (λ b. countIn 1 b (printedPlan s)) (at (printedPlan s))
