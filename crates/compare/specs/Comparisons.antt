@@ -173,7 +173,8 @@ module _ (p q : DecideCall) (listed : Relisted (writtenBy (p .lists)) (writtenBy
   -- and on every entry of the table.
   pub decisions-ranges : p .reply ≡ says.plan
       → (a b : Boundary) → a ≤ top oneD → b ≤ top oneD → entry (boundaries oneD) (p .after .table) a b ≡ entry (boundaries twoD) (q .after .table) a b
-  decisions-ranges fits = tables-same oneD twoD _ decisions-alike (p .after .table) (q .after .table) (decide-tabled p fits) (decide-tabled q (decisions-fit .0 fits))
+  decisions-ranges fits =
+      tables-same oneD twoD _ decisions-alike (p .after .table) (q .after .table) (decide-tabled p fits) (decide-tabled q (decisions-fit .0 fits))
 
 -- ---- Two answers to texts, of whichever house, that are not refused and were asked for a plan
 module _ (p q : TextAnswer Plan) (listed : Relisted (sheetOf p) (sheetOf q)) where
@@ -214,8 +215,8 @@ module _ (p q : TextAnswer Plan) (listed : Relisted (sheetOf p) (sheetOf q)) whe
     pub answers-between : (loader first last : ℕ) → SaysBetween loader first last (linesOf p) ↔ SaysBetween loader first last (linesOf q)
     answers-between k e f = (
       pages.between-there (sheetOf p) (sheetOf q) listed answers-alike someT (linesOf p) (linesOf q) here there k e f,
-      pages.between-there (sheetOf q) (sheetOf p) back (relisted-alike (sheetOf q) (sheetOf p) back (text-accepted q) (text-accepted p)) (answers-alike .some .0 someT)
-          (linesOf q) (linesOf p) there here k e f,
+      pages.between-there (sheetOf q) (sheetOf p) back (relisted-alike (sheetOf q) (sheetOf p) back (text-accepted q) (text-accepted p))
+          (answers-alike .some .0 someT) (linesOf q) (linesOf p) there here k e f,
     )
 
     -- the plans of the two pages have the same count in every slot, the carried place included;

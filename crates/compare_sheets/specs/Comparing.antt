@@ -58,7 +58,7 @@ pub record LooserRule (r q : Rule) : Type 0 where
   pub low : q .low ≤ r .low
   pub high : r .high ≤ q .high
 
--- t allows what s allows: any number of its windows are wider and of its rules looser, and all else is equal. Loader numbers are not asked: no plan looks at one.
+-- t allows what s allows: any number of its windows are wider and of its rules looser, and all else is equal. (No plan looks at a loader number.)
 pub record Looser (s t : Sheet) : Type 0 where
   pub span : s .span ≡ t .span
   pub units : Each Wider (s .units) (t .units)
