@@ -7,7 +7,6 @@ use Prim.Native.Nat.{ℕ, suc, _≤_, _<_}
 use native.Mathlib.Omega.{arith}
 use native.Mathlib.Nat.{eq-or-lt-of-le}
 use native.Mathlib.Decide.{decLe}
-use lib.Dec.{T}
 use lib.ListN.{length, getD}
 use lib.IntN.{ℤ, pos, negℤ}
 use lib.Signed.{_≤ℤ_}
@@ -89,18 +88,18 @@ pub record Tabled (s : Sheet) (left : List ℤ) : Type 0 where
   pub room : List ℤ
   pub is : left ≡ tableIn s table room
 
-module _ (s : Sheet) (left : List ℤ) (T : Tabled s left) where
-  entry-is : (a b : ℕ) → a ≤ top s → b ≤ top s → entry (boundaries s) left a b ≡ entry (boundaries s) (T .table) a b
-  entry-is = entry-at s (T .table) (T .size) (T .solved) (T .room) left (T .is)
+module _ (s : Sheet) (left : List ℤ) (held : Tabled s left) where
+  entry-is : (a b : ℕ) → a ≤ top s → b ≤ top s → entry (boundaries s) left a b ≡ entry (boundaries s) (held .table) a b
+  entry-is = entry-at s (held .table) (held .size) (held .solved) (held .room) left (held .is)
 
   forward : (a b : ℕ) → a < b → b ≤ top s → entry (boundaries s) left a b ≡ pos (greatestIn s (suc a) b)
-  forward a b h hb = entry-is a b (omega arith) hb ∙ sym (greatest-entry s (entry (boundaries s) (T .table)) (T .solved) a b h hb)
+  forward a b h hb = entry-is a b (omega arith) hb ∙ sym (greatest-entry s (entry (boundaries s) (held .table)) (held .solved) a b h hb)
 
   backward : (a b : ℕ) → a < b → b ≤ top s → entry (boundaries s) left b a ≡ negℤ (pos (leastIn s (suc a) b))
-  backward a b h hb = entry-is b a hb (omega arith) ∙ sym (least-entry s (entry (boundaries s) (T .table)) (T .solved) a b h hb)
+  backward a b h hb = entry-is b a hb (omega arith) ∙ sym (least-entry s (entry (boundaries s) (held .table)) (held .solved) a b h hb)
 
   own : (a : ℕ) → a ≤ top s → entry (boundaries s) left a a ≡ pos 0
-  own a ha = entry-is a a ha ha ∙ T .solved .finished .diagonal a ha
+  own a ha = entry-is a a ha ha ∙ held .solved .finished .diagonal a ha
 
 -- two boundaries, by which comes first
 by-order : {P : ℕ → ℕ → Type 0} → ((a b : ℕ) → a < b → P a b) → ((a b : ℕ) → a < b → P b a) → ((a : ℕ) → P a a) → (a b : ℕ) → P a b
