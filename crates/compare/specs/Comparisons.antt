@@ -16,7 +16,6 @@ use lib.Signed.{_≤ℤ_}
 use Rattle.lists.specs.Members.{In}
 use Rattle.network.specs.Table.{entry}
 use Rattle.slots.specs.Slots.{Slot, Boundary, slotBefore}
-use Rattle.sheet.specs.Sizes.{topOf}
 use Rattle.sheet.specs.Sheet.{Sheet, WrittenSheet, constraints, loaders, top, boundaries, lawful, countIn, leastIn, greatestIn, earliest, latest, printedPlan}
 use Rattle.sheet.specs.QuestionLaws.{accepted-valid}
 use Rattle.sheet.specs.Lists.{givenBy, writtenBy}
@@ -29,8 +28,8 @@ use Rattle.compare_sheets.specs.Comparing.{Accepted, Relisted, SameLoader, seat
 use Rattle.compare_sheets.specs.AlongLaws.{relisted-back}
 use Rattle.compare_sheets.specs.LooserLaws as looser
 use Rattle.compare.specs.Calls.{PlanCall, planOf, DecideCall, TextAnswer, sheetOf, linesOf, IsPlan, IsFit, IsNone, otherLines, SaysBetween}
-use Rattle.compare.specs.CallLaws.{Alike, relisted-alike, lists-alike, units-length, tables-same, tables-looser, earliest-is, latest-is, none-there}
-use Rattle.compare.specs.CallLaws.{plan-listed, plan-iff, plan-none-iff, plan-tabled, decide-listed, fits-iff, decide-none-iff, decide-tabled}
+use Rattle.compare.specs.CallLaws.{Alike, relisted-alike, units-length, earliest-is, latest-is, none-there, looser-some, plan-known, decide-known}
+use Rattle.compare.specs.CallLaws.{known-alike, known-plan, known-none, known-table, known-looser, known-looser-table}
 use Rattle.compare.specs.PageLaws as pages
 use Rattle.compare.specs.PageLaws.{text-accepted, page-of-plan, page-of-fit, page-none-iff}
 
@@ -84,30 +83,27 @@ module _ (p q : PlanCall) (listed : Relisted (writtenBy (p .lists)) (writtenBy (
   Same = SameLoader (writtenBy (p .lists)) (writtenBy (q .lists))
 
   plans-alike : Alike one two Same
-  plans-alike = lists-alike (p .lists) (q .lists) (plan-listed p) (plan-listed q) listed
+  plans-alike = known-alike (plan-known p) (plan-known q) listed
 
   -- agree on plan or none;
   pub plans-plan : (p .reply ≡ says.plan) ↔ (q .reply ≡ says.plan)
-  plans-plan = (λ f. plan-iff q .1 (plans-alike .some .0 (plan-iff p .0 f)), λ f. plan-iff p .1 (plans-alike .some .1 (plan-iff q .0 f)))
+  plans-plan = known-plan (plan-known p) (plan-known q) listed
 
   pub plans-none : ((k : ℕ) × (p .reply ≡ says.none k)) ↔ ((k : ℕ) × (q .reply ≡ says.none k))
-  plans-none = (
-    λ f. plan-none-iff q .1 (none-there one two (plans-alike .some .1) (plan-none-iff p .0 f)),
-    λ f. plan-none-iff p .1 (none-there two one (plans-alike .some .0) (plan-none-iff q .0 f)),
-  )
+  plans-none = known-none (plan-known p) (plan-known q) listed
 
   module _ (plan : p .reply ≡ says.plan) where
     some : SomeLawful one
-    some = plan-iff p .0 plan
+    some = plan-known p .some .0 plan
 
     plan′ : q .reply ≡ says.plan
     plan′ = plans-plan .0 plan
 
     inside : (i : ℕ) → i < length (writtenBy (p .lists) .units) → i < length (one .units)
-    inside i h = subst (λ k. i < k) (units-length (p .lists) (plan-listed p)) h
+    inside i h = subst (λ k. i < k) (units-length (p .lists) (plan-known p .listed)) h
 
     inside′ : (j : ℕ) → j < length (writtenBy (q .lists) .units) → j < length (two .units)
-    inside′ j h = subst (λ k. j < k) (units-length (q .lists) (plan-listed q)) h
+    inside′ j h = subst (λ k. j < k) (units-length (q .lists) (plan-known q .listed)) h
 
     front : planOf p ≡ printedPlan one
     front = plans.plan-at (p .lists) (p .before) (p .reply) (p .after) (p .settled) plan
@@ -118,7 +114,7 @@ module _ (p q : PlanCall) (listed : Relisted (writtenBy (p .lists)) (writtenBy (
     -- on every entry of the table: the greatest count of each stretch, and minus its least;
     pub plans-ranges : (a b : Boundary) → a ≤ top one → b ≤ top one
         → entry (boundaries one) (p .after .table) a b ≡ entry (boundaries two) (q .after .table) a b
-    plans-ranges = tables-same one two Same plans-alike (p .after .table) (q .after .table) (plan-tabled p plan) (plan-tabled q plan′)
+    plans-ranges = known-table (plan-known p) (plan-known q) listed plan
 
     -- on each loader's narrowed window;
     pub plans-windows : (i j : ℕ) → Same i j
@@ -157,24 +153,17 @@ module _ (p q : DecideCall) (listed : Relisted (writtenBy (p .lists)) (writtenBy
   abbrev pub twoD : Sheet
   twoD = givenBy (q .lists)
 
-  decisions-alike : Alike oneD twoD (SameLoader (writtenBy (p .lists)) (writtenBy (q .lists)))
-  decisions-alike = lists-alike (p .lists) (q .lists) (decide-listed p) (decide-listed q) listed
-
   -- agree on fits or none,
   pub decisions-fit : (p .reply ≡ says.plan) ↔ (q .reply ≡ says.plan)
-  decisions-fit = (λ f. fits-iff q .1 (decisions-alike .some .0 (fits-iff p .0 f)), λ f. fits-iff p .1 (decisions-alike .some .1 (fits-iff q .0 f)))
+  decisions-fit = known-plan (decide-known p) (decide-known q) listed
 
   pub decisions-none : ((k : ℕ) × (p .reply ≡ says.none k)) ↔ ((k : ℕ) × (q .reply ≡ says.none k))
-  decisions-none = (
-    λ f. decide-none-iff q .1 (none-there oneD twoD (decisions-alike .some .1) (decide-none-iff p .0 f)),
-    λ f. decide-none-iff p .1 (none-there twoD oneD (decisions-alike .some .0) (decide-none-iff q .0 f)),
-  )
+  decisions-none = known-none (decide-known p) (decide-known q) listed
 
   -- and on every entry of the table.
   pub decisions-ranges : p .reply ≡ says.plan
       → (a b : Boundary) → a ≤ top oneD → b ≤ top oneD → entry (boundaries oneD) (p .after .table) a b ≡ entry (boundaries twoD) (q .after .table) a b
-  decisions-ranges fits =
-      tables-same oneD twoD _ decisions-alike (p .after .table) (q .after .table) (decide-tabled p fits) (decide-tabled q (decisions-fit .0 fits))
+  decisions-ranges = known-table (decide-known p) (decide-known q) listed
 
 -- ---- Two answers to texts, of whichever house, that are not refused and were asked for a plan
 module _ (p q : TextAnswer Plan) (listed : Relisted (sheetOf p) (sheetOf q)) where
@@ -269,39 +258,28 @@ module _ (s t : Sheet) (more : Looser s t) where
   pub looser-ranges : SomeLawful s → (first last : Slot) → (leastIn t first last ≤ leastIn s first last) × (greatestIn s first last ≤ greatestIn t first last)
   looser-ranges x first last = (looser.looser-least s t more (x .0) (x .1) first last, looser.looser-greatest s t more (x .0) (x .1) first last)
 
-  there-too : SomeLawful s → SomeLawful t
-  there-too x = (x .0, looser-plan (x .0) (x .1))
-
-  tops : top s ≡ top t
-  unfolding top
-  tops = ap topOf (more .span)
-
 -- ---- Of two calls of `plan`: no entry of the table falls. (An entry is a greatest count, or minus a least one.)
 module _ (p q : PlanCall) (more : Looser (givenBy (p .lists)) (givenBy (q .lists))) (plan : p .reply ≡ says.plan) where
   pub looser-planned : q .reply ≡ says.plan
-  looser-planned = plan-iff q .1 (there-too (givenBy (p .lists)) (givenBy (q .lists)) more (plan-iff p .0 plan))
+  looser-planned = known-looser (plan-known p) (plan-known q) more plan
 
   pub looser-table : (a b : Boundary) → a ≤ top (givenBy (p .lists)) → b ≤ top (givenBy (p .lists))
       → entry (boundaries (givenBy (p .lists))) (p .after .table) a b ≤ℤ entry (boundaries (givenBy (q .lists))) (q .after .table) a b
-  looser-table =
-      tables-looser (givenBy (p .lists)) (givenBy (q .lists)) more (plan-iff p .0 plan) (p .after .table) (q .after .table) (plan-tabled p plan)
-      (plan-tabled q looser-planned) (tops (givenBy (p .lists)) (givenBy (q .lists)) more)
+  looser-table = known-looser-table (plan-known p) (plan-known q) more plan
 
 -- ---- Of two calls of `decide`, the same
 module _ (p q : DecideCall) (more : Looser (givenBy (p .lists)) (givenBy (q .lists))) (fits : p .reply ≡ says.plan) where
   pub looser-decided : q .reply ≡ says.plan
-  looser-decided = fits-iff q .1 (there-too (givenBy (p .lists)) (givenBy (q .lists)) more (fits-iff p .0 fits))
+  looser-decided = known-looser (decide-known p) (decide-known q) more fits
 
   pub looser-decided-table : (a b : Boundary) → a ≤ top (givenBy (p .lists)) → b ≤ top (givenBy (p .lists))
       → entry (boundaries (givenBy (p .lists))) (p .after .table) a b ≤ℤ entry (boundaries (givenBy (q .lists))) (q .after .table) a b
-  looser-decided-table =
-      tables-looser (givenBy (p .lists)) (givenBy (q .lists)) more (fits-iff p .0 fits) (p .after .table) (q .after .table) (decide-tabled p fits)
-      (decide-tabled q looser-decided) (tops (givenBy (p .lists)) (givenBy (q .lists)) more)
+  looser-decided-table = known-looser-table (decide-known p) (decide-known q) more fits
 
 -- ---- Of two answers to texts: the page of a plan stays one, and no slot line's least rises and no greatest falls
 module _ (p q : TextAnswer Plan) (more : Looser (constraints (sheetOf p)) (constraints (sheetOf q))) (x : List Slot) (page : IsPlan p x) where
   pub looser-answer : IsPlan q (printedPlan (constraints (sheetOf q)))
-  looser-answer = page-of-plan q (there-too (constraints (sheetOf p)) (constraints (sheetOf q)) more (x, page .legal))
+  looser-answer = page-of-plan q (looser-some (constraints (sheetOf p)) (constraints (sheetOf q)) more (x, page .legal))
 
   pub looser-lines : (u c l g c′ l′ g′ : ℕ) → In (slot u c l g) (linesOf p) → In (slot u c′ l′ g′) (linesOf q) → (l′ ≤ l) × (g ≤ g′)
   looser-lines u c l g c′ l′ g′ m n =
@@ -313,7 +291,7 @@ module _ (p q : TextAnswer Plan) (more : Looser (constraints (sheetOf p)) (const
 -- ---- And where it was asked only whether it fits
 module _ (p q : TextAnswer Fits) (more : Looser (constraints (sheetOf p)) (constraints (sheetOf q))) (page : IsFit p) where
   pub looser-fit : IsFit q
-  looser-fit = page-of-fit q (there-too (constraints (sheetOf p)) (constraints (sheetOf q)) more (page .some))
+  looser-fit = page-of-fit q (looser-some (constraints (sheetOf p)) (constraints (sheetOf q)) more (page .some))
 
   pub looser-fit-lines : (u l g l′ g′ : ℕ) → In (range u l g) (linesOf p) → In (range u l′ g′) (linesOf q) → (l′ ≤ l) × (g ≤ g′)
   looser-fit-lines u l g l′ g′ m n =
