@@ -11,7 +11,6 @@ use native.Mathlib.Omega.{arith}
 use lib.Dec.{T}
 use lib.ListN.{length, getD}
 use lib.Seq.{getD-take}
-use lib.IntN.{ℤ}
 use lib.Signed.{_≤ℤ_}
 use Rattle.lists.specs.Members.{In}
 use Rattle.network.specs.Table.{entry}
