@@ -72,14 +72,14 @@ pub none-there : (s t : Sheet) → (SomeLawful t → SomeLawful s) → NoneLawfu
 none-there s t f none x l = let y = f (x, l) in none (y .0) (y .1)
 
 -- lists that pass their questions make an accepted sheet
-pub lists-accepted : (l : WrittenLists) → Listed l → Accepted (writtenBy l)
+lists-accepted : (l : WrittenLists) → Listed l → Accepted (writtenBy l)
 lists-accepted l y = record { sheet = written-accepted l y; loaders = written-new l y }
 
 -- which has as many units
-pub units-length : (l : WrittenLists) → Listed l → length (writtenBy l .units) ≡ length (givenBy l .units)
-units-length l y = unitsOf-length (l .loader) (givenBy l .units) (as-many-units l y)
+pub written-length : (l : WrittenLists) → Listed l → length (writtenBy l .units) ≡ length (givenBy l .units)
+written-length l y = unitsOf-length (l .loader) (givenBy l .units) (as-many-units l y)
 
-pub lists-alike : (l m : WrittenLists) → Listed l → Listed m → Relisted (writtenBy l) (writtenBy m)
+lists-alike : (l m : WrittenLists) → Listed l → Listed m → Relisted (writtenBy l) (writtenBy m)
     → Alike (givenBy l) (givenBy m) (SameLoader (writtenBy l) (writtenBy m))
 lists-alike l m yl ym listed =
     let same = SameLoader (writtenBy l) (writtenBy m) in
@@ -117,7 +117,7 @@ by-order {P} f g h a b = elim (decLe a b) [
 ]
 
 -- the same entries
-pub tables-same : (s t : Sheet) (same : ℕ → ℕ → Type 0) → Alike s t same → (one other : List ℤ) → Tabled s one → Tabled t other
+tables-same : (s t : Sheet) (same : ℕ → ℕ → Type 0) → Alike s t same → (one other : List ℤ) → Tabled s one → Tabled t other
     → (a b : ℕ) → a ≤ top s → b ≤ top s → entry (boundaries s) one a b ≡ entry (boundaries t) other a b
 tables-same s t same A one other S U = by-order {P = λ a b. a ≤ top s → b ≤ top s → entry (boundaries s) one a b ≡ entry (boundaries t) other a b}
     (λ a b h ha hb. forward s one S a b h hb ∙ ap pos (A .greatest (suc a) b) ∙ sym (forward t other U a b h (omega (arith, A .tops))))
@@ -125,7 +125,7 @@ tables-same s t same A one other S U = by-order {P = λ a b. a ≤ top s → b �
     (λ a ha hb. own s one S a ha ∙ sym (own t other U a (omega (arith, A .tops))))
 
 -- where more is allowed there are as many boundaries, a plan is a plan still,
-pub looser-top : (s t : Sheet) → Looser s t → top s ≡ top t
+looser-top : (s t : Sheet) → Looser s t → top s ≡ top t
 unfolding top
 looser-top s t looser = ap topOf (looser .span)
 
@@ -133,7 +133,7 @@ pub looser-some : (s t : Sheet) → Looser s t → SomeLawful s → SomeLawful t
 looser-some s t looser x = (x .0, looser-lawful s t looser (x .0) (x .1))
 
 -- and no entry falls
-pub tables-looser : (s t : Sheet) → Looser s t → SomeLawful s → (one other : List ℤ) → Tabled s one → Tabled t other
+tables-looser : (s t : Sheet) → Looser s t → SomeLawful s → (one other : List ℤ) → Tabled s one → Tabled t other
     → (a b : ℕ) → a ≤ top s → b ≤ top s → entry (boundaries s) one a b ≤ℤ entry (boundaries t) other a b
 tables-looser s t looser x one other S U =
     let e = looser-top s t looser in

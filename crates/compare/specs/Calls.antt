@@ -59,21 +59,21 @@ pub record TextAnswer (query : Query) : Type 0 where
   pub asked : verdict house input ≡ allYes
 
 -- its sheet, and its lines as they are read back from the page
-abbrev pub sheetOf : {query : Query} → TextAnswer query → WrittenSheet
-sheetOf p = sheetIn (p .house) (p .input)
+abbrev pub textSheet : {query : Query} → TextAnswer query → WrittenSheet
+textSheet p = sheetIn (p .house) (p .input)
 
 abbrev pub linesOf : {query : Query} → TextAnswer query → List Said
 linesOf p = answerOn (p .left) 0 (p .next)
 
 -- it is the page of the plan x, that of a sheet that fits, or that of a ring
 abbrev pub IsPlan : TextAnswer Plan → List Slot → Type 0
-IsPlan p x = PlanPage (loaders (sheetOf p)) (constraints (sheetOf p)) x (linesOf p)
+IsPlan p x = PlanPage (loaders (textSheet p)) (constraints (textSheet p)) x (linesOf p)
 
 abbrev pub IsFit : TextAnswer Fits → Type 0
-IsFit p = FitsPage (constraints (sheetOf p)) (linesOf p)
+IsFit p = FitsPage (constraints (textSheet p)) (linesOf p)
 
 abbrev pub IsNone : {query : Query} → TextAnswer query → List Boundary → Type 0
-IsNone p ring = NonePage (constraints (sheetOf p)) ring (linesOf p)
+IsNone p ring = NonePage (constraints (textSheet p)) ring (linesOf p)
 
 -- ---- the lines of a plan's page
 

@@ -26,8 +26,8 @@ use Rattle.wave_words.specs.declared.Query.the-variants.{Plan, Fits}
 use Rattle.compare_sheets.specs.Comparing.{Accepted, Relisted, SameLoader, seatsClosing, ClosesAlone, Looser}
 use Rattle.compare_sheets.specs.AlongLaws.{relisted-back}
 use Rattle.compare_sheets.specs.LooserLaws as looser
-use Rattle.compare.specs.Calls.{PlanCall, planOf, DecideCall, TextAnswer, sheetOf, linesOf, IsPlan, IsFit, IsNone, otherLines, SaysBetween}
-use Rattle.compare.specs.CallLaws.{Alike, relisted-alike, units-length, earliest-is, latest-is, none-there, looser-some, plan-known, decide-known}
+use Rattle.compare.specs.Calls.{PlanCall, planOf, DecideCall, TextAnswer, textSheet, linesOf, IsPlan, IsFit, IsNone, otherLines, SaysBetween}
+use Rattle.compare.specs.CallLaws.{Alike, relisted-alike, written-length, earliest-is, latest-is, none-there, looser-some, plan-known, decide-known}
 use Rattle.compare.specs.CallLaws.{known-alike, known-plan, known-none, known-table, known-looser, known-looser-table}
 use Rattle.compare.specs.PageLaws as pages
 use Rattle.compare.specs.PageLaws.{text-accepted, page-of-plan, page-of-fit, page-none-iff}
@@ -99,10 +99,10 @@ module _ (p q : PlanCall) (listed : Relisted (writtenBy (p .lists)) (writtenBy (
     plan′ = plans-plan .0 plan
 
     inside : (i : ℕ) → i < length (writtenBy (p .lists) .units) → i < length (one .units)
-    inside i h = subst (λ k. i < k) (units-length (p .lists) (plan-known p .listed)) h
+    inside i h = subst (λ k. i < k) (written-length (p .lists) (plan-known p .listed)) h
 
     inside′ : (j : ℕ) → j < length (writtenBy (q .lists) .units) → j < length (two .units)
-    inside′ j h = subst (λ k. j < k) (units-length (q .lists) (plan-known q .listed)) h
+    inside′ j h = subst (λ k. j < k) (written-length (q .lists) (plan-known q .listed)) h
 
     front : planOf p ≡ printedPlan one
     front = plans.plan-at (p .lists) (p .before) (p .reply) (p .after) (p .settled) plan
@@ -165,84 +165,84 @@ module _ (p q : DecideCall) (listed : Relisted (writtenBy (p .lists)) (writtenBy
   decisions-ranges = known-table (decide-known p) (decide-known q) listed
 
 -- ---- Two answers to texts, of whichever house, that are not refused and were asked for a plan
-module _ (p q : TextAnswer Plan) (listed : Relisted (sheetOf p) (sheetOf q)) where
-  answers-alike : Alike (constraints (sheetOf p)) (constraints (sheetOf q)) (SameLoader (sheetOf p) (sheetOf q))
-  answers-alike = relisted-alike (sheetOf p) (sheetOf q) listed (text-accepted p) (text-accepted q)
+module _ (p q : TextAnswer Plan) (listed : Relisted (textSheet p) (textSheet q)) where
+  answers-alike : Alike (constraints (textSheet p)) (constraints (textSheet q)) (SameLoader (textSheet p) (textSheet q))
+  answers-alike = relisted-alike (textSheet p) (textSheet q) listed (text-accepted p) (text-accepted q)
 
-  back : Relisted (sheetOf q) (sheetOf p)
-  back = relisted-back (sheetOf p) (sheetOf q) listed
+  back : Relisted (textSheet q) (textSheet p)
+  back = relisted-back (textSheet p) (textSheet q) listed
 
   -- are both the page of a plan or both that of a ring.
   pub answers-plan : ((x : List Slot) × IsPlan p x) ↔ ((x : List Slot) × IsPlan q x)
   answers-plan = (
-    (λ x. (printedPlan (constraints (sheetOf q)), page-of-plan q (answers-alike .some .0 (x .0, x .1 .legal)))),
-    (λ x. (printedPlan (constraints (sheetOf p)), page-of-plan p (answers-alike .some .1 (x .0, x .1 .legal)))),
+    (λ x. (printedPlan (constraints (textSheet q)), page-of-plan q (answers-alike .some .0 (x .0, x .1 .legal)))),
+    (λ x. (printedPlan (constraints (textSheet p)), page-of-plan p (answers-alike .some .1 (x .0, x .1 .legal)))),
   )
 
   pub answers-none : ((ring : List Boundary) × IsNone p ring) ↔ ((ring : List Boundary) × IsNone q ring)
   answers-none = (
-    λ f. page-none-iff q .1 (none-there (constraints (sheetOf p)) (constraints (sheetOf q)) (answers-alike .some .1) (page-none-iff p .0 f)),
-    λ f. page-none-iff p .1 (none-there (constraints (sheetOf q)) (constraints (sheetOf p)) (answers-alike .some .0) (page-none-iff q .0 f)),
+    λ f. page-none-iff q .1 (none-there (constraints (textSheet p)) (constraints (textSheet q)) (answers-alike .some .1) (page-none-iff p .0 f)),
+    λ f. page-none-iff p .1 (none-there (constraints (textSheet q)) (constraints (textSheet p)) (answers-alike .some .0) (page-none-iff q .0 f)),
   )
 
   module _ (x : List Slot) (page : IsPlan p x) where
-    someT : SomeLawful (constraints (sheetOf p))
+    someT : SomeLawful (constraints (textSheet p))
     someT = (x, page .legal)
 
-    here : IsPlan p (printedPlan (constraints (sheetOf p)))
+    here : IsPlan p (printedPlan (constraints (textSheet p)))
     here = page-of-plan p someT
 
-    there : IsPlan q (printedPlan (constraints (sheetOf q)))
+    there : IsPlan q (printedPlan (constraints (textSheet q)))
     there = page-of-plan q (answers-alike .some .0 someT)
 
     -- Pages of plans have the same head and the same slot lines, with their counts and ranges: all lines but the units';
     pub answers-lines : otherLines (linesOf p) ≡ otherLines (linesOf q)
-    answers-lines = pages.others-same (sheetOf p) (sheetOf q) listed answers-alike someT (linesOf p) (linesOf q) here there
+    answers-lines = pages.others-same (textSheet p) (textSheet q) listed answers-alike someT (linesOf p) (linesOf q) here there
 
     -- each loader's line has the same `between`;
     pub answers-between : (loader first last : ℕ) → SaysBetween loader first last (linesOf p) ↔ SaysBetween loader first last (linesOf q)
     answers-between k e f = (
-      pages.between-there (sheetOf p) (sheetOf q) listed answers-alike someT (linesOf p) (linesOf q) here there k e f,
-      pages.between-there (sheetOf q) (sheetOf p) back (relisted-alike (sheetOf q) (sheetOf p) back (text-accepted q) (text-accepted p))
+      pages.between-there (textSheet p) (textSheet q) listed answers-alike someT (linesOf p) (linesOf q) here there k e f,
+      pages.between-there (textSheet q) (textSheet p) back (relisted-alike (textSheet q) (textSheet p) back (text-accepted q) (text-accepted p))
           (answers-alike .some .0 someT) (linesOf q) (linesOf p) there here k e f,
     )
 
     -- the plans of the two pages have the same count in every slot, the carried place included;
     module _ (y : List Slot) (other-page : IsPlan q y) where
-      mine : x ≡ printedPlan (constraints (sheetOf p))
-      mine = pages.plan-is (loaders (sheetOf p)) (constraints (sheetOf p)) x (linesOf p) page (accepted-valid _ (text-accepted p .sheet))
+      mine : x ≡ printedPlan (constraints (textSheet p))
+      mine = pages.plan-is (loaders (textSheet p)) (constraints (textSheet p)) x (linesOf p) page (accepted-valid _ (text-accepted p .sheet))
 
-      yours : y ≡ printedPlan (constraints (sheetOf q))
-      yours = pages.plan-is (loaders (sheetOf q)) (constraints (sheetOf q)) y (linesOf q) other-page (accepted-valid _ (text-accepted q .sheet))
+      yours : y ≡ printedPlan (constraints (textSheet q))
+      yours = pages.plan-is (loaders (textSheet q)) (constraints (textSheet q)) y (linesOf q) other-page (accepted-valid _ (text-accepted q .sheet))
 
-      pub answers-counts : (u : Slot) → 1 ≤ u → u ≤ slotBefore (top (constraints (sheetOf p))) → countIn u u x ≡ countIn u u y
+      pub answers-counts : (u : Slot) → 1 ≤ u → u ≤ slotBefore (top (constraints (textSheet p))) → countIn u u x ≡ countIn u u y
       answers-counts u h hu = ap (countIn u u) mine ∙ answers-alike .counts someT u h hu ∙ sym (ap (countIn u u) yours)
 
       -- of each closing slot as many loaders have each slot in the one as in the other;
-      pub answers-seats : (closing u : Slot) → seatsClosing (constraints (sheetOf p)) x closing u ≡ seatsClosing (constraints (sheetOf q)) y closing u
+      pub answers-seats : (closing u : Slot) → seatsClosing (constraints (textSheet p)) x closing u ≡ seatsClosing (constraints (textSheet q)) y closing u
       answers-seats c u =
-          ap (λ z. seatsClosing (constraints (sheetOf p)) z c u) mine ∙ answers-alike .closing someT c u
-          ∙ sym (ap (λ z. seatsClosing (constraints (sheetOf q)) z c u) yours)
+          ap (λ z. seatsClosing (constraints (textSheet p)) z c u) mine ∙ answers-alike .closing someT c u
+          ∙ sym (ap (λ z. seatsClosing (constraints (textSheet q)) z c u) yours)
 
     -- and the line of a loader whose closing slot is its alone is the same, its seat too. (The unit at place i has the line behind the head and i others.)
-    pub answers-alone : (i j : ℕ) → SameLoader (sheetOf p) (sheetOf q) i j → ClosesAlone (constraints (sheetOf p)) i
+    pub answers-alone : (i j : ℕ) → SameLoader (textSheet p) (textSheet q) i j → ClosesAlone (constraints (textSheet p)) i
         → getD (linesOf p) (suc i) other ≡ getD (linesOf q) (suc j) other
-    answers-alone = pages.line-same (sheetOf p) (sheetOf q) listed answers-alike someT (linesOf p) (linesOf q) here there
+    answers-alone = pages.line-same (textSheet p) (textSheet q) listed answers-alike someT (linesOf p) (linesOf q) here there
 
 -- ---- Two such answers that were asked only whether they fit
-module _ (p q : TextAnswer Fits) (listed : Relisted (sheetOf p) (sheetOf q)) where
-  fits-alike : Alike (constraints (sheetOf p)) (constraints (sheetOf q)) (SameLoader (sheetOf p) (sheetOf q))
-  fits-alike = relisted-alike (sheetOf p) (sheetOf q) listed (text-accepted p) (text-accepted q)
+module _ (p q : TextAnswer Fits) (listed : Relisted (textSheet p) (textSheet q)) where
+  fits-alike : Alike (constraints (textSheet p)) (constraints (textSheet q)) (SameLoader (textSheet p) (textSheet q))
+  fits-alike = relisted-alike (textSheet p) (textSheet q) listed (text-accepted p) (text-accepted q)
 
   -- are the same, line by line, where the one says that it fits,
   pub fits-lines : IsFit p → linesOf p ≡ linesOf q
-  fits-lines f = pages.fits-same (sheetOf p) (sheetOf q) listed fits-alike (linesOf p) (linesOf q) f (page-of-fit q (fits-alike .some .0 (f .some)))
+  fits-lines f = pages.fits-same (textSheet p) (textSheet q) listed fits-alike (linesOf p) (linesOf q) f (page-of-fit q (fits-alike .some .0 (f .some)))
 
   -- and else both the page of a ring.
   pub fits-none : ((ring : List Boundary) × IsNone p ring) ↔ ((ring : List Boundary) × IsNone q ring)
   fits-none = (
-    λ f. page-none-iff q .1 (none-there (constraints (sheetOf p)) (constraints (sheetOf q)) (fits-alike .some .1) (page-none-iff p .0 f)),
-    λ f. page-none-iff p .1 (none-there (constraints (sheetOf q)) (constraints (sheetOf p)) (fits-alike .some .0) (page-none-iff q .0 f)),
+    λ f. page-none-iff q .1 (none-there (constraints (textSheet p)) (constraints (textSheet q)) (fits-alike .some .1) (page-none-iff p .0 f)),
+    λ f. page-none-iff p .1 (none-there (constraints (textSheet q)) (constraints (textSheet p)) (fits-alike .some .0) (page-none-iff q .0 f)),
   )
 
 -- ======== 2. Wider windows and, on the same stretches, looser rules, any number of them, and all else equal
@@ -276,25 +276,25 @@ module _ (p q : DecideCall) (more : Looser (givenBy (p .lists)) (givenBy (q .lis
   looser-decided-table = known-looser-table (decide-known p) (decide-known q) more fits
 
 -- ---- Of two answers to texts: the page of a plan stays one, and no slot line's least rises and no greatest falls
-module _ (p q : TextAnswer Plan) (more : Looser (constraints (sheetOf p)) (constraints (sheetOf q))) (x : List Slot) (page : IsPlan p x) where
-  pub looser-answer : IsPlan q (printedPlan (constraints (sheetOf q)))
-  looser-answer = page-of-plan q (looser-some (constraints (sheetOf p)) (constraints (sheetOf q)) more (x, page .legal))
+module _ (p q : TextAnswer Plan) (more : Looser (constraints (textSheet p)) (constraints (textSheet q))) (x : List Slot) (page : IsPlan p x) where
+  pub looser-answer : IsPlan q (printedPlan (constraints (textSheet q)))
+  looser-answer = page-of-plan q (looser-some (constraints (textSheet p)) (constraints (textSheet q)) more (x, page .legal))
 
   pub looser-lines : (u c l g c′ l′ g′ : ℕ) → In (slot u c l g) (linesOf p) → In (slot u c′ l′ g′) (linesOf q) → (l′ ≤ l) × (g ≤ g′)
   looser-lines u c l g c′ l′ g′ m n =
-      let a = pages.range-is (loaders (sheetOf p)) (constraints (sheetOf p)) x (linesOf p) page u c l g m in
-      let b = pages.range-is (loaders (sheetOf q)) (constraints (sheetOf q)) _ (linesOf q) looser-answer u c′ l′ g′ n in
-      let r = looser-ranges (constraints (sheetOf p)) (constraints (sheetOf q)) more (x, page .legal) u u in
+      let a = pages.range-is (loaders (textSheet p)) (constraints (textSheet p)) x (linesOf p) page u c l g m in
+      let b = pages.range-is (loaders (textSheet q)) (constraints (textSheet q)) _ (linesOf q) looser-answer u c′ l′ g′ n in
+      let r = looser-ranges (constraints (textSheet p)) (constraints (textSheet q)) more (x, page .legal) u u in
       (omega (arith, a .0, b .0, r .0), omega (arith, a .1, b .1, r .1))
 
 -- ---- And where it was asked only whether it fits
-module _ (p q : TextAnswer Fits) (more : Looser (constraints (sheetOf p)) (constraints (sheetOf q))) (page : IsFit p) where
+module _ (p q : TextAnswer Fits) (more : Looser (constraints (textSheet p)) (constraints (textSheet q))) (page : IsFit p) where
   pub looser-fit : IsFit q
-  looser-fit = page-of-fit q (looser-some (constraints (sheetOf p)) (constraints (sheetOf q)) more (page .some))
+  looser-fit = page-of-fit q (looser-some (constraints (textSheet p)) (constraints (textSheet q)) more (page .some))
 
   pub looser-fit-lines : (u l g l′ g′ : ℕ) → In (range u l g) (linesOf p) → In (range u l′ g′) (linesOf q) → (l′ ≤ l) × (g ≤ g′)
   looser-fit-lines u l g l′ g′ m n =
-      let a = pages.fits-range-is (constraints (sheetOf p)) (linesOf p) page u l g m in
-      let b = pages.fits-range-is (constraints (sheetOf q)) (linesOf q) looser-fit u l′ g′ n in
-      let r = looser-ranges (constraints (sheetOf p)) (constraints (sheetOf q)) more (page .some) u u in
+      let a = pages.fits-range-is (constraints (textSheet p)) (linesOf p) page u l g m in
+      let b = pages.fits-range-is (constraints (textSheet q)) (linesOf q) looser-fit u l′ g′ n in
+      let r = looser-ranges (constraints (textSheet p)) (constraints (textSheet q)) more (page .some) u u in
       (omega (arith, a .0, b .0, r .0), omega (arith, a .1, b .1, r .1))

@@ -30,7 +30,7 @@ use Rattle.read_questions.specs.AcceptedLaws.{reading-accepts, reading-loaders}
 use Rattle.wave_words.specs.declared.Query.{Query}
 use Rattle.wave_words.specs.declared.Query.the-variants.{Plan, Fits}
 use Rattle.answer_conditions.specs.AnswerConditions as answers
-use Rattle.compare.specs.Calls.{TextAnswer, sheetOf, IsPlan, IsFit, IsNone, isUnitLine, otherLines, SaysBetween}
+use Rattle.compare.specs.Calls.{TextAnswer, textSheet, IsPlan, IsFit, IsNone, isUnitLine, otherLines, SaysBetween}
 use Rattle.compare.specs.CallLaws.{Alike}
 
 -- the entries that are one number, as the entries from it to it
@@ -75,7 +75,7 @@ module _ (ks : List ℕ) (s : Sheet) (x : List Slot) (ls : List Said) (p : PlanP
   all-slots i zero = refl
   all-slots i (suc k) = ap (λ r. ofSlot i ∷ r) (all-slots (suc i) k)
 
-  pub others-are : otherLines ls ≡ plan n ∷ map ofSlot (fromTo 1 (s .span))
+  others-are : otherLines ls ≡ plan n ∷ map ofSlot (fromTo 1 (s .span))
   others-are =
       ap otherLines (p .lines)
       ∙ ap (λ r. plan n ∷ r) (keep-append (λ l. not (isUnitLine l)) (map ofUnit (run 0 n)) (map ofSlot (fromTo 1 (s .span)))
@@ -113,7 +113,7 @@ module _ (ks : List ℕ) (s : Sheet) (x : List Slot) (ls : List Said) (p : PlanP
       (List·Memᴰ·tail (Memᴰ·append-left (map ofSlot (fromTo 1 (s .span))) (map-in ofUnit j (run 0 n) (run-in j 0 n (omega arith) (omega arith)))))
 
   -- which has its narrowed window
-  pub between-of : (j : ℕ) → j < n → SaysBetween (getD ks j 0) (earliest s j) (latest s j) ls
+  between-of : (j : ℕ) → j < n → SaysBetween (getD ks j 0) (earliest s j) (latest s j) ls
   between-of j h = go (leb (getD x j 0) (s .span)) (unit-in j h)
     where
       go : (b : Bool) → In (lineBy b j) ls → SaysBetween (getD ks j 0) (earliest s j) (latest s j) ls
@@ -121,14 +121,14 @@ module _ (ks : List ℕ) (s : Sheet) (x : List Slot) (ls : List Said) (p : PlanP
       go false m = inr m
 
   -- and a line that has one is a unit's
-  pub record Narrowed (k e f : ℕ) : Type 0 where
+  record Narrowed (k e f : ℕ) : Type 0 where
     pub place : ℕ
     pub inside : place < n
     pub number : getD ks place 0 ≡ k
     pub first : e ≡ earliest s place
     pub last : f ≡ latest s place
 
-  pub between-is : (k e f : ℕ) → SaysBetween k e f ls → Narrowed k e f
+  between-is : (k e f : ℕ) → SaysBetween k e f ls → Narrowed k e f
   between-is k e f =
       ⊎-elim
       (λ m. let u = p .units k (m .0) e f (m .1) .0 in
@@ -235,19 +235,19 @@ fits-same w v listed A ls ms P Q =
     ∙ sym (Q .lines)
 
 -- ---- what is known of an answer by itself
-pub text-accepted : {query : Query} (p : TextAnswer query) → Accepted (sheetOf p)
+pub text-accepted : {query : Query} (p : TextAnswer query) → Accepted (textSheet p)
 text-accepted p = record {
   sheet = reading-accepts (p .house) (p .input) roomsForAll (p .asked);
   loaders = reading-loaders (p .house) (p .input) roomsForAll (p .asked);
 }
 
-pub page-of-plan : (p : TextAnswer Plan) → SomeLawful (constraints (sheetOf p)) → IsPlan p (printedPlan (constraints (sheetOf p)))
+pub page-of-plan : (p : TextAnswer Plan) → SomeLawful (constraints (textSheet p)) → IsPlan p (printedPlan (constraints (textSheet p)))
 page-of-plan p x = answers.page-if-lawful (p .house) Plan (p .input) (p .page) (p .left) (p .next) (p .answered) (p .size) (p .asked) (x .0) (x .1)
 
-pub page-of-fit : (p : TextAnswer Fits) → SomeLawful (constraints (sheetOf p)) → IsFit p
+pub page-of-fit : (p : TextAnswer Fits) → SomeLawful (constraints (textSheet p)) → IsFit p
 page-of-fit p x = answers.page-if-lawful (p .house) Fits (p .input) (p .page) (p .left) (p .next) (p .answered) (p .size) (p .asked) (x .0) (x .1)
 
-pub page-none-iff : {query : Query} (p : TextAnswer query) → ((ring : List Boundary) × IsNone p ring) ↔ NoneLawful (constraints (sheetOf p))
+pub page-none-iff : {query : Query} (p : TextAnswer query) → ((ring : List Boundary) × IsNone p ring) ↔ NoneLawful (constraints (textSheet p))
 page-none-iff {query} p = (
   λ r. r .1 .unlawful,
   λ none. answers.ring-otherwise (p .house) query (p .input) (p .page) (p .left) (p .next) (p .answered) (p .size) (p .asked) none,

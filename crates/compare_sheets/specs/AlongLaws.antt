@@ -79,7 +79,7 @@ sit-windows (u ∷ us) (x ∷ xs) e h =
 
 -- ---- the plan goes along
 
-pub record Moved (us vs : List SheetUnit) (x : List Slot) : Type 0 where
+record Moved (us vs : List SheetUnit) (x : List Slot) : Type 0 where
   pub plan : List Slot
   pub size : length plan ≡ length vs
   pub same : List·Permᴰ (seats us x) (seats vs plan)

@@ -177,10 +177,10 @@ placed-says span k x e l = go (leb x span)
 
 -- the unit lines with a slot are as many as the units that have it
 module _ (span : ℕ) (loaders slots first last count low high : ℕ → ℕ) where
-  abbrev unitOf : ℕ → Said
-  unitOf = unitSaid span loaders slots first last
+  abbrev saidOf : ℕ → Said
+  saidOf = unitSaid span loaders slots first last
 
-  unit-counted : (t j : ℕ) → t ≤ span → isUnitWith t (unitOf j) ≡ eqb t (slots j)
+  unit-counted : (t j : ℕ) → t ≤ span → isUnitWith t (saidOf j) ≡ eqb t (slots j)
   unit-counted t j h = go (leb (slots j) span) refl
     where
       go : (b : Bool) → leb (slots j) span ≡ b
@@ -188,7 +188,7 @@ module _ (span : ℕ) (loaders slots first last count low high : ℕ → ℕ) wh
       go true e = refl
       go false e = sym (ne-eqb t (slots j) (λ z. omega (arith, leb-false (slots j) span e)))
 
-  units-counted : (t i k : ℕ) → t ≤ span → howMany (isUnitWith t) (map unitOf (run i k)) ≡ howMany (eqb t) (map slots (run i k))
+  units-counted : (t i k : ℕ) → t ≤ span → howMany (isUnitWith t) (map saidOf (run i k)) ≡ howMany (eqb t) (map slots (run i k))
   units-counted t i zero h = refl
   units-counted t i (suc k) h = ap₂ (λ b n. oneIf b + n) (unit-counted t i h) (units-counted t (suc i) k h)
 
@@ -197,11 +197,11 @@ module _ (span : ℕ) (loaders slots first last count low high : ℕ → ℕ) wh
   no-units t i (suc k) = omega (arith, no-units t (suc i) k)
 
   pub lines-counted : (t m n i k : ℕ) → t ≤ span
-      → unitLinesWith t (plan m ∷ (map unitOf (run 0 n) ++ map (slotSaid count low high) (run i k))) ≡ howMany (eqb t) (map slots (run 0 n))
+      → unitLinesWith t (plan m ∷ (map saidOf (run 0 n) ++ map (slotSaid count low high) (run i k))) ≡ howMany (eqb t) (map slots (run 0 n))
   lines-counted t m n i k h =
       omega (
         arith,
-        howMany-append (isUnitWith t) (map unitOf (run 0 n)) (map (slotSaid count low high) (run i k)),
+        howMany-append (isUnitWith t) (map saidOf (run 0 n)) (map (slotSaid count low high) (run i k)),
         units-counted t 0 n h,
         no-units t i k,
       )

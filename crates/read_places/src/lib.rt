@@ -1,5 +1,5 @@
-// Where in a text of our own format the lines of a kind stand: a scan of its own, so that reading keeps no places. It reads no number, and shares with
-// reading the tables, where a line ends and the step over one byte, so that the compiler still puts the line reader into reading's pass.
+// Where in a text of our own format the lines of a kind stand: a scan of its own, so that reading keeps no places. It reads no number, and has of
+// reading the tables, the end of the last line and the step over one byte, but not the line reader, which the compiler so still puts into reading's pass.
 ghost use mathlib.Core.Path.{_≡_};
 ghost use Prim.Native.Nat.{_<_};
 ghost use lib.ListN.{getD};
