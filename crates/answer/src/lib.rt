@@ -1,3 +1,5 @@
+#![tactic(auto)]
+
 ghost use Rattle.sheet.specs.Questions.{sheet_of};
 ghost use Rattle.sheet.specs.Lists.{written_lists, given_by};
 ghost use Rattle.plan_ask.specs.Asking.{Listed};

@@ -1,3 +1,5 @@
+#![tactic(auto)]
+
 ghost use Rattle.std.specs.Prelude.{true, List, ℕ, T, length};
 ghost use Rattle.sheet.specs.Sheet.{is_ring};
 ghost use Rattle.sheet.specs.Questions.{sheet_of};

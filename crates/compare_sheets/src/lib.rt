@@ -1,1 +1,2 @@
 // Sheets that customers compare: definitions and laws only.
+#![tactic(auto)]

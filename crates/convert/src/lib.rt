@@ -1,3 +1,5 @@
+#![tactic(auto)]
+
 ghost use Rattle.std.specs.Prelude.{◌≡◌};
 ghost use Rattle.print_bytes.specs.Writing.{with_bytes};
 ghost use Rattle.convert_lists.specs.Converting.{converted, converting};

@@ -1,3 +1,5 @@
+#![tactic(auto)]
+
 ghost use Rattle.std.specs.Prelude.{◌≡◌, ◌≤◌, ◌<◌, length};
 ghost use Rattle.questions.specs.Questions.{first_no};
 ghost use Rattle.sheet.specs.Sizes.{max_bytes};
@@ -16,7 +18,7 @@ use sheet::Sheet;
 use write_lines::MAX_TEXT;
 
 // What was written on the page, by the place just past it: the sheet as a text of the other house, or the line of a refusal.
-#[derive(Drop)]
+#[derive(Clone, Copy)]
 pub enum Converted {
     Sheet(usize),
     Refused(Refusal, usize),

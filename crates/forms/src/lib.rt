@@ -1,7 +1,8 @@
 // The grammar of sheets and answers: definitions and laws, and whose sheets there are.
+#![tactic(auto)]
 
 // Whose format a sheet is written in: our own, or that of the partner house, which sends starts and lengths and knows only ceilings.
-#[derive(Drop)]
+#[derive(Clone, Copy)]
 pub enum House {
     Ours,
     Partner,

@@ -1,4 +1,6 @@
 // The form reader's table for the lines of a sheet of our own.
+#![tactic(auto)]
+
 ghost use Rattle.std.specs.Prelude.{◌≡◌};
 ghost use Rattle.forms.specs.declared.House.TheVariants.{Ours};
 ghost use Rattle.read_form.specs.Grid.{grid};

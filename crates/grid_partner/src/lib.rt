@@ -1,4 +1,6 @@
 // The form reader's table for the lines of a sheet of the partner house.
+#![tactic(auto)]
+
 ghost use Rattle.std.specs.Prelude.{◌≡◌};
 ghost use Rattle.forms.specs.declared.House.TheVariants.{Partner};
 ghost use Rattle.read_form.specs.Grid.{grid};

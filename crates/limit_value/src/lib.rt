@@ -1,9 +1,11 @@
+#![tactic(auto)]
+
 ghost use Rattle.std.specs.Prelude.{◌≡◌, ◌≤◌, pos, neg_ℤ};
 ghost use Rattle.sheet.specs.Sizes.{max_count};
 ghost use Rattle.limit_value.specs.Tightened.{with_bound, with_high, with_low};
 
 // The limit of a step.
-#[derive(Drop)]
+#[derive(Clone, Copy)]
 pub struct Limit {
     pub value: i16,
 }

@@ -1,4 +1,6 @@
 // What the other crates count, keep and compare lists with is definitions and laws; the code is one function.
+#![tactic(auto)]
+
 ghost use Rattle.std.specs.Prelude.{◌≡◌, ◌++◌, ◌≤◌, length, drop};
 
 // The list, at the front of out.

@@ -1,3 +1,5 @@
+#![tactic(auto)]
+
 ghost use Rattle.std.specs.Prelude.{◌≡◌, ◌+◌, ◌%◌, ◌≤◌, ◌<◌, length, get_or, set, take};
 ghost use Rattle.lists.specs.Lists.{member};
 ghost use Rattle.sheet.specs.Sizes.{max_units};

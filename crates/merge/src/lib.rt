@@ -1,3 +1,5 @@
+#![tactic(auto)]
+
 ghost use Rattle.std.specs.Prelude.{◌≡◌};
 ghost use Rattle.read_questions.specs.Reading.{reply_of, rooms};
 ghost use Rattle.read_rooms.specs.Rooms.{sizes_of, leaves};

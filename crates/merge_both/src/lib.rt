@@ -1,4 +1,6 @@
 // The questions of two sheets that were read, one behind the other.
+#![tactic(auto)]
+
 ghost use Rattle.std.specs.Prelude.{◌≡◌, ◌&&◌, cond, eqb};
 ghost use Rattle.sheet.specs.Sheet.{WrittenSheet};
 ghost use Rattle.merge_rules.specs.Columns.{columns};

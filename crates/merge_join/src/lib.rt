@@ -1,4 +1,6 @@
 // Two texts read one behind the other, and the questions of both.
+#![tactic(auto)]
+
 ghost use Rattle.std.specs.Prelude.{◌≡◌, ◌+◌};
 ghost use Rattle.sheet.specs.Sizes.{max_units, max_rules};
 ghost use Rattle.read_questions.specs.Reading.{rooms};

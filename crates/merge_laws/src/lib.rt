@@ -1,1 +1,2 @@
 // What is promised of merging two texts: theorems only.
+#![tactic(auto)]

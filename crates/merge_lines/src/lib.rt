@@ -1,4 +1,6 @@
 // The line of a unit of two sheets, where it stands.
+#![tactic(auto)]
+
 ghost use Rattle.std.specs.Prelude.{◌≡◌};
 ghost use Rattle.merge_lines.specs.Lines.{loader_place, located_at, found_line, PartAsked};
 
@@ -10,7 +12,7 @@ use read_places::Sought;
 
 // The first no, with which of the two sheets it is of, 0 where it is of neither; or where the line starts and ends, less the line feed, in the first text or
 // in the second.
-#[derive(Drop)]
+#[derive(Clone, Copy)]
 pub enum LineFound {
     Refused(Refusal, usize),
     First(usize, usize),

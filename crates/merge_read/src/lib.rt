@@ -1,3 +1,5 @@
+#![tactic(auto)]
+
 ghost use Rattle.std.specs.Prelude.{◌≡◌, ◌+◌};
 ghost use Rattle.sheet.specs.Sizes.{max_units, max_rules};
 ghost use Rattle.forms.specs.declared.House.TheVariants.{Ours};

@@ -1,3 +1,5 @@
+#![tactic(auto)]
+
 ghost use Rattle.std.specs.Prelude.{◌≡◌, List, map, ◌≤◌, ◌<◌, suc, max, min, ltb, length, get_or, take};
 ghost use Rattle.lists.specs.Lists.{on_front};
 ghost use Rattle.lists.specs.First.{first_place};
@@ -68,7 +70,7 @@ fn add_rule(
 }
 
 // How many stretches there are, and the place of the rule that makes one more than a sheet may have; the number of rules where none does.
-#[derive(Drop)]
+#[derive(Clone, Copy)]
 pub struct Combined {
     pub count: usize,
     pub past: usize,

@@ -1,1 +1,2 @@
 // Two sheets made one: definitions and laws only.
+#![tactic(auto)]

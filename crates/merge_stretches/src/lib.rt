@@ -1,4 +1,6 @@
 // Questions 21 and 10 of two sheets that are to be one, and the combined rules.
+#![tactic(auto)]
+
 ghost use Rattle.std.specs.Prelude.{◌≡◌, map, ◌≤◌, length, take, drop};
 ghost use Rattle.lists.specs.Lists.{on_front};
 ghost use Rattle.questions.specs.Questions.{verdict_of, first_no};
@@ -13,7 +15,7 @@ use read_form::Kind;
 use sheet::Sheet;
 
 // The first no, or how many combined rules there are.
-#[derive(Drop)]
+#[derive(Clone, Copy)]
 pub enum Stretches {
     No(Refusal),
     Count(usize),

@@ -1,3 +1,5 @@
+#![tactic(auto)]
+
 ghost use Rattle.std.specs.Prelude.{◌≡◌};
 ghost use Rattle.print_bytes.specs.Writing.{with_bytes};
 ghost use Rattle.merge_questions.specs.Merging.{blamed_sheet};
@@ -11,7 +13,7 @@ use questions::Refusal;
 use write_lines::MAX_TEXT;
 
 // What was written on the page, by the place just past it: the merged sheet as a text of our own format, or the line of a refusal, with which sheet it is of.
-#[derive(Drop)]
+#[derive(Clone, Copy)]
 pub enum Merged {
     Sheet(usize),
     Refused(Refusal, usize, usize),

@@ -1,4 +1,6 @@
 // Questions 19, 20 and 9 of two sheets that are to be one.
+#![tactic(auto)]
+
 ghost use Rattle.std.specs.Prelude.{◌≡◌, ◌≤◌, length, replicate};
 ghost use Rattle.lists.specs.First.{first_place};
 ghost use Rattle.sheet.specs.Sizes.{max_units};

@@ -1,3 +1,5 @@
+#![tactic(auto)]
+
 ghost use Rattle.std.specs.Prelude.{◌≡◌, ◌++◌, ◌+◌, ◌*◌, ◌≤◌, ◌<◌, min, length, take, drop};
 ghost use Rattle.network.specs.Table.{max_boundaries, entry, cleared};
 ghost use Rattle.network.specs.RowStep.{stretch, relaxed, falls_in, SumsFit};

@@ -1,3 +1,5 @@
+#![tactic(auto)]
+
 ghost use Rattle.std.specs.Prelude.{◌+◌, ◌<◌, ◌≤◌, length};
 ghost use Rattle.slots.specs.Slots.{slot_end};
 ghost use Rattle.network_cuts.specs.Decider.{Modest, LeastSum, CutNetwork, Cuts, Sinking, AdmitsAt, Settling, Decides, Barred, LeastCutAt};
@@ -6,7 +8,7 @@ use integers::{less, lesser};
 use slots::{Boundary, Slot};
 
 // What lowering a potential to the arcs of a cut comes to: it keeps them, it fell, or no potential keeps them.
-#[derive(Drop)]
+#[derive(Clone, Copy)]
 enum Settled {
     Still,
     Lower,

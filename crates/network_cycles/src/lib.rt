@@ -1,3 +1,5 @@
+#![tactic(auto)]
+
 ghost use Rattle.std.specs.Prelude.{◌≡◌, ◌++◌, ◌+◌, ◌-◌, ◌*◌, ◌≤◌, ◌<◌, eqb, length, get_or, take, drop, pos, ◌+ℤ◌};
 ghost use Rattle.std.specs.Int.Signed.{lt_z};
 ghost use Rattle.lists.specs.First.{first_place, first_from};
@@ -12,7 +14,7 @@ const LEVEL_CELLS: usize = (network::MAX_BOUNDARIES + 1) * network::MAX_BOUNDARI
 const WALK: usize = network::MAX_BOUNDARIES + 1;
 
 // A stretch of a walk: from its first place to behind its last one.
-#[derive(Drop)]
+#[derive(Clone, Copy)]
 struct Stretch(usize, usize);
 
 // The first place where low is below high, or the length.

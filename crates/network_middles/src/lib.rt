@@ -1,3 +1,5 @@
+#![tactic(auto)]
+
 ghost use Rattle.std.specs.Prelude.{◌≡◌, ◌-◌, ◌*◌, ◌≤◌, ◌<◌, length};
 ghost use Rattle.network.specs.Table.{max_boundaries};
 ghost use Rattle.network_pass.specs.Pass.{pass_from, Ran, After};

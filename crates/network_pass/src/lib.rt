@@ -1,5 +1,7 @@
 // How a pass over the middle boundaries ends.
-#[derive(Drop)]
+#![tactic(auto)]
+
+#[derive(Clone, Copy)]
 pub enum Outcome {
     Finished,
     Stopped,

@@ -1,1 +1,2 @@
 // The answer pages: definitions and laws only.
+#![tactic(auto)]

@@ -1,3 +1,5 @@
+#![tactic(auto)]
+
 ghost use Rattle.std.specs.Prelude.{◌≡◌};
 ghost use Rattle.sheet.specs.Lists.{written_lists, given_by};
 ghost use Rattle.plan_rooms.specs.Rooms.{lent, decide_rooms, seat_rooms, decide_lent, seat_lent};

@@ -1,7 +1,9 @@
+#![tactic(auto)]
+
 use questions::Refusal;
 
 // What planning answers: a refusal, a plan in the rooms, or none with the length of the ring.
-#[derive(Drop)]
+#[derive(Clone, Copy)]
 pub enum Answer {
     Refused(Refusal),
     Plan,
@@ -9,7 +11,7 @@ pub enum Answer {
 }
 
 // What deciding answers: a refusal, that the sheet fits, or none with the length of the ring.
-#[derive(Drop)]
+#[derive(Clone, Copy)]
 pub enum Decision {
     Refused(Refusal),
     Fits,
@@ -17,7 +19,7 @@ pub enum Decision {
 }
 
 // What seating answers: a refusal, a plan in the rooms with how many units it looked at, or none.
-#[derive(Drop)]
+#[derive(Clone, Copy)]
 pub enum SeatAnswer {
     Refused(Refusal),
     Plan(usize),
@@ -25,14 +27,14 @@ pub enum SeatAnswer {
 }
 
 // What solving a sheet of which every question is answered yes gives: it cannot refuse.
-#[derive(Drop)]
+#[derive(Clone, Copy)]
 pub enum Fit {
     Fits,
     None(usize),
 }
 
 // What seating such a sheet gives: a plan with how many units were looked at, or none.
-#[derive(Drop)]
+#[derive(Clone, Copy)]
 pub enum SeatOutcome {
     Plan(usize),
     None,

@@ -1,3 +1,5 @@
+#![tactic(auto)]
+
 ghost use Rattle.std.specs.Prelude.{◌≡◌};
 ghost use Rattle.questions.specs.Questions.{first_no, verdict_of};
 ghost use Rattle.sheet.specs.Lists.{written_lists, given_by};

@@ -1,3 +1,5 @@
+#![tactic(auto)]
+
 ghost use Rattle.std.specs.Prelude.{◌≡◌, ◌*◌, ◌<◌, ◌≤◌, max, min, length};
 ghost use Rattle.slots.specs.Slots.{slot_end};
 ghost use Rattle.network_cuts.specs.Decider.{CutNetwork};

@@ -1,3 +1,5 @@
+#![tactic(auto)]
+
 ghost use Rattle.std.specs.Prelude.{◌≡◌, length};
 ghost use Rattle.sheet.specs.Questions.{lists_agree};
 ghost use Rattle.sheet.specs.Lists.{written_lists, all_agree};

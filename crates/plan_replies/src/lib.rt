@@ -1,3 +1,5 @@
+#![tactic(auto)]
+
 ghost use Rattle.std.specs.Prelude.{◌≡◌};
 ghost use Rattle.plan_answers.specs.Reply.{reply_of, decision_reply, seat_reply, looks_told, fit_reply, seated_reply, seated_looks};
 

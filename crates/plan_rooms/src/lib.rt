@@ -1,9 +1,11 @@
+#![tactic(auto)]
+
 ghost use Rattle.std.specs.Prelude.{◌≡◌, ◌≤◌, ◌*◌, leb};
 ghost use Rattle.network.specs.Table.{max_boundaries};
 ghost use Rattle.plan_rooms.specs.Rooms.{lent, decide_rooms, seat_rooms, seat_lengths, plan_lent, decide_lent, seat_lent, seats_fit, lengths_fit};
 
 // The lengths of the rooms for seats and narrowed windows.
-#[derive(Drop)]
+#[derive(Clone, Copy)]
 pub struct Seats {
     pub plan: usize,
     pub earliest: usize,
@@ -11,7 +13,7 @@ pub struct Seats {
 }
 
 // The lengths of the rooms that a call lends: the table's, those for seats, the ring's.
-#[derive(Drop)]
+#[derive(Clone, Copy)]
 pub enum Lengths {
     ForPlan(usize, Seats, usize),
     ForDecision(usize, usize),

@@ -1,3 +1,5 @@
+#![tactic(auto)]
+
 ghost use Rattle.std.specs.Prelude.{◌≡◌};
 ghost use Rattle.sheet.specs.Questions.{sheet_of};
 ghost use Rattle.sheet.specs.Lists.{listed, given};

@@ -1,3 +1,5 @@
+#![tactic(auto)]
+
 ghost use Rattle.std.specs.Prelude.{◌≡◌, ◌++◌, ◌≤◌, length, drop};
 ghost use Rattle.network_pass.specs.Pass.{stopped};
 ghost use Rattle.sheet.specs.Sheet.{Sheet, printed_plan, looked, boundaries};

@@ -1,3 +1,5 @@
+#![tactic(auto)]
+
 ghost use Rattle.std.specs.Prelude.{◌≡◌, ◌≤◌, true, false, length};
 ghost use Rattle.sheet.specs.Sheet.{Sheet};
 ghost use Rattle.network_cuts.specs.Decider.{CutNetwork};

@@ -1,1 +1,2 @@
 // Plans of a sheet: definitions and laws only.
+#![tactic(auto)]

@@ -1,3 +1,5 @@
+#![tactic(auto)]
+
 ghost use Rattle.sheet.specs.Lists.{written_lists};
 ghost use Rattle.plan_rooms.specs.Rooms.{lent};
 ghost use Rattle.print_answer.specs.Printing.{Printing};

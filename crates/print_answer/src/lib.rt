@@ -1,3 +1,5 @@
+#![tactic(auto)]
+
 ghost use Rattle.std.specs.Prelude.{[], ◌*◌, ◌≤◌, length};
 ghost use Rattle.lists.specs.Lists.{on_front};
 ghost use Rattle.network.specs.Table.{entry, cleared};
@@ -10,7 +12,7 @@ use print_none::MAX_RING_PAGE;
 use questions::Refusal;
 
 // What a call answers: a refusal; a plan; or none, with the length of the ring. An answer has the place just past it.
-#[derive(Drop)]
+#[derive(Clone, Copy)]
 pub enum Printed {
     Refused(Refusal),
     Plan(usize),

@@ -1,3 +1,5 @@
+#![tactic(auto)]
+
 ghost use Rattle.std.specs.Prelude.{◌++◌, ◌∷◌, [], ◌<◌, ◌≤◌};
 ghost use Rattle.forms.specs.Decimal.{digits, form_line};
 ghost use Rattle.print_bytes.specs.Writing.{Room, Written, no_number, one_number, two_numbers, three_numbers, four_numbers};

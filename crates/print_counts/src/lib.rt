@@ -1,3 +1,5 @@
+#![tactic(auto)]
+
 ghost use Rattle.std.specs.Prelude.{◌≡◌, ◌*◌, ◌≤◌, length, replicate};
 ghost use Rattle.integers.specs.Parts.{up, dn};
 ghost use Rattle.network.specs.Table.{max_boundaries};

@@ -1,3 +1,5 @@
+#![tactic(auto)]
+
 ghost use Rattle.print_bytes.specs.Writing.{Room, Written, unit_line, carried_line, slot_line, range_line, refused_line};
 
 use print_bytes::{put_no_number, put_number, put_three_numbers, put_two_numbers, put_word};

@@ -1,3 +1,5 @@
+#![tactic(auto)]
+
 ghost use Rattle.std.specs.Prelude.{◌*◌, ◌≤◌, length};
 ghost use Rattle.sheet.specs.Sizes.{max_slots, max_units, boundaries_of};
 ghost use Rattle.print_bytes.specs.Writing.{Room, Written};

@@ -1,3 +1,5 @@
+#![tactic(auto)]
+
 ghost use Rattle.std.specs.Prelude.{◌≡◌, [], ◌++◌, ◌≤◌, T, length, drop};
 ghost use Rattle.sheet.specs.Questions.{sheet_of, loaders_fit};
 ghost use Rattle.sheet.specs.Lists.{listed, given};

@@ -1,3 +1,5 @@
+#![tactic(auto)]
+
 ghost use Rattle.std.specs.Prelude.{◌≡◌, ◌+◌, leb};
 ghost use Rattle.print_bytes.specs.Writing.{Room, Written};
 ghost use Rattle.print_writer.specs.Advanced.{advanced};

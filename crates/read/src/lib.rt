@@ -1,3 +1,5 @@
+#![tactic(auto)]
+
 ghost use Rattle.std.specs.Prelude.{◌≡◌};
 ghost use Rattle.read_questions.specs.Reading.{reply_of, reading, rooms};
 ghost use Rattle.read_rooms.specs.Rooms.{sizes_of, rooms_after};

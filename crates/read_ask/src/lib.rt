@@ -1,3 +1,5 @@
+#![tactic(auto)]
+
 ghost use Rattle.std.specs.Prelude.{◌≡◌, take};
 ghost use Rattle.sheet.specs.Sizes.{max_units, max_rules};
 ghost use Rattle.read_form.specs.Grid.{Tables};

@@ -1,4 +1,6 @@
 // The form reader: over which states a line is read byte by byte, and what it then is. The tables of the states are in grid_ours and grid_partner.
+#![tactic(auto)]
+
 ghost use Rattle.std.specs.Prelude.{◌≡◌, ◌<◌};
 ghost use Rattle.read_form.specs.Grid.{classes, class_count, class_of, entry_of, kind_of_code, state_count, Tables};
 ghost use Rattle.forms.specs.declared.House.{House};
@@ -22,7 +24,7 @@ pub const STOPS: usize = 14;
 pub type Grid = [[u8; CLASSES]; STATES];
 
 // What a line is, as far as its bytes alone tell.
-#[derive(Drop)]
+#[derive(Clone, Copy)]
 pub enum Kind {
     Unprintable,
     Note,

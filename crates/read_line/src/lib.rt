@@ -1,3 +1,5 @@
+#![tactic(auto)]
+
 ghost use Rattle.std.specs.Prelude.{◌≡◌, true, false, cond, ◌+◌, ◌≤◌, ◌<◌, length, drop};
 ghost use Rattle.forms.specs.Lines.{whole_lines};
 ghost use Rattle.forms.specs.LinesLaws.{line_end};
@@ -15,7 +17,7 @@ use read_notes::End;
 use read_scan::{NUMBERS, run, scan};
 
 // What one line says, or the question it fails. A unit has its loader number and the first and last slot of its window.
-#[derive(Drop)]
+#[derive(Clone, Copy)]
 pub enum Line {
     Refused(usize),
     Note,
@@ -25,7 +27,7 @@ pub enum Line {
 }
 
 // A line, and the place where the next one starts.
-#[derive(Drop)]
+#[derive(Clone, Copy)]
 pub struct Found {
     pub line: Line,
     pub next: usize,

@@ -1,3 +1,5 @@
+#![tactic(auto)]
+
 ghost use Rattle.std.specs.Prelude.{◌≡◌, ◌<◌, length, drop};
 ghost use Rattle.read_notes.specs.Readers.{after_list, after_item, end_of};
 
@@ -5,7 +7,7 @@ ghost use Rattle.read_notes.specs.Readers.{after_list, after_item, end_of};
 const MAX_DEPTH: usize = 16;
 
 // The place past what was read, or that its brackets do not match.
-#[derive(Drop)]
+#[derive(Clone, Copy)]
 pub enum End {
     At(usize),
     Unmatched,

@@ -1,3 +1,5 @@
+#![tactic(auto)]
+
 ghost use Rattle.std.specs.Prelude.{◌≡◌, true, false, ◌+◌, ◌-◌, ◌≤◌, length, drop, get_or};
 ghost use Rattle.forms.specs.Form.{is_digit, leading};
 ghost use Rattle.forms.specs.Lines.{has_feed};
@@ -5,7 +7,7 @@ ghost use Rattle.read_number.specs.Number.{max_number, number_with, number_read}
 
 // A number's value, whether it has at most four digits and no needless zero (question 4), and the place past its digits. One that has more has the
 // value 0.
-#[derive(Drop)]
+#[derive(Clone, Copy)]
 pub struct Number {
     pub value: u16,
     pub plain: bool,

@@ -1,5 +1,7 @@
 // Where in a text of our own format the lines of a kind stand: a scan of its own, so that reading keeps no places. It reads no number, and has of
 // reading the tables, the end of the last line and the step over one byte, but not the line reader, which the compiler so still puts into reading's pass.
+#![tactic(auto)]
+
 ghost use Rattle.std.specs.Prelude.{◌≡◌, ◌<◌, get_or};
 ghost use Rattle.forms.specs.Lines.{whole_lines};
 ghost use Rattle.forms.specs.LinesLaws.{line_end};
@@ -12,7 +14,7 @@ ghost use Rattle.read_places.specs.Places.{spots, no_spot, sought};
 use read_form::{ENDS, Grid, Kind, START};
 
 // Where a line of a text stands: its number, from 1, its first byte and the byte past its last, less the line feed.
-#[derive(Drop)]
+#[derive(Clone, Copy)]
 pub struct Spot {
     pub number: usize,
     pub start: usize,
@@ -20,14 +22,14 @@ pub struct Spot {
 }
 
 // Where the line that is looked for stands; or, past the last line of its kind, by how many.
-#[derive(Drop)]
+#[derive(Clone, Copy)]
 pub enum Sought {
     At(Spot),
     Past(usize),
 }
 
 // The place of a line's feed, and the state past it, which is the code of the line's kind.
-#[derive(Drop)]
+#[derive(Clone, Copy)]
 struct Ended {
     place: usize,
     state: usize,

@@ -1,3 +1,5 @@
+#![tactic(auto)]
+
 ghost use Rattle.std.specs.Prelude.{◌≡◌, ◌&&◌, ◌≤◌, leb, length, take};
 ghost use Rattle.lists.specs.Lists.{on_front};
 ghost use Rattle.read_questions.specs.Reading.{rooms, lists_fit};

@@ -1,3 +1,5 @@
+#![tactic(auto)]
+
 ghost use Rattle.std.specs.Prelude.{◌≡◌, true, ◌≤◌, ◌<◌, length, drop};
 ghost use Rattle.forms.specs.Lines.{has_feed};
 ghost use Rattle.forms.specs.declared.House.{House};
@@ -7,14 +9,14 @@ ghost use Rattle.read_scan.specs.Scan.{Resumes, StopsAt, ScannedAs, Small};
 use read_form::{ENDS, Grid, Kind, START, STOPS};
 
 // Where reading a line stops: the place of its line feed or of a number's first digit, and the state past that byte.
-#[derive(Drop)]
+#[derive(Clone, Copy)]
 struct Stop {
     place: usize,
     state: usize,
 }
 
 // Where a line ends, what its bytes are, and whether its numbers pass question 4.
-#[derive(Drop)]
+#[derive(Clone, Copy)]
 pub struct Scanned {
     pub end: usize,
     pub kind: Kind,

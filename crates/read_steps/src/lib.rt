@@ -1,3 +1,5 @@
+#![tactic(auto)]
+
 ghost use Rattle.std.specs.Prelude.{◌≡◌, ◌≤◌, length};
 ghost use Rattle.sheet.specs.Sizes.{max_slots, max_rules};
 ghost use Rattle.sheet.specs.Questions.{is_stretch, rising, is_count};
@@ -7,7 +9,7 @@ use forms::House;
 use sheet::Sheet;
 
 // The question that a line fails, or the sheet with that line.
-#[derive(Drop)]
+#[derive(Clone, Copy)]
 pub enum Step {
     No(usize),
     On(Sheet),

@@ -1,3 +1,5 @@
+#![tactic(auto)]
+
 ghost use Rattle.std.specs.Prelude.{◌≡◌, cond, ◌≤◌, eqb, length, take};
 ghost use Rattle.sheet.specs.Sizes.{max_units};
 ghost use Rattle.read_steps.specs.Steps.{put_by};

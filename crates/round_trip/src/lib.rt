@@ -1,1 +1,2 @@
 // What goes out to a house comes back: theorems only.
+#![tactic(auto)]

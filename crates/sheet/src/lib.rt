@@ -1,3 +1,5 @@
+#![tactic(auto)]
+
 ghost use Rattle.std.specs.Prelude.{◌≡◌, ◌≤◌};
 ghost use Rattle.sheet.specs.Sizes.{max_slots, carried_place, boundaries_of};
 ghost use Rattle.sheet.specs.Questions.{is_span, rising};
@@ -50,7 +52,7 @@ pub fn rises(least: usize, start: usize, most: usize, first: usize, last: usize)
 }
 
 // A sheet's span and its numbers of units and rules; the lists themselves are lent.
-#[derive(Drop)]
+#[derive(Clone, Copy)]
 pub struct Sheet {
     pub span: usize,
     pub units: usize,

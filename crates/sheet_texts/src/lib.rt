@@ -1,1 +1,2 @@
 // The texts of sheets, by house: definitions and laws only.
+#![tactic(auto)]

@@ -1,11 +1,13 @@
+#![tactic(auto)]
+
 ghost use Rattle.std.specs.Prelude.{◌≡◌, ◌+◌, ◌-◌, ◌^◌, ◌<◌};
 ghost use Rattle.slots.specs.Slots.{slot_end, slot_start, slot_before, slot_after};
 
 // Slots are counted from 1 on, boundaries from 0 on; boundary b is the end of slot b.
-#[derive(Drop)]
+#[derive(Clone, Copy)]
 pub struct Slot(pub usize);
 
-#[derive(Drop)]
+#[derive(Clone, Copy)]
 pub struct Boundary(pub usize);
 
 impl Slot {

@@ -1,5 +1,7 @@
 // The entries for other languages: slices and numbers in, and a reply that is a struct of numbers by value (`tugrokt_replies`). Nothing but the lent rooms is
 // written.
+#![tactic(auto)]
+
 pub mod answering;
 pub mod deciding;
 pub mod merging;

@@ -1,4 +1,6 @@
 // Answering a text for other languages: the page of the answer onto a lent page, with the reply as its numbers.
+#![tactic(auto)]
+
 ghost use Rattle.answer_conditions.specs.Answer.{AnswerTo};
 ghost use Rattle.tugrokt_answering.specs.Told.{AnswerTold};
 

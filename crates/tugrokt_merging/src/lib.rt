@@ -1,4 +1,6 @@
 // Merging for other languages: two texts as one sheet in the lent lists, and the line of a unit, with each reply as its numbers.
+#![tactic(auto)]
+
 ghost use Rattle.read_questions.specs.Reading.{rooms};
 ghost use Rattle.tugrokt_merging.specs.Told.{MergeTold, LineTold};
 

@@ -1,4 +1,6 @@
 // Reading for other languages: a sheet of a house into the lent lists, with the reply as its numbers.
+#![tactic(auto)]
+
 ghost use Rattle.read_questions.specs.Reading.{rooms};
 ghost use Rattle.tugrokt_reading.specs.Told.{ReadTold};
 

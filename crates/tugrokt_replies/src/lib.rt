@@ -2,6 +2,8 @@
 //
 // In each reply the number is that of the question that was answered no, and the line is the one that the refusal names. What a reply does not have is
 // 0. A new field stands at the end, so that the fields before it keep their places.
+#![tactic(auto)]
+
 pub mod deciding;
 pub mod line;
 pub mod planning;

@@ -5,7 +5,7 @@ use merge_lines::LineFound;
 
 // What asking for a unit's line replies: which text it stands in, 1 or 2, its first byte and how many there are, less the line feed.
 #[repr(C)]
-#[derive(Drop)]
+#[derive(Clone, Copy)]
 pub struct Line {
     pub number: usize,
     pub line: usize,

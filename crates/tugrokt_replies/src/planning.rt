@@ -6,7 +6,7 @@ use plan_answers::Answer;
 
 // What planning replies: the length of the ring, which a plan does not have.
 #[repr(C)]
-#[derive(Drop)]
+#[derive(Clone, Copy)]
 pub struct Planning {
     pub number: usize,
     pub line: usize,

@@ -6,7 +6,7 @@ use print_answer::Printed;
 
 // What printing replies: the length of the ring, and the place just past the answer, or the place that was given where the call was refused.
 #[repr(C)]
-#[derive(Drop)]
+#[derive(Clone, Copy)]
 pub struct Printing {
     pub number: usize,
     pub line: usize,

@@ -4,7 +4,7 @@ ghost use Rattle.tugrokt_replies.specs.Numbers.{reading_of};
 
 // What reading replies: the span and the numbers of units and rules of the sheet that was read.
 #[repr(C)]
-#[derive(Drop)]
+#[derive(Clone, Copy)]
 pub struct Reading {
     pub number: usize,
     pub line: usize,

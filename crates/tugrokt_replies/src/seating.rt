@@ -6,7 +6,7 @@ use plan_answers::SeatAnswer;
 
 // What seating replies: 1 for a plan, and 0 for none; and how many units it looked at.
 #[repr(C)]
-#[derive(Drop)]
+#[derive(Clone, Copy)]
 pub struct Seating {
     pub number: usize,
     pub line: usize,

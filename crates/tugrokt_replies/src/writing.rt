@@ -4,7 +4,7 @@ ghost use Rattle.tugrokt_replies.specs.Numbers.{writing_of};
 
 // What writing a sheet and answering a text reply: the place just past what was put onto the page, or the place that was given where the call was refused.
 #[repr(C)]
-#[derive(Drop)]
+#[derive(Clone, Copy)]
 pub struct Writing {
     pub number: usize,
     pub line: usize,

@@ -1,4 +1,6 @@
 // Writing for other languages: a sheet as a text of a house onto a page, with the reply as its numbers.
+#![tactic(auto)]
+
 ghost use Rattle.sheet.specs.Lists.{written_lists};
 ghost use Rattle.tugrokt_writing.specs.Told.{WriteTold};
 

@@ -1,4 +1,6 @@
 // What is said of a refusal by 17 or 18, whose line is a place in the list of units or of rules.
+#![tactic(auto)]
+
 ghost use Rattle.std.specs.Prelude.{◌≤◌, length};
 ghost use Rattle.sheet.specs.Sizes.{max_bytes};
 ghost use Rattle.print_bytes.specs.Writing.{Written};

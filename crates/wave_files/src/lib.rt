@@ -1,11 +1,13 @@
 // What the program reads, standard input and the files that its words name, and what it says on standard error of them. The contracts of the C functions say
 // nothing of the bytes that come.
+#![tactic(auto)]
+
 ghost use Rattle.std.specs.Prelude.{◌≤◌, length};
 
 use libc::{PATH_MAX, STDERR_FILENO, STDIN_FILENO};
 
 // How many bytes were read, and whether a read failed on the way.
-#[derive(Drop)]
+#[derive(Clone, Copy)]
 pub struct Input {
     pub length: usize,
     pub failed: bool,
@@ -90,7 +92,7 @@ fn read_named(i: usize, buffer: &mut [u8]) -> Input
 }
 
 // How many bytes were read of the first of two files and of the second, and whether one of them could not be read.
-#[derive(Drop)]
+#[derive(Clone, Copy)]
 pub struct Inputs {
     pub first: usize,
     pub second: usize,

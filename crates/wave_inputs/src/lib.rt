@@ -1,4 +1,6 @@
 // What is promised of the program's inputs, of which only the front is read: the result is that for the whole.
+#![tactic(auto)]
+
 ghost use Rattle.std.specs.Prelude.{◌≤◌, length, take};
 ghost use Rattle.sheet.specs.Sizes.{max_bytes};
 ghost use Rattle.wave_inputs.specs.Input.{InputAnswered, InputConverted, place_of, line_of};

@@ -1,4 +1,6 @@
 // What the program's word `line` writes: the line of a unit of two sheets as it stands, or the line of a refusal.
+#![tactic(auto)]
+
 ghost use Rattle.std.specs.Prelude.{◌≡◌, suc, ◌≤◌, length};
 ghost use Rattle.sheet.specs.Sizes.{max_bytes};
 ghost use Rattle.print_bytes.specs.Writing.{with_bytes, Written};
@@ -11,7 +13,7 @@ use sheet::Sheet;
 pub const MAX_LINE: usize = Sheet::MAX_BYTES + 2;
 
 // The place just past what was written: a line, or a refusal with which sheet it is of, 0 where it is of neither.
-#[derive(Drop)]
+#[derive(Clone, Copy)]
 pub enum Shown {
     Line(usize),
     Refused(usize, usize),

@@ -1,4 +1,6 @@
 // The loader number that a word of the program names.
+#![tactic(auto)]
+
 ghost use Rattle.std.specs.Prelude.{◌≡◌, true, ◌+◌, ◌-◌, ◌*◌, suc, ◌≤◌};
 ghost use Rattle.sheet.specs.Sizes.{max_loader};
 ghost use Rattle.forms.specs.Form.{is_digit};
@@ -8,7 +10,7 @@ use sheet::Sheet;
 
 // What a word names: a number, or none where it is not all digits. A number that no loader has comes as the least such one, so that it is never cut to one
 // that a loader has, however many digits it has.
-#[derive(Drop)]
+#[derive(Clone, Copy)]
 pub enum Loader {
     Number(u16),
     NoNumber,

@@ -1,6 +1,8 @@
 // What the program does: it reads a sheet from standard input, or two from files, and writes to standard output what its word asks for. The contracts of the C
 // functions say nothing of the bytes that come and go; what is promised is what a word asks for, and of the bytes that were read what `wave_inputs` says; and
 // that all ends and does nothing undefined.
+#![tactic(auto)]
+
 ghost use Rattle.std.specs.Prelude.{◌≤◌};
 ghost use Rattle.sheet.specs.Sizes.{max_bytes};
 

@@ -1,4 +1,6 @@
 // The words that the program takes, and what they may ask for.
+#![tactic(auto)]
+
 ghost use Rattle.std.specs.Prelude.{◌≡◌, ◌↔◌, T};
 ghost use Rattle.wave_words.specs.Words.{AsksFor};
 
@@ -8,7 +10,7 @@ use forms::House;
 pub const MAX_WORD: usize = 12;
 
 // What is asked of a sheet: its plan, or only whether there is one and how many units each slot may have.
-#[derive(Drop)]
+#[derive(Clone, Copy)]
 pub enum Query {
     Plan,
     Fits,
@@ -16,7 +18,7 @@ pub enum Query {
 
 // What the words ask for: an answer to a sheet of a house, a sheet of one house in the form of another, two sheets as one, or the line of a unit of two
 // sheets; or that they are none that the program takes.
-#[derive(Drop)]
+#[derive(Clone, Copy)]
 pub enum Asked {
     Answer(House, Query),
     Convert(House, House),

@@ -1,3 +1,5 @@
+#![tactic(auto)]
+
 ghost use Rattle.std.specs.Prelude.{◌≡◌, ◌+◌, ◌≤◌, length};
 ghost use Rattle.questions.specs.Questions.{first_no, verdict_of};
 ghost use Rattle.sheet.specs.Lists.{written_lists};
@@ -11,7 +13,7 @@ use questions::{Checked, Refusal};
 use write_lines::MAX_TEXT;
 
 // What a call answers: a refusal, or a text, by the place just past it.
-#[derive(Drop)]
+#[derive(Clone, Copy)]
 pub enum Writing {
     Refused(Refusal),
     Text(usize),

@@ -1,3 +1,5 @@
+#![tactic(auto)]
+
 ghost use Rattle.std.specs.Prelude.{◌≡◌, leb};
 ghost use Rattle.questions.specs.Questions.{first_no, verdict_of};
 ghost use Rattle.write_ask.specs.HouseQuestions.{first_at_fault, end_questions};

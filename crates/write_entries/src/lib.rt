@@ -1,3 +1,5 @@
+#![tactic(auto)]
+
 ghost use Rattle.std.specs.Prelude.{◌≡◌, ◌∷◌, []};
 ghost use Rattle.forms.specs.Decimal.{form_line};
 ghost use Rattle.forms.specs.Forms.{unit_form, job_form};

@@ -1,3 +1,5 @@
+#![tactic(auto)]
+
 ghost use Rattle.std.specs.Prelude.{◌≤◌, ◌<◌};
 ghost use Rattle.sheet.specs.Sizes.{max_bytes};
 ghost use Rattle.sheet.specs.Lists.{written_by};

@@ -1,3 +1,5 @@
+#![tactic(auto)]
+
 ghost use Rattle.std.specs.Prelude.{◌≡◌, length};
 ghost use Rattle.sheet.specs.Questions.{windows_of, rules_of};
 ghost use Rattle.sheet.specs.Lists.{written_lists, units_of, written_by};
