@@ -9,9 +9,9 @@ use Rattle.limit_places.proofs.back_place.Tie as tie
 returns : tie.Need-returns
 returns c =
     let a = c.before.before.before.args in
-    let end : c.before.before.end.result.0 ≡ a.last = c.before.before.end.ensures in
-    let start : c.before.start.result.0 ≡ slot_start a.first = c.before.start.ensures in
-    c.place.ensures ∙ ap (λ (k : ℕ). k * a.w + c.before.start.result.0) end ∙ ap (λ (k : ℕ). a.last * a.w + k) start
+    let end : c.before.before.end-end.result.0 ≡ a.last = c.before.before.end-end.ensures in
+    let start : c.before.start-start.result.0 ≡ slot_start a.first = c.before.start-start.ensures in
+    c.place.ensures ∙ ap (λ (k : ℕ). k * a.w + c.before.start-start.result.0) end ∙ ap (λ (k : ℕ). a.last * a.w + k) start
 
 pub back_place_spec : {M : Type 1} → statement M
 back_place_spec = tie.close (tie.spec (λ c κs. search rules) (λ c κs. search rules) (λ c κs. search rules) returns)

@@ -5,12 +5,12 @@ use Rattle.network.specs.TableLaws.{row_inside}
 use Rattle.limit_places.proofs.place.Statement.{statement}
 use Rattle.limit_places.proofs.place.Tie as tie
 
-mul_result : tie.Need-overflow-mul-result
+mul_result : tie.Need-overflow_mul-result
 mul_result c =
     let a = c.before.args in
     omega (arith, row_inside a.from.0 a.w c.before.requires.0)
 
-add_result : tie.Need-overflow-add-result
+add_result : tie.Need-overflow_add-result
 add_result c =
     let a = c.before.before.args in
     omega (arith, row_inside a.from.0 a.w c.before.before.requires.0)

@@ -17,14 +17,14 @@ use Rattle.limit_windows.proofs.Exact.{Taken, taken, no_windows}
 use Rattle.limit_windows.proofs.exact_windows.Statement.{statement}
 use Rattle.limit_windows.proofs.exact_windows.Tie as tie
 
-abbrev invariant-loop : tie.invariant-loop
+abbrev invariant-loop : tie.invariant-loop-j
 invariant-loop first last w t₀ j₀ t j = (j ≤ length first) × (w * w ≤ length t₀) × TableFilled w (exact_weights (windows_of (drop j first) (drop j last))) t₀ t
 
-abbrev decreases-loop : tie.decreases-loop
+abbrev decreases-loop : tie.decreases-loop-j
 decreases-loop first last w t₀ j₀ t j = j
 
 -- the function's entry, from the loop
-abbrev start : tie.At-loop invariant-loop decreases-loop → tie.Start invariant-loop decreases-loop
+abbrev start : tie.At-loop-j invariant-loop decreases-loop → tie.Start invariant-loop decreases-loop
 start c = c.before.before.before.before.before.before
 
 -- the table that clearing leaves
@@ -37,7 +37,7 @@ zeros c =
     subst (TableFilled a.w (exact_weights []) a.t.now) (sym c.clear.ensures)
     (cleared_filled a.w (exact_weights []) a.t.now s.requires.0 (λ x y. refl))
 
-loop-holds : tie.Need-loop-init invariant-loop decreases-loop
+loop-holds : tie.Need-loop-j-init invariant-loop decreases-loop
 loop-holds c =
     let s = c.before.before.before.before.before in
     let a = s.args in
@@ -49,41 +49,41 @@ loop-holds c =
           (record { long = refl; at = z.at; past = refl }),
     )
 
-back_place_requires : tie.Need-back-place-requires invariant-loop decreases-loop
+back_place_requires : tie.Need-back_place-at-requires invariant-loop decreases-loop
 back_place_requires c κs =
     let s = start c.before.before.before in
-    let e = s.pre.1.each (c.before.before.before.loop.j - 1) (omega arith) in
+    let e = s.pre.1.each (c.before.before.before.loop-j.j - 1) (omega arith) in
     (omega arith, omega arith, omega arith, omega arith)
 
-one : (c : tie.After-back-place invariant-loop decreases-loop)
+one : (c : tie.After-back_place-at invariant-loop decreases-loop)
     → let s = start c.before.before.before.before in
-    let l = c.before.before.before.before.loop in
+    let l = c.before.before.before.before.loop-j in
     Taken s.args.w s.args.first.now s.args.last.now s.pre.1 c.before.before.before.before.before.before.clear.new.1.0
-    l.j c.back-place.result l.t
+    l.j c.back_place-at.result l.t
 one c =
     let s = start c.before.before.before.before in
-    let l = c.before.before.before.before.loop in
+    let l = c.before.before.before.before.loop-j in
     taken s.args.w s.args.first.now s.args.last.now s.pre.1 c.before.before.before.before.before.before.clear.new.1.0
-    l.j c.back-place.result l.t l.invariant.1 (omega arith) l.invariant.0 c.back-place.ensures l.invariant.2
+    l.j c.back_place-at.result l.t l.invariant.1 (omega arith) l.invariant.0 c.back_place-at.ensures l.invariant.2
 
 -- the entry as the code reads it
-read : (c : tie.After-t2 invariant-loop decreases-loop)
-    → let x = get_or c.before.before.before.before.before.loop.t c.before.back-place.result (pos 0) in to_z w16 (of_z w16 x) ≡ x
-read c = let f : SFits w16 (get_or c.before.before.before.before.before.loop.t c.before.back-place.result (pos 0)) = search rules in to_z-of_z f
+read : (c : tie.After-t-in-loop-j-1 invariant-loop decreases-loop)
+    → let x = get_or c.before.before.before.before.before.loop-j.t c.before.back_place-at.result (pos 0) in to_z w16 (of_z w16 x) ≡ x
+read c = let f : SFits w16 (get_or c.before.before.before.before.before.loop-j.t c.before.back_place-at.result (pos 0)) = search rules in to_z-of_z f
 
-loop-again : tie.Need-loop-preserved invariant-loop decreases-loop
+loop-again : tie.Need-loop-j-preserved invariant-loop decreases-loop
 loop-again c =
-    let l = c.before.before.before.before.before.loop in
+    let l = c.before.before.before.before.before.loop-j in
     let o = one c.before in
     (omega arith, l.invariant.1, rw (read c, to_z-of_z o.fits) o.next)
 
 -- the whole table
-whole : (c : tie.After-loop invariant-loop decreases-loop)
+whole : (c : tie.After-loop-j invariant-loop decreases-loop)
     → let a = c.before.before.before.before.before.before.before.args in
-    TableFilled a.w (exact_weights (windows_of a.first.now a.last.now)) a.t.now c.before.loop.t
+    TableFilled a.w (exact_weights (windows_of a.first.now a.last.now)) a.t.now c.before.loop-j.t
 whole c =
     let a = c.before.before.before.before.before.before.before.args in
-    let l = c.before.loop in
+    let l = c.before.loop-j in
     let e : l.j ≡ 0 = omega arith in
     let t = c.before.before.before.clear.new.1.0 in
     filled_over a.w (exact_weights []) (exact_weights (windows_of a.first.now a.last.now)) a.t.now t l.t
@@ -94,7 +94,7 @@ returns : tie.Need-returns invariant-loop decreases-loop
 returns c =
     let s = c.before.before.before.before.before.before.before in
     let a = s.args in
-    filled_is a.w (exact_weights (windows_of a.first.now a.last.now)) a.t.now c.before.loop.t s.requires.0 (whole c)
+    filled_is a.w (exact_weights (windows_of a.first.now a.last.now)) a.t.now c.before.loop-j.t s.requires.0 (whole c)
 
 pub exact_windows_spec : {M : Type 1} → statement M
 exact_windows_spec = tie.close (tie.spec invariant-loop decreases-loop (λ c. omega arith) (λ c κs. c.before.before.before.requires.0) loop-holds (λ c. omega arith)

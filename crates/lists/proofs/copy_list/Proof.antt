@@ -7,18 +7,18 @@ use Rattle.lists.specs.Fill.{FillInv, fill_start, fill_next, fill_end, filled_co
 use Rattle.lists.proofs.copy_list.Statement.{statement}
 use Rattle.lists.proofs.copy_list.Tie as tie
 
-abbrev invariant-loop : tie.invariant-loop
+abbrev invariant-loop : tie.invariant-loop-i
 invariant-loop c out₀ i₀ i-end out i = (i-end ≡ length c) × FillInv (λ (j : ℕ). get_or c j 0) (length c) out₀ i out
 
-abbrev decreases-loop : tie.decreases-loop
+abbrev decreases-loop : tie.decreases-loop-i
 decreases-loop c out₀ i₀ i-end out i = length c - i
 
-loop-again : tie.Need-loop-preserved invariant-loop decreases-loop
-loop-again c = (refl, fill_next c.before.before.loop.invariant.1 refl (omega arith) (omega arith))
+loop-again : tie.Need-loop-i-preserved invariant-loop decreases-loop
+loop-again c = (refl, fill_next c.before.before.loop-i.invariant.1 refl (omega arith) (omega arith))
 
 returns : tie.Need-returns invariant-loop decreases-loop
 returns c =
-    let l = c.before.loop in
+    let l = c.before.loop-i in
     let a = c.before.before.args in
     filled_copy 0 a.c.now a.out.now l.out (fill_end l.invariant.1 (omega arith))
 

@@ -11,53 +11,53 @@ use Rattle.loaders.specs.ChainLaws.{linked_none, linked_more}
 use Rattle.loaders.proofs.all_new.Statement.{statement}
 use Rattle.loaders.proofs.all_new.Tie as tie
 
-abbrev invariant-loop : tie.invariant-loop
+abbrev invariant-loop : tie.invariant-loop-j
 invariant-loop ks heads₀ nexts₀ j₀ heads nexts j =
     (j ≤ length ks) × (length nexts ≡ max_units) × Linked ks j heads nexts × (loaders_fit ks ≡ all_new (take j ks) (drop j ks))
 
-abbrev decreases-loop : tie.decreases-loop
+abbrev decreases-loop : tie.decreases-loop-j
 decreases-loop ks heads₀ nexts₀ j₀ heads nexts j = length ks - j
 
 -- the loop's place from that of a number that is new, and the function's start from the loop's place
-abbrev asked : tie.Then1 invariant-loop decreases-loop → tie.At-loop invariant-loop decreases-loop
+abbrev asked : tie.Then-is_new invariant-loop decreases-loop → tie.At-loop-j invariant-loop decreases-loop
 asked c = c.before.before.before.before.before.before
 
-abbrev start : tie.At-loop invariant-loop decreases-loop → tie.Start invariant-loop decreases-loop
+abbrev start : tie.At-loop-j invariant-loop decreases-loop → tie.Start invariant-loop decreases-loop
 start c = c.before.before
 
-is_new_requires : tie.Need-is-new-requires invariant-loop decreases-loop
+is_new_requires : tie.Need-is_new-requires invariant-loop decreases-loop
 is_new_requires c κs =
     let p = c.before.before.before.before in
-    (omega arith, omega (arith, p.loop.invariant.0, p.loop.invariant.1, (start p).requires), p.loop.invariant.2)
+    (omega arith, omega (arith, p.loop-j.invariant.0, p.loop-j.invariant.1, (start p).requires), p.loop-j.invariant.2)
 
 link_requires : tie.Need-link-requires invariant-loop decreases-loop
 link_requires c κs =
     let p = asked c.before.before in
-    (p.loop.inv.2.wide, omega (arith, (start p).pre), omega (arith, (start p).pre, p.loop.inv.1))
+    (p.loop-j.inv.2.wide, omega (arith, (start p).pre), omega (arith, (start p).pre, p.loop-j.inv.1))
 
-loop-again : tie.Need-loop-preserved invariant-loop decreases-loop
+loop-again : tie.Need-loop-j-preserved invariant-loop decreases-loop
 loop-again c =
     let then = c.before.before.before.before.before in
     let p = asked then in
-    let l = p.loop in
+    let l = p.loop-j in
     let ks = (start p).args.ks.now in
     let k = c.before.before.link in
-    let h : l.j < length ks = then.before.before.before.before.before.loop-test.true in
-    let new = sym then.before.is-new.ensures ∙ then.if1.true in (
+    let h : l.j < length ks = then.before.before.before.before.before.loop-j-test.true in
+    let new = sym then.before.is_new.ensures ∙ then.if-is_new.true in (
       omega arith,
       k.auto.1.1.1.0 ∙ l.inv.1,
       rw (k.ensures.0, k.ensures.1) (linked_more ks l.heads l.nexts l.j l.inv.2 (omega (arith, (start p).pre, l.inv.1))),
       l.inv.3 ∙ new_next ks l.j h new,
     )
 
-returns : tie.Need-returns invariant-loop decreases-loop
+returns : tie.Need-returns-else-is_new invariant-loop decreases-loop
 returns c =
-    let l = c.before.before.before.before.before.before.loop in
+    let l = c.before.before.before.before.before.before.loop-j in
     let ks = c.before.before.before.before.before.before.before.before.args.ks.now in
-    sym (l.invariant.3 ∙ new_stop ks l.j c.before.before.before.before.before.loop-test.true (sym c.before.is-new.ensures ∙ c.if1.false))
+    sym (l.invariant.3 ∙ new_stop ks l.j c.before.before.before.before.before.loop-j-test.true (sym c.before.is_new.ensures ∙ c.if-is_new.false))
 
 pub all_new_spec : {M : Type 1} → statement M
 all_new_spec = tie.close (tie.spec invariant-loop decreases-loop (λ c. (omega arith, refl, linked_none _ _, refl)) (λ c. omega arith) (λ c. omega arith)
-    (λ c. sym c.before.before.before.loop.invariant.2.wide) (λ c. sym c.before.before.before.before.loop.invariant.1) is_new_requires
-    (λ c. sym (asked c.before).loop.inv.2.wide) (λ c. sym (asked c.before.before).loop.inv.1) link_requires (λ c. omega arith) (λ c. omega arith)
-    loop-again returns (λ c. sym (c.before.loop.invariant.3 ∙ new_end c.before.before.before.args.ks.now c.before.loop.j (omega arith))))
+    (λ c. sym c.before.before.before.loop-j.invariant.2.wide) (λ c. sym c.before.before.before.before.loop-j.invariant.1) is_new_requires
+    (λ c. sym (asked c.before).loop-j.inv.2.wide) (λ c. sym (asked c.before.before).loop-j.inv.1) link_requires (λ c. omega arith) (λ c. omega arith)
+    loop-again returns (λ c. sym (c.before.loop-j.invariant.3 ∙ new_end c.before.before.before.args.ks.now c.before.loop-j.j (omega arith))))

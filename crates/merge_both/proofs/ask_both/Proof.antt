@@ -20,19 +20,19 @@ use Rattle.merge_both.proofs.ask_both.Statement.{statement}
 use Rattle.merge_both.proofs.ask_both.Tie as tie
 
 -- the places: the questions about units, those about rules, and the function's start
-abbrev start : tie.After-struct-known2 → tie.Start
+abbrev start : tie.After-struct_known-2-1 → tie.Start
 start c = c.before.before.before.before.before.before.before.before.before.before.before.before
 
-abbrev units_call : tie.After-enum-told → tie.After-ask-units
+abbrev units_call : tie.In-Yes → tie.After-ask_units-asked
 units_call c = c.before.before
 
-abbrev begun : tie.After-ask-units → tie.Start
+abbrev begun : tie.After-ask_units-asked → tie.Start
 begun c = start c.before.before.before
 
-abbrev rules_call : tie.After-slice-known8 → tie.After-ask-rules
+abbrev rules_call : tie.After-slice_known-in-Yes-4-1 → tie.After-ask_rules-stretches
 rules_call c = c.before.before.before.before.before.before.before.before
 
-abbrev told_yes : tie.After-ask-rules → tie.After-enum-told
+abbrev told_yes : tie.After-ask_rules-stretches → tie.In-Yes
 told_yes c = c.before.before.before.before.before.before.before.before.before
 
 -- the columns that are lent: the rules of both, and those for the combined ones
@@ -40,7 +40,7 @@ abbrev given : tie.Start → Columns
 given z = let a = z.args in columns a.from.now a.to.now a.low.now a.high.now
 
 abbrev room : tie.Start → Columns
-room z = let a = z.args in columns a.froms.now a.tos.now a.lows.now a.highs.now
+room z = let a = z.args in columns a.froms-1.now a.tos-1.now a.lows-1.now a.highs-1.now
 
 abbrev Is : tie.Start → WrittenSheet → WrittenSheet → Type 0
 Is z wa wb = let a = z.args in BothRead wa wb a.a a.b a.numbers.now (given z) (room z)
@@ -50,18 +50,18 @@ read : (z : tie.Start) → Is z z.requires.0 z.requires.1.0
 read z = z.requires.1.1
 
 -- from the first argument of either call on
-abbrev at_units : tie.After-ask-units-arg → tie.Start
+abbrev at_units : tie.After-ask_units-arg-1 → tie.Start
 at_units c = start c.before
 
-abbrev at_rules : tie.After-ask-rules-arg → tie.Start
+abbrev at_rules : tie.After-ask_rules-arg-1 → tie.Start
 at_rules c = begun (units_call c.before)
 
-ones_long : tie.Need-slice-aggregate-ask-units
+ones_long : tie.Need-slice_bounds-ask_units-end
 ones_long c =
     let z = at_units c in
     sym (length-take-le z.args.a.units z.args.numbers.now (omega (arith, numbers_fit _ _ _ _ _ _ _ (read z))))
 
-ask_rules_requires : tie.Need-ask-rules-requires
+ask_rules_requires : tie.Need-ask_rules-stretches-requires
 ask_rules_requires c κs =
     let z = at_rules c.before.before.before.before.before.before.before in
     let h = read z in
@@ -74,29 +74,29 @@ ask_rules_requires c κs =
       ),
     )
 
-returns : tie.Need-returns
+returns : tie.Need-returns-in-No
 returns c wa wb h =
     let q = c.before.before.before.before in
     refused_units wa wb _ _ _ _ _ h _ _ _ _ _
-    (sym (units_asked wa wb _ _ _ _ _ h _) ∙ sym q.ask-units.ensures ∙ ap verdict_of c.before.before.asked.given.1) c.blamed.ensures
+    (sym (units_asked wa wb _ _ _ _ _ h _) ∙ sym q.ask_units-asked.ensures ∙ ap verdict_of c.before.before.asked-1.given.1) c.blamed.ensures
 
 -- the questions about units were all yes, and those about rules were asked of both sheets' rules
-passed : (c : tie.After-ask-rules) (wa wb : WrittenSheet) → Is (begun (units_call (told_yes c))) wa wb →
+passed : (c : tie.After-ask_rules-stretches) (wa wb : WrittenSheet) → Is (begun (units_call (told_yes c))) wa wb →
     first_no (unit_questions (begun (units_call (told_yes c))).args.two.now wa.span wb.span (loaders wa) (loaders wb)) ≡ all_yes
 passed c wa wb h =
     let t = told_yes c in
-    sym (units_asked wa wb _ _ _ _ _ h _) ∙ sym (units_call t).ask-units.ensures ∙ ap verdict_of t.enum_told.given.1
+    sym (units_asked wa wb _ _ _ _ _ h _) ∙ sym (units_call t).ask_units-asked.ensures ∙ ap verdict_of t.enum_told-1.given.1
 
-came_to : (c : tie.After-ask-rules) (wa wb : WrittenSheet) → Is (begun (units_call (told_yes c))) wa wb →
-    first_no (rule_questions (begun (units_call (told_yes c))).args.two.now wa.rules wb.rules) ≡ verdict_by c.ask-rules.result
-came_to c wa wb h = sym (c.ask-rules.ensures.0 ∙ rules_asked wa wb _ _ _ _ _ h _ _ (all_rules wa wb _ _ _ _ _ h))
+came_to : (c : tie.After-ask_rules-stretches) (wa wb : WrittenSheet) → Is (begun (units_call (told_yes c))) wa wb →
+    first_no (rule_questions (begun (units_call (told_yes c))).args.two.now wa.rules wb.rules) ≡ verdict_by c.ask_rules-stretches.result
+came_to c wa wb h = sym (c.ask_rules-stretches.ensures.0 ∙ rules_asked wa wb _ _ _ _ _ h _ _ (all_rules wa wb _ _ _ _ _ h))
 
-returns-2 : tie.Need-returns-2
+returns-2 : tie.Need-returns-in-No-stretches
 returns-2 c wa wb h =
     let t = c.before.before.before.before in
     let q = rules_call t in
-    refused_rules wa wb _ _ _ _ _ h _ _ _ (passed q wa wb h) _ _ (came_to q wa wb h ∙ ap verdict_by c.before.before.stretches.given.1)
-    c.blamed2.ensures
+    refused_rules wa wb _ _ _ _ _ h _ _ _ (passed q wa wb h) _ _ (came_to q wa wb h ∙ ap verdict_by c.before.before.stretches-1.given.1)
+    c.blamed-in-No-stretches.ensures
 
 -- the combined rules of the same rules
 front_of : (before now : Columns) (rs all : List Rule) (k : ℕ) → rs ≡ all → AtFront (merged_rules rs) k before now → AtFront (merged_rules all) k before now
@@ -105,14 +105,14 @@ front_of before now rs all k e f = subst (λ xs. AtFront (merged_rules xs) k bef
 count_of : (s t : Stretches) (n : ℕ) → s ≡ t → CountIs s n → CountIs t n
 count_of s t n e c = subst (λ x. CountIs x n) e c
 
-returns-3 : tie.Need-returns-3
+returns-3 : tie.Need-returns-in-Count
 returns-3 c wa wb h =
     let q = rules_call c.before.before.before in
-    let e = q.ask-rules.ensures.1 in
-    let is = c.before.stretches2.given.1 in
+    let e = q.ask_rules-stretches.ensures.1 in
+    let is = c.before.stretches-in-Count-1.given.1 in
     let rs = all_rules wa wb _ _ _ _ _ h in
     let z = begun (units_call (told_yes q)) in
-    let k = c.before.stretches2.given.0.0 in
+    let k = c.before.stretches-in-Count-1.given.0.0 in
     merged_as wa wb _ _ _ _ _ h _ (room z) _ (passed q wa wb h) _ refl refl (came_to q wa wb h ∙ ap verdict_by is)
     (front_of (room z) _ _ _ k rs (record {
       count = count_of _ _ _ is e.0;
@@ -127,19 +127,19 @@ ask_both_spec = tie.close (tie.spec (λ c. search rules) (λ c. search rules) on
     (λ c. le-add_right (at_units c).args.a.units (at_units c).args.b.units)
     (λ c. le-add_right (at_units c).args.a.units (at_units c).args.b.units)
     (λ c. numbers_fit _ _ _ _ _ _ _ (read (at_units c)))
-    (λ c κs. units_few _ _ _ _ _ _ _ (read (at_units c.before))) (λ c. c.match.keys1) (λ c κs. tt) (λ c. c.match.keys2)
+    (λ c κs. units_few _ _ _ _ _ _ _ (read (at_units c.before))) (λ c. c.in-No.keys1) (λ c κs. tt) (λ c. c.in-Yes.keys2)
     (λ c. sym (from_long _ _ _ _ _ _ _ (read (at_rules c)))) (λ c. sym (to_long _ _ _ _ _ _ _ (read (at_rules c.before))))
     (λ c. sym (low_long _ _ _ _ _ _ _ (read (at_rules c.before.before))))
     (λ c. sym (high_long _ _ _ _ _ _ _ (read (at_rules c.before.before.before))))
-    ask_rules_requires (λ c. c.match2.keys1) (λ c κs. tt)
-    (λ c. c.match2.keys2) returns
-    (λ c. (rules_call c.before.before.before.before).ask-rules.auto.1.1.1.1.1.1.0)
-    (λ c. (rules_call c.before.before.before.before).ask-rules.auto.1.1.1.1.1.1.1.0)
-    (λ c. (rules_call c.before.before.before.before).ask-rules.auto.1.1.1.1.1.1.1.1.0)
-    (λ c. (rules_call c.before.before.before.before).ask-rules.auto.1.1.1.1.1.1.1.1.1.0)
+    ask_rules_requires (λ c. c.in-No-stretches.keys1) (λ c κs. tt)
+    (λ c. c.in-Count.keys2) returns
+    (λ c. (rules_call c.before.before.before.before).ask_rules-stretches.auto.1.1.1.1.1.1.0)
+    (λ c. (rules_call c.before.before.before.before).ask_rules-stretches.auto.1.1.1.1.1.1.1.0)
+    (λ c. (rules_call c.before.before.before.before).ask_rules-stretches.auto.1.1.1.1.1.1.1.1.0)
+    (λ c. (rules_call c.before.before.before.before).ask_rules-stretches.auto.1.1.1.1.1.1.1.1.1.0)
     returns-2
-    (λ c. (rules_call c.before.before.before).ask-rules.auto.1.1.1.1.1.1.0)
-    (λ c. (rules_call c.before.before.before).ask-rules.auto.1.1.1.1.1.1.1.0)
-    (λ c. (rules_call c.before.before.before).ask-rules.auto.1.1.1.1.1.1.1.1.0)
-    (λ c. (rules_call c.before.before.before).ask-rules.auto.1.1.1.1.1.1.1.1.1.0)
+    (λ c. (rules_call c.before.before.before).ask_rules-stretches.auto.1.1.1.1.1.1.0)
+    (λ c. (rules_call c.before.before.before).ask_rules-stretches.auto.1.1.1.1.1.1.1.0)
+    (λ c. (rules_call c.before.before.before).ask_rules-stretches.auto.1.1.1.1.1.1.1.1.0)
+    (λ c. (rules_call c.before.before.before).ask_rules-stretches.auto.1.1.1.1.1.1.1.1.1.0)
     returns-3)

@@ -20,53 +20,53 @@ use Rattle.merge_join.proofs.join.Statement.{statement}
 use Rattle.merge_join.proofs.join.Tie as tie
 
 -- ---- the places: the first text read, a sheet from it, the second text read, a sheet from it, and both asked about
-abbrev start : tie.After-read-behind → tie.Start
+abbrev start : tie.After-read_behind-first → tie.Start
 start c = c.before.before.before.before.before.before.before.before.before.before.before.before.before.before.before.before.before
 
-abbrev first_read : tie.After-high2 → tie.After-read-behind
+abbrev first_read : tie.After-high-2-1 → tie.After-read_behind-first
 first_read c = c.before.before.before.before.before.before.before.before.before.before
 
-abbrev first_told : tie.After-known-told2 → tie.After-read-behind
+abbrev first_told : tie.In-Sheet → tie.After-read_behind-first
 first_told c = first_read c.before.before.before
 
-abbrev second_call : tie.After-read-behind2 → tie.After-known-told2
+abbrev second_call : tie.After-read_behind-second → tie.In-Sheet
 second_call c = c.before.before.before.before.before.before.before.before
 
-abbrev second_read : tie.After-high4 → tie.After-read-behind2
+abbrev second_read : tie.After-high-in-Sheet-2-1 → tie.After-read_behind-second
 second_read c = c.before.before.before.before.before.before.before.before.before.before
 
-abbrev second_told : tie.After-known-told4 → tie.After-read-behind2
+abbrev second_told : tie.In-Sheet-second → tie.After-read_behind-second
 second_told c = second_read c.before.before.before
 
-abbrev both_call : tie.After-ask-both → tie.After-known-told4
+abbrev both_call : tie.After-ask_both → tie.In-Sheet-second
 both_call c = c.before.before.before.before.before.before.before.before.before.before
 
 -- ---- the arrays: as they are lent, with those of the call's own, and after each text
 abbrev lent : tie.Start → ListRooms (List ℕ)
 lent z =
     let a = z.args in
-    rooms a.numbers.now a.firsts.now a.lasts.now a.froms.now a.tos.now a.lows.now a.highs.now
+    rooms a.numbers-1.now a.firsts-1.now a.lasts-1.now a.froms-1.now a.tos-1.now a.lows-1.now a.highs-1.now
 
 abbrev own : tie.Start → ListRooms (List ℕ)
 own z =
     let a = z.args in
     let none : List ℕ = replicate (max_rules + max_rules) 0 in
-    rooms a.numbers.now a.firsts.now a.lasts.now none none none none
+    rooms a.numbers-1.now a.firsts-1.now a.lasts-1.now none none none none
 
-abbrev after_first : tie.After-read-behind → ListRooms (List ℕ)
+abbrev after_first : tie.After-read_behind-first → ListRooms (List ℕ)
 after_first c =
-    let k = c.read_behind.new.1.1.1 in
+    let k = c.read_behind-first.new.1.1.1 in
     rooms k.0 k.1.0 k.1.1.0 k.1.1.1.0 k.1.1.1.1.0 k.1.1.1.1.1.0 k.1.1.1.1.1.1.0
 
-abbrev after_second : tie.After-read-behind2 → ListRooms (List ℕ)
+abbrev after_second : tie.After-read_behind-second → ListRooms (List ℕ)
 after_second c =
-    let k = c.read-behind2.new.1.1.1 in
+    let k = c.read_behind-second.new.1.1.1 in
     rooms k.0 k.1.0 k.1.1.0 k.1.1.1.0 k.1.1.1.1.0 k.1.1.1.1.1.0 k.1.1.1.1.1.1.0
 
 -- and the columns for the combined rules, after both were asked about
-abbrev combined : tie.After-ask-both → Rules.Columns
+abbrev combined : tie.After-ask_both → Rules.Columns
 combined c =
-    let k = c.ask-both.new.1.1.1.1.1.1.1.1 in
+    let k = c.ask_both.new.1.1.1.1.1.1.1.1 in
     Rules.columns k.0 k.1.0 k.1.1.0 k.1.1.1.0
 
 -- ---- what each text gave
@@ -74,37 +74,37 @@ kept_of_lem : (r : Reading) (s : Sheet) (text : List ℕ) (u q : ℕ) (m m' : Li
     → NumbersBehind s text u q m m'
 kept_of_lem r s text u q m m' e k = subst (λ x. KeptBehind x text u q m m') e k
 
-abbrev sheet_a : tie.After-known-told2 → Sheet
-sheet_a c = c.before.first2.given.0.0
+abbrev sheet_a : tie.In-Sheet → Sheet
+sheet_a c = c.before.first-in-Sheet-1.given.0.0
 
-abbrev sheet_b : tie.After-known-told4 → Sheet
-sheet_b c = c.before.second2.given.0.0
+abbrev sheet_b : tie.In-Sheet-second → Sheet
+sheet_b c = c.before.second-in-Sheet-second-1.given.0.0
 
-first_is : (c : tie.After-known-told2) → let s = sheet_a c in read s.span s.units s.rules ≡ text_reply Ours (start (first_told c)).args.one.now
-first_is c = sym (ap reply_of c.before.first2.given.1) ∙ (first_told c).read_behind.ensures.0
+first_is : (c : tie.In-Sheet) → let s = sheet_a c in read s.span s.units s.rules ≡ text_reply Ours (start (first_told c)).args.one.now
+first_is c = sym (ap reply_of c.before.first-in-Sheet-1.given.1) ∙ (first_told c).read_behind-first.ensures.0
 
-first_kept : (c : tie.After-known-told2) → let k = first_told c in
+first_kept : (c : tie.In-Sheet) → let k = first_told c in
     NumbersBehind (sheet_a c) (start k).args.one.now 0 0 (own (start k)) (after_first k)
-first_kept c = kept_of_lem _ _ _ _ _ _ _ c.before.first2.given.1 (first_told c).read_behind.ensures.1
+first_kept c = kept_of_lem _ _ _ _ _ _ _ c.before.first-in-Sheet-1.given.1 (first_told c).read_behind-first.ensures.1
 
-second_is : (c : tie.After-known-told4) → let s = sheet_b c in
+second_is : (c : tie.In-Sheet-second) → let s = sheet_b c in
     read s.span s.units s.rules ≡ text_reply Ours (start (first_told (second_call (second_told c)))).args.two.now
-second_is c = sym (ap reply_of c.before.second2.given.1) ∙ (second_told c).read-behind2.ensures.0
+second_is c = sym (ap reply_of c.before.second-in-Sheet-second-1.given.1) ∙ (second_told c).read_behind-second.ensures.0
 
-second_kept : (c : tie.After-known-told4) → let k = second_told c in let a = sheet_a (second_call k) in let f = first_told (second_call k) in
+second_kept : (c : tie.In-Sheet-second) → let k = second_told c in let a = sheet_a (second_call k) in let f = first_told (second_call k) in
     NumbersBehind (sheet_b c) (start f).args.two.now a.units a.rules (after_first f) (after_second k)
-second_kept c = kept_of_lem _ _ _ _ _ _ _ c.before.second2.given.1 (second_told c).read-behind2.ensures.1
+second_kept c = kept_of_lem _ _ _ _ _ _ _ c.before.second-in-Sheet-second-1.given.1 (second_told c).read_behind-second.ensures.1
 
 long : (z : tie.Start) → Holds (max_units + max_units) (max_rules + max_rules) (own z)
 long z = holds_both (lent z) z.requires
 
 -- both sheets stand in the arrays, the columns for the combined rules as they are lent
 abbrev room : tie.Start → Rules.Columns
-room z = let a = z.args in Rules.columns a.froms.now a.tos.now a.lows.now a.highs.now
+room z = let a = z.args in Rules.columns a.froms-1.now a.tos-1.now a.lows-1.now a.highs-1.now
 
-reads_both : (c : tie.After-known-told4) → let k = second_told c in let d = second_call k in let z = start (first_told d) in let m = after_second k in
+reads_both : (c : tie.In-Sheet-second) → let k = second_told c in let d = second_call k in let z = start (first_told d) in let m = after_second k in
     BothRead (sheet_in Ours z.args.one.now) (sheet_in Ours z.args.two.now) (sheet_a d) (sheet_b c) m.loader
-    (Rules.columns m.from m.to m.low m.high) (room z)
+    (Rules.columns m.from-1 m.to-1 m.low-1 m.high-1) (room z)
 reads_both c =
     let k = second_told c in
     let d = second_call k in
@@ -113,101 +113,101 @@ reads_both c =
     (second_kept c) (first_is d) (second_is c) (room z) z.pre.in_from z.pre.in_to z.pre.in_low z.pre.in_high
 
 -- ---- the needs
-read_behind_requires : tie.Need-read-behind-requires
+read_behind_requires : tie.Need-read_behind-first-requires
 read_behind_requires c κs =
     let z = c.before.before.before.before.before.before.before.before.before.before.before.before.before.before.before.before in
     holds_fewer (max_units + max_units) (max_rules + max_rules) _ _ (own z) (long z) (omega arith) (omega arith)
 
-read_behind_requires_2 : tie.Need-read-behind-requires-2
+read_behind_requires_2 : tie.Need-read_behind-second-requires
 read_behind_requires_2 c κs =
     let d = c.before.before.before.before.before.before.before in
     let z = start (first_told d) in
     holds_second z.args.one.now (sheet_a d) (own z) (after_first (first_told d)) (long z) (first_kept d)
 
-ask_both_requires : tie.Need-ask-both-requires
+ask_both_requires : tie.Need-ask_both-requires
 ask_both_requires c κs = (_, (_, reads_both c.before.before.before.before.before.before.before.before.before))
 
-returns : tie.Need-returns
+returns : tie.Need-returns-in-Refused
 returns c =
     let f = first_read c.before.before.before in
     let z = start f in
-    let says = first_refused z.args.one.now z.args.two.now _ _ (sym (ap reply_of c.before.first.given.1) ∙ f.read_behind.ensures.0) in
+    let says = first_refused z.args.one.now z.args.two.now _ _ (sym (ap reply_of c.before.first-1.given.1) ∙ f.read_behind-first.ensures.0) in
     (says.reply_is, (says.blame_is, tt))
 
-returns-2 : tie.Need-returns-2
+returns-2 : tie.Need-returns-in-Refused-second
 returns-2 c =
     let k = second_read c.before.before.before.before in
     let d = second_call k in
     let z = start (first_told d) in
     let says = second_refused z.args.one.now z.args.two.now (accepted z.args.one.now (sheet_a d) (first_is d)).verdict _ _ _
-    (sym (ap reply_of c.before.before.second.given.1) ∙ k.read-behind2.ensures.0) c.blamed.ensures in
+    (sym (ap reply_of c.before.before.second-1.given.1) ∙ k.read_behind-second.ensures.0) c.blamed.ensures in
     (says.reply_is, (says.blame_is, tt))
 
-returns-3 : tie.Need-returns-3
+returns-3 : tie.Need-returns-in-Sheet-second
 returns-3 c =
     let q = c.before.before.before.before.before.before.before.before in
     let e = both_call q in
     let k = second_told e in
     let d = second_call k in
     let z = start (first_told d) in
-    let asks = q.ask-both.ensures _ _ (reads_both e) in
+    let asks = q.ask_both.ensures _ _ (reads_both e) in
     let says = both_asked z.args.one.now z.args.two.now (accepted z.args.one.now (sheet_a d) (first_is d)).verdict _ _
     (accepted z.args.two.now (sheet_b e) (second_is e)).verdict asks.reply asks.blames in (
       says.reply_is,
       (
         says.blame_is,
         joined_left z.args.one.now (sheet_a d) (own z) (after_first (first_told d)) (long z) (first_kept d) z.args.two.now
-            (sheet_b e) (after_second k) (second_kept e) (first_is d) (second_is e) q.ask-both.result (room z) (combined q) asks.left,
+            (sheet_b e) (after_second k) (second_kept e) (first_is d) (second_is e) q.ask_both.result (room z) (combined q) asks.left,
       ),
     )
 
 -- the units' arrays are as long after both texts as they were
-abbrev asked_of : tie.After-slice-known17 → tie.After-read-behind2
+abbrev asked_of : tie.After-slice_known-in-Sheet-second-4-1 → tie.After-read_behind-second
 asked_of c = second_told (both_call c.before.before.before.before.before.before.before.before)
 
-numbers_long : (k : tie.After-read-behind2) → length (after_second k).loader ≡ length (lent (start (first_told (second_call k)))).loader
-numbers_long k = k.read-behind2.auto.1.1.1.0 ∙ (first_told (second_call k)).read_behind.auto.1.1.1.0
+numbers_long : (k : tie.After-read_behind-second) → length (after_second k).loader ≡ length (lent (start (first_told (second_call k)))).loader
+numbers_long k = k.read_behind-second.auto.1.1.1.0 ∙ (first_told (second_call k)).read_behind-first.auto.1.1.1.0
 
-firsts_long : (k : tie.After-read-behind2) → length (after_second k).first ≡ length (lent (start (first_told (second_call k)))).first
-firsts_long k = k.read-behind2.auto.1.1.1.1.0 ∙ (first_told (second_call k)).read_behind.auto.1.1.1.1.0
+firsts_long : (k : tie.After-read_behind-second) → length (after_second k).first-1 ≡ length (lent (start (first_told (second_call k)))).first-1
+firsts_long k = k.read_behind-second.auto.1.1.1.1.0 ∙ (first_told (second_call k)).read_behind-first.auto.1.1.1.1.0
 
-lasts_long : (k : tie.After-read-behind2) → length (after_second k).last ≡ length (lent (start (first_told (second_call k)))).last
-lasts_long k = k.read-behind2.auto.1.1.1.1.1.0 ∙ (first_told (second_call k)).read_behind.auto.1.1.1.1.1.0
+lasts_long : (k : tie.After-read_behind-second) → length (after_second k).last ≡ length (lent (start (first_told (second_call k)))).last
+lasts_long k = k.read_behind-second.auto.1.1.1.1.1.0 ∙ (first_told (second_call k)).read_behind-first.auto.1.1.1.1.1.0
 
 -- and the rules' arrays of the call's own as long as both texts' rules
-from_long : (k : tie.After-read-behind2) → length (after_second k).from ≡ max_rules + max_rules
-from_long k = k.read-behind2.auto.1.1.1.1.1.1.0 ∙ (first_told (second_call k)).read_behind.auto.1.1.1.1.1.1.0
+from_long : (k : tie.After-read_behind-second) → length (after_second k).from-1 ≡ max_rules + max_rules
+from_long k = k.read_behind-second.auto.1.1.1.1.1.1.0 ∙ (first_told (second_call k)).read_behind-first.auto.1.1.1.1.1.1.0
 
-to_long : (k : tie.After-read-behind2) → length (after_second k).to ≡ max_rules + max_rules
-to_long k = k.read-behind2.auto.1.1.1.1.1.1.1.0 ∙ (first_told (second_call k)).read_behind.auto.1.1.1.1.1.1.1.0
+to_long : (k : tie.After-read_behind-second) → length (after_second k).to-1 ≡ max_rules + max_rules
+to_long k = k.read_behind-second.auto.1.1.1.1.1.1.1.0 ∙ (first_told (second_call k)).read_behind-first.auto.1.1.1.1.1.1.1.0
 
-low_long : (k : tie.After-read-behind2) → length (after_second k).low ≡ max_rules + max_rules
-low_long k = k.read-behind2.auto.1.1.1.1.1.1.1.1.0 ∙ (first_told (second_call k)).read_behind.auto.1.1.1.1.1.1.1.1.0
+low_long : (k : tie.After-read_behind-second) → length (after_second k).low-1 ≡ max_rules + max_rules
+low_long k = k.read_behind-second.auto.1.1.1.1.1.1.1.1.0 ∙ (first_told (second_call k)).read_behind-first.auto.1.1.1.1.1.1.1.1.0
 
-high_long : (k : tie.After-read-behind2) → length (after_second k).high ≡ max_rules + max_rules
-high_long k = k.read-behind2.auto.1.1.1.1.1.1.1.1.1.0 ∙ (first_told (second_call k)).read_behind.auto.1.1.1.1.1.1.1.1.1.0
+high_long : (k : tie.After-read_behind-second) → length (after_second k).high-1 ≡ max_rules + max_rules
+high_long k = k.read_behind-second.auto.1.1.1.1.1.1.1.1.1.0 ∙ (first_told (second_call k)).read_behind-first.auto.1.1.1.1.1.1.1.1.1.0
 
 pub join_spec : {M : Type 1} → statement M
-join_spec = tie.close (tie.spec (λ c. refl) (λ c. refl) (λ c. refl) (λ c. refl) read_behind_requires (λ c. c.match.keys1) (λ c. c.match.keys2)
-    (λ c. sym (first_told c.before.before.before.before).read_behind.auto.1.1.1.1.1.1.0)
-    (λ c. sym (first_told c.before.before.before.before.before).read_behind.auto.1.1.1.1.1.1.1.0)
-    (λ c. sym (first_told c.before.before.before.before.before.before).read_behind.auto.1.1.1.1.1.1.1.1.0)
-    (λ c. sym (first_told c.before.before.before.before.before.before.before).read_behind.auto.1.1.1.1.1.1.1.1.1.0)
-    read_behind_requires_2 (λ c. c.match2.keys1) (λ c κs. tt) (λ c. c.match2.keys2)
+join_spec = tie.close (tie.spec (λ c. refl) (λ c. refl) (λ c. refl) (λ c. refl) read_behind_requires (λ c. c.in-Refused.keys1) (λ c. c.in-Sheet.keys2)
+    (λ c. sym (first_told c.before.before.before.before).read_behind-first.auto.1.1.1.1.1.1.0)
+    (λ c. sym (first_told c.before.before.before.before.before).read_behind-first.auto.1.1.1.1.1.1.1.0)
+    (λ c. sym (first_told c.before.before.before.before.before.before).read_behind-first.auto.1.1.1.1.1.1.1.1.0)
+    (λ c. sym (first_told c.before.before.before.before.before.before.before).read_behind-first.auto.1.1.1.1.1.1.1.1.1.0)
+    read_behind_requires_2 (λ c. c.in-Refused-second.keys1) (λ c κs. tt) (λ c. c.in-Sheet-second.keys2)
     (λ c. sym (from_long (second_told c.before.before)))
     (λ c. sym (to_long (second_told c.before.before.before)))
     (λ c. sym (low_long (second_told c.before.before.before.before)))
     (λ c. sym (high_long (second_told c.before.before.before.before.before)))
     ask_both_requires
-    (λ c. (first_read c.before.before.before).read_behind.auto.1.1.1.0)
-    (λ c. (first_read c.before.before.before).read_behind.auto.1.1.1.1.0)
-    (λ c. (first_read c.before.before.before).read_behind.auto.1.1.1.1.1.0)
+    (λ c. (first_read c.before.before.before).read_behind-first.auto.1.1.1.0)
+    (λ c. (first_read c.before.before.before).read_behind-first.auto.1.1.1.1.0)
+    (λ c. (first_read c.before.before.before).read_behind-first.auto.1.1.1.1.1.0)
     returns
     (λ c. numbers_long (second_read c.before.before.before.before)) (λ c. firsts_long (second_read c.before.before.before.before))
     (λ c. lasts_long (second_read c.before.before.before.before)) returns-2
     (λ c. numbers_long (asked_of c)) (λ c. firsts_long (asked_of c)) (λ c. lasts_long (asked_of c))
-    (λ c. c.before.before.before.before.before.before.before.before.ask-both.auto.1.1.1.1.1.1.1.1.0)
-    (λ c. c.before.before.before.before.before.before.before.before.ask-both.auto.1.1.1.1.1.1.1.1.1.0)
-    (λ c. c.before.before.before.before.before.before.before.before.ask-both.auto.1.1.1.1.1.1.1.1.1.1.0)
-    (λ c. c.before.before.before.before.before.before.before.before.ask-both.auto.1.1.1.1.1.1.1.1.1.1.1.0)
+    (λ c. c.before.before.before.before.before.before.before.before.ask_both.auto.1.1.1.1.1.1.1.1.0)
+    (λ c. c.before.before.before.before.before.before.before.before.ask_both.auto.1.1.1.1.1.1.1.1.1.0)
+    (λ c. c.before.before.before.before.before.before.before.before.ask_both.auto.1.1.1.1.1.1.1.1.1.1.0)
+    (λ c. c.before.before.before.before.before.before.before.before.ask_both.auto.1.1.1.1.1.1.1.1.1.1.1.0)
     returns-3)

@@ -16,16 +16,16 @@ use Rattle.merge_read.proofs.read_behind.Statement.{statement}
 use Rattle.merge_read.proofs.read_behind.Tie as tie
 
 -- the places: past the call, the call, and a text that is short enough
-abbrev call : tie.After-slice-known14 → tie.After-ask-text
+abbrev call : tie.After-slice_known-14-1 → tie.After-ask_text
 call c = c.before.before.before.before.before.before.before.before.before.before.before.before.before.before
 
-abbrev short : tie.After-ask-text-arg7 → tie.Else1
+abbrev short : tie.After-ask_text-arg-7-1 → tie.Else-text-gt-MAX_BYTES
 short c = c.before.before.before.before.before.before.before
 
-abbrev start : tie.Else1 → tie.Start
+abbrev start : tie.Else-text-gt-MAX_BYTES → tie.Start
 start c = c.before.before.before.before.before.before.before.before.before
 
-abbrev begun : tie.After-slice-known14 → tie.Start
+abbrev begun : tie.After-slice_known-14-1 → tie.Start
 begun c = start (short (call c).before)
 
 abbrev lent : tie.Start → ListRooms (List ℕ)
@@ -34,9 +34,9 @@ lent z =
     rooms a.numbers.now a.firsts.now a.lasts.now a.froms.now a.tos.now a.lows.now a.highs.now
 
 -- and their parts, after the call
-abbrev after : tie.After-ask-text → ListRooms (List ℕ)
+abbrev after : tie.After-ask_text → ListRooms (List ℕ)
 after c =
-    let k = c.ask-text.new.1.1 in
+    let k = c.ask_text.new.1.1 in
     rooms k.0 k.1.0 k.1.1.0 k.1.1.1.0 k.1.1.1.1.0 k.1.1.1.1.1.0 k.1.1.1.1.1.1.0
 
 -- a place with room behind it is a place of the array, also counted in bytes
@@ -46,21 +46,21 @@ within i most n h = omega arith
 scaled : (i most n : ℕ) → i + most ≤ n → n * 2 < 2 ^ 63 → Fits w64 (i * 2)
 scaled i most n h b = omega arith
 
-ask_text_requires : tie.Need-ask-text-requires
+ask_text_requires : tie.Need-ask_text-requires
 ask_text_requires c κs = let z = start (short c) in parts_hold z.args.units z.args.rules (lent z) z.pre
 
-returns-2 : tie.Need-returns-2
+returns-2 : tie.Need-returns
 returns-2 c =
-    let k = (call c).ask-text in
+    let k = (call c).ask_text in
     let e = short (call c).before in
     let z = start e in (
-      k.ensures.0 ∙ answer_short Ours z.args.text.now e.if1.left,
+      k.ensures.0 ∙ answer_short Ours z.args.text.now e.if-text-gt-MAX_BYTES.left,
       kept_behind z.args.units z.args.rules (lent z) z.pre z.args.text.now k.result (after (call c)) k.ensures.0 k.ensures.1,
     )
 
 pub read_behind_spec : {M : Type 1} → statement M
 read_behind_spec = tie.close (tie.spec
-    (λ c. (answer_long Ours c.before.before.before.before.before.before.before.before.before.args.text.now c.if1.true, tt))
+    (λ c. (answer_long Ours c.before.before.before.before.before.before.before.before.before.args.text.now c.if-text-gt-MAX_BYTES.true, tt))
     (λ c. let z = start c in scaled z.args.units max_units (length z.args.numbers.now) z.pre.in_loader z.good.1.1.1.0.1)
     (λ c. let z = start c in within z.args.units max_units (length z.args.numbers.now) z.pre.in_loader)
     (λ c. let z = start c in within z.args.units max_units (length z.args.numbers.now) z.pre.in_loader)
@@ -101,18 +101,18 @@ read_behind_spec = tie.close (tie.spec
     (λ c. le_refl (length (start c.before.before.before.before.before.before).args.highs.now))
     ask_text_requires
     (λ c. let z = begun c in
-    same_len_mid z.args.units (length (lent z).loader - z.args.units) (lent z).loader (after (call c)).loader (call c).ask-text.auto.1.1.0)
+    same_len_mid z.args.units (length (lent z).loader - z.args.units) (lent z).loader (after (call c)).loader (call c).ask_text.auto.1.1.0)
     (λ c. let z = begun c in
-    same_len_mid z.args.units (length (lent z).first - z.args.units) (lent z).first (after (call c)).first (call c).ask-text.auto.1.1.1.0)
+    same_len_mid z.args.units (length (lent z).first - z.args.units) (lent z).first (after (call c)).first (call c).ask_text.auto.1.1.1.0)
     (λ c. let z = begun c in
-    same_len_mid z.args.units (length (lent z).last - z.args.units) (lent z).last (after (call c)).last (call c).ask-text.auto.1.1.1.1.0)
+    same_len_mid z.args.units (length (lent z).last - z.args.units) (lent z).last (after (call c)).last (call c).ask_text.auto.1.1.1.1.0)
     (λ c. let z = begun c in
-    same_len_mid z.args.rules (length (lent z).from - z.args.rules) (lent z).from (after (call c)).from (call c).ask-text.auto.1.1.1.1.1.0)
+    same_len_mid z.args.rules (length (lent z).from - z.args.rules) (lent z).from (after (call c)).from (call c).ask_text.auto.1.1.1.1.1.0)
     (λ c. let z = begun c in
-    same_len_mid z.args.rules (length (lent z).to - z.args.rules) (lent z).to (after (call c)).to (call c).ask-text.auto.1.1.1.1.1.1.0)
+    same_len_mid z.args.rules (length (lent z).to - z.args.rules) (lent z).to (after (call c)).to (call c).ask_text.auto.1.1.1.1.1.1.0)
     (λ c. let z = begun c in
-    same_len_mid z.args.rules (length (lent z).low - z.args.rules) (lent z).low (after (call c)).low (call c).ask-text.auto.1.1.1.1.1.1.1.0)
+    same_len_mid z.args.rules (length (lent z).low - z.args.rules) (lent z).low (after (call c)).low (call c).ask_text.auto.1.1.1.1.1.1.1.0)
     (λ c. let z = begun c in
     same_len_mid z.args.rules (length (lent z).high - z.args.rules) (lent z).high (after (call c)).high
-    (call c).ask-text.auto.1.1.1.1.1.1.1.1.0)
+    (call c).ask_text.auto.1.1.1.1.1.1.1.1.0)
     returns-2)

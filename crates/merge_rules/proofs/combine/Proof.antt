@@ -14,21 +14,21 @@ use Rattle.merge_rules.proofs.CombiningLaws.{Combining, Roomy, SameLong, combini
 use Rattle.merge_rules.proofs.combine.Statement.{statement}
 use Rattle.merge_rules.proofs.combine.Tie as tie
 
-abbrev invariant-loop : tie.invariant-loop
+abbrev invariant-loop : tie.invariant-loop-i
 invariant-loop from to low high froms₀ tos₀ lows₀ highs₀ count₀ past₀ i₀ froms tos lows highs count past i =
     Combining (rules_of from to low high) (columns froms₀ tos₀ lows₀ highs₀) i count past (columns froms tos lows highs)
 
-abbrev decreases-loop : tie.decreases-loop
+abbrev decreases-loop : tie.decreases-loop-i
 decreases-loop from to low high froms₀ tos₀ lows₀ highs₀ count₀ past₀ i₀ froms tos lows highs count past i = length from - i
 
 -- the function's start from the loop's place; that place and the call from the end of a turn
-abbrev start : tie.At-loop invariant-loop decreases-loop → tie.Start invariant-loop decreases-loop
+abbrev start : tie.At-loop-i invariant-loop decreases-loop → tie.Start invariant-loop decreases-loop
 start c = c.before.before.before.before.before.before.before.before.before
 
-abbrev turn : tie.After-slice-known8 invariant-loop decreases-loop → tie.At-loop invariant-loop decreases-loop
+abbrev turn : tie.After-slice_known-in-loop-i-4-1 invariant-loop decreases-loop → tie.At-loop-i invariant-loop decreases-loop
 turn c = c.before.before.before.before.before.before.before.before.before.before.before.before.before.before.before.before.before.before
 
-abbrev call : tie.After-slice-known8 invariant-loop decreases-loop → tie.After-add-rule invariant-loop decreases-loop
+abbrev call : tie.After-slice_known-in-loop-i-4-1 invariant-loop decreases-loop → tie.After-add_rule-count invariant-loop decreases-loop
 call c = c.before.before.before.before.before.before.before.before
 
 -- the rules, and the arrays at the start
@@ -52,20 +52,20 @@ roomy c =
     }
 
 -- the arrays at the loop's place
-abbrev held : tie.At-loop invariant-loop decreases-loop → Columns
-held c = let l = c.loop in columns l.froms l.tos l.lows l.highs
+abbrev held : tie.At-loop-i invariant-loop decreases-loop → Columns
+held c = let l = c.loop-i in columns l.froms l.tos l.lows l.highs
 
 -- they are as long as they were
-long : (c : tie.At-loop invariant-loop decreases-loop) → SameLong (rooms (start c)) (held c)
-long c = let l = c.loop in same_long (rules (start c)) (rooms (start c)) l.i l.count l.past (held c) l.invariant (roomy (start c))
+long : (c : tie.At-loop-i invariant-loop decreases-loop) → SameLong (rooms (start c)) (held c)
+long c = let l = c.loop-i in same_long (rules (start c)) (rooms (start c)) l.i l.count l.past (held c) l.invariant (roomy (start c))
 
-loop-holds : tie.Need-loop-init invariant-loop decreases-loop
+loop-holds : tie.Need-loop-i-init invariant-loop decreases-loop
 loop-holds c = let s = c.before.before.before.before.before.before.before.before in combining_none (rules s) (rooms s)
 
-add_rule_requires : tie.Need-add-rule-requires invariant-loop decreases-loop
+add_rule_requires : tie.Need-add_rule-count-requires invariant-loop decreases-loop
 add_rule_requires c κs =
     let p = c.before.before.before.before.before.before.before.before.before in
-    let l = p.loop in
+    let l = p.loop-i in
     let r = roomy (start p) in
     let m = few (rules (start p)) (rooms (start p)) l.i l.count l.past (held p) l.invariant in
     let k : l.i < length (rules (start p)) = omega (arith, size (start p)) in (
@@ -76,41 +76,41 @@ add_rule_requires c κs =
     )
 
 -- the rule whose turn it is, and what the call leaves
-inside : (c : tie.After-slice-known8 invariant-loop decreases-loop) → (turn c).loop.i < length (rules (start (turn c)))
+inside : (c : tie.After-slice_known-in-loop-i-4-1 invariant-loop decreases-loop) → (turn c).loop-i.i < length (rules (start (turn c)))
 inside c = omega (arith, size (start (turn c)))
 
-added : (c : tie.After-slice-known8 invariant-loop decreases-loop) → let p = turn c in let s = start p in let k = (call c).add-rule in
-    AtFront (with_rule (merged_rules (take p.loop.i (rules s))) (get_or (rules s) p.loop.i no_rule)) k.result (rooms s)
+added : (c : tie.After-slice_known-in-loop-i-4-1 invariant-loop decreases-loop) → let p = turn c in let s = start p in let k = (call c).add_rule-count in
+    AtFront (with_rule (merged_rules (take p.loop-i.i (rules s))) (get_or (rules s) p.loop-i.i no_rule)) k.result (rooms s)
     (columns k.last.1.1.1.1.1.0 k.last.1.1.1.1.1.1.0 k.last.1.1.1.1.1.1.1.0 k.last.1.1.1.1.1.1.1.1.0)
 added c =
     let p = turn c in
     let s = start p in
     let a = s.args in
-    let i = p.loop.i in
+    let i = p.loop-i.i in
     let h : i < length a.from.now = omega (arith, inside c, size s) in
     let e = rules_of_at a.from.now a.to.now a.low.now a.high.now s.pre.0.0 s.pre.0.1 s.pre.0.2 i h in
-    rw e ((call c).add-rule.ensures (merged_rules (take i (rules s))) (rooms s) p.loop.inv.held)
+    rw e ((call c).add_rule-count.ensures (merged_rules (take i (rules s))) (rooms s) p.loop-i.inv.held)
 
-loop-again : tie.Need-loop-preserved invariant-loop decreases-loop
+loop-again : tie.Need-loop-i-preserved-then-count-le-MAX_RULES invariant-loop decreases-loop
 loop-again c =
     let p = turn c.before in
-    let l = p.loop in
+    let l = p.loop-i in
     let s = start p in
-    let k = (call c.before).add-rule in
+    let k = (call c.before).add_rule-count in
     still_fit (rules s) (rooms s) l.i l.count l.past (held p) l.inv (inside c.before) k.result _ (added c.before) (omega arith)
 
-loop-again-2 : tie.Need-loop-preserved-2 invariant-loop decreases-loop
+loop-again-2 : tie.Need-loop-i-preserved invariant-loop decreases-loop
 loop-again-2 c =
     let p = turn c.before in
-    let l = p.loop in
+    let l = p.loop-i in
     let s = start p in
-    let k = (call c.before).add-rule in
+    let k = (call c.before).add_rule-count in
     too_many_lem (rules s) (rooms s) l.i l.count l.past (held p) l.inv (inside c.before) k.result _ (added c.before) (omega arith)
 
 returns : tie.Need-returns invariant-loop decreases-loop
 returns c =
     let p = c.before in
-    let l = p.loop in
+    let l = p.loop-i in
     let s = start p in
     let e : length (rules s) ≤ l.i = omega (arith, size s) in
     let h = all_held (rules s) (rooms s) l.i l.count l.past (held p) l.invariant e in

@@ -15,10 +15,10 @@ use Rattle.merge_rules.proofs.first_crossed.Tie as tie
 abbrev crossed_at : List ℕ → List ℕ → ℕ → Bool
 crossed_at low high j = ltb (get_or high j 0) (get_or low j 0)
 
-abbrev invariant-loop : tie.invariant-loop
+abbrev invariant-loop : tie.invariant-loop-j
 invariant-loop low high j₀ j = (j ≤ length low) × (first_from (length low - j) j (crossed_at low high) ≡ first_place (length low) (crossed_at low high))
 
-abbrev decreases-loop : tie.decreases-loop
+abbrev decreases-loop : tie.decreases-loop-j
 decreases-loop low high j₀ j = length low - j
 
 abbrev test : tie.Start invariant-loop decreases-loop → ℕ → Bool
@@ -27,20 +27,20 @@ test c = crossed_at c.args.low.now c.args.high.now
 abbrev size : tie.Start invariant-loop decreases-loop → ℕ
 size c = length c.args.low.now
 
-returns : tie.Need-returns invariant-loop decreases-loop
+returns : tie.Need-returns-then-high-j invariant-loop decreases-loop
 returns c =
     let l = c.before.before.before.before in
-    sym (first_passed (test l.before) (size l.before) l.loop.j (omega arith) (lt-ltb _ _ c.if1.true)) ∙ l.loop.invariant.1
+    sym (first_passed (test l.before) (size l.before) l.loop-j.j (omega arith) (lt-ltb _ _ c.if-high-j.true)) ∙ l.loop-j.invariant.1
 
-loop-again : tie.Need-loop-preserved invariant-loop decreases-loop
+loop-again : tie.Need-loop-j-preserved invariant-loop decreases-loop
 loop-again c =
     let l = c.before.before.before.before in
-    (omega arith, first_failed (test l.before) (size l.before) l.loop.j (omega arith) (le-ltb _ _ c.if1.false) ∙ l.loop.invariant.1)
+    (omega arith, first_failed (test l.before) (size l.before) l.loop-j.j (omega arith) (le-ltb _ _ c.if-high-j.false) ∙ l.loop-j.invariant.1)
 
-returns-2 : tie.Need-returns-2 invariant-loop decreases-loop
+returns-2 : tie.Need-returns-then-high-j invariant-loop decreases-loop
 returns-2 c =
     let l = c.before in
-    sym (first_none (test l.before) (size l.before) l.loop.j (omega arith)) ∙ l.loop.invariant.1
+    sym (first_none (test l.before) (size l.before) l.loop-j.j (omega arith)) ∙ l.loop-j.invariant.1
 
 pub first_crossed_spec : {M : Type 1} → statement M
 first_crossed_spec = tie.close (tie.spec invariant-loop decreases-loop (λ c. (omega arith, ap (λ (k : ℕ). first_from k 0 (test c)) (sub-zero (size c)))) (λ c. omega arith)

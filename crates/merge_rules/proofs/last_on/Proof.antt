@@ -11,37 +11,37 @@ use Rattle.merge_rules.proofs.StretchLaws.{same_from, other_from}
 use Rattle.merge_rules.proofs.last_on.Statement.{statement}
 use Rattle.merge_rules.proofs.last_on.Tie as tie
 
-abbrev invariant-loop : tie.invariant-loop
+abbrev invariant-loop : tie.invariant-loop-n
 invariant-loop froms tos f t n₀ n = let s = stretch_at froms tos f t in (n ≤ length froms) × (last_below (length froms) n s ≡ last_passing (length froms) s)
 
-abbrev decreases-loop : tie.decreases-loop
+abbrev decreases-loop : tie.decreases-loop-n
 decreases-loop froms tos f t n₀ n = n
 
 abbrev test : tie.Start invariant-loop decreases-loop → ℕ → Bool
 test c = let a = c.args in stretch_at a.froms.now a.tos.now a.f a.t
 
-returns : tie.Need-returns invariant-loop decreases-loop
+returns : tie.Need-returns-then-tos-n invariant-loop decreases-loop
 returns c =
     let l = c.before.before.before.before.before in
     let a = l.before.args in
-    let here = same_from a.froms.now a.tos.now a.f a.t (l.loop.n - 1) c.before.before.if1.true ∙ c.if2.true in
-    last_passed (test l.before) (length a.froms.now) l.loop.n (omega arith) here ∙ l.loop.invariant.1
+    let here = same_from a.froms.now a.tos.now a.f a.t (l.loop-n.n - 1) c.before.before.if-froms-n.true ∙ c.if-tos-n.true in
+    last_passed (test l.before) (length a.froms.now) l.loop-n.n (omega arith) here ∙ l.loop-n.invariant.1
 
-loop-again : tie.Need-loop-preserved invariant-loop decreases-loop
+loop-again : tie.Need-loop-n-preserved invariant-loop decreases-loop
 loop-again c =
     let l = c.before.before.before in
     let a = l.before.args in
     let other =
-    ⊎_elim (λ w. same_from a.froms.now a.tos.now a.f a.t (l.loop.n - 1) w.0.taken ∙ w.2.left)
-    (λ w. other_from a.froms.now a.tos.now a.f a.t (l.loop.n - 1) w.left) c.if1.branch in
-    (omega arith, last_failed (test l.before) (length a.froms.now) l.loop.n (omega arith) other ∙ l.loop.invariant.1)
+    ⊎_elim (λ w. same_from a.froms.now a.tos.now a.f a.t (l.loop-n.n - 1) w.0.taken ∙ w.2.left)
+    (λ w. other_from a.froms.now a.tos.now a.f a.t (l.loop-n.n - 1) w.left) c.if1.branch in
+    (omega arith, last_failed (test l.before) (length a.froms.now) l.loop-n.n (omega arith) other ∙ l.loop-n.invariant.1)
 
-returns-2 : tie.Need-returns-2 invariant-loop decreases-loop
+returns-2 : tie.Need-returns invariant-loop decreases-loop
 returns-2 c =
     let l = c.before in
     let a = l.before.args in
-    let e : l.loop.n ≡ 0 = omega arith in
-    ap (λ (k : ℕ). last_below (length a.froms.now) k (test l.before)) (sym e) ∙ l.loop.invariant.1
+    let e : l.loop-n.n ≡ 0 = omega arith in
+    ap (λ (k : ℕ). last_below (length a.froms.now) k (test l.before)) (sym e) ∙ l.loop-n.invariant.1
 
 pub last_on_spec : {M : Type 1} → statement M
 last_on_spec = tie.close (tie.spec invariant-loop decreases-loop (λ c. (omega arith, refl)) (λ c. omega arith) (λ c. omega arith)

@@ -11,35 +11,35 @@ use Rattle.merge_rules.proofs.StretchLaws.{same_from, other_from}
 use Rattle.merge_rules.proofs.place_of.Statement.{statement}
 use Rattle.merge_rules.proofs.place_of.Tie as tie
 
-abbrev invariant-loop : tie.invariant-loop
+abbrev invariant-loop : tie.invariant-loop-j
 invariant-loop froms tos n f t j₀ j = (j ≤ n) × (first_from (n - j) j (stretch_at froms tos f t) ≡ first_place n (stretch_at froms tos f t))
 
-abbrev decreases-loop : tie.decreases-loop
+abbrev decreases-loop : tie.decreases-loop-j
 decreases-loop froms tos n f t j₀ j = n - j
 
 abbrev test : tie.Start invariant-loop decreases-loop → ℕ → Bool
 test c = let a = c.args in stretch_at a.froms.now a.tos.now a.f a.t
 
-returns : tie.Need-returns invariant-loop decreases-loop
+returns : tie.Need-returns-then-tos-j invariant-loop decreases-loop
 returns c =
     let l = c.before.before.before.before.before in
     let a = l.before.args in
-    let here = same_from a.froms.now a.tos.now a.f a.t l.loop.j c.before.before.if1.true ∙ c.if2.true in
-    sym (first_passed (test l.before) a.n l.loop.j (omega arith) here) ∙ l.loop.invariant.1
+    let here = same_from a.froms.now a.tos.now a.f a.t l.loop-j.j c.before.before.if-froms-j.true ∙ c.if-tos-j.true in
+    sym (first_passed (test l.before) a.n l.loop-j.j (omega arith) here) ∙ l.loop-j.invariant.1
 
-loop-again : tie.Need-loop-preserved invariant-loop decreases-loop
+loop-again : tie.Need-loop-j-preserved invariant-loop decreases-loop
 loop-again c =
     let l = c.before.before.before in
     let a = l.before.args in
     let other =
-    ⊎_elim (λ w. same_from a.froms.now a.tos.now a.f a.t l.loop.j w.0.taken ∙ w.2.left)
-    (λ w. other_from a.froms.now a.tos.now a.f a.t l.loop.j w.left) c.if1.branch in
-    (omega arith, first_failed (test l.before) a.n l.loop.j (omega arith) other ∙ l.loop.invariant.1)
+    ⊎_elim (λ w. same_from a.froms.now a.tos.now a.f a.t l.loop-j.j w.0.taken ∙ w.2.left)
+    (λ w. other_from a.froms.now a.tos.now a.f a.t l.loop-j.j w.left) c.if1.branch in
+    (omega arith, first_failed (test l.before) a.n l.loop-j.j (omega arith) other ∙ l.loop-j.invariant.1)
 
-returns-2 : tie.Need-returns-2 invariant-loop decreases-loop
+returns-2 : tie.Need-returns invariant-loop decreases-loop
 returns-2 c =
     let l = c.before in
-    sym (first_none (test l.before) l.before.args.n l.loop.j (omega arith)) ∙ l.loop.invariant.1
+    sym (first_none (test l.before) l.before.args.n l.loop-j.j (omega arith)) ∙ l.loop-j.invariant.1
 
 pub place_of_spec : {M : Type 1} → statement M
 place_of_spec = tie.close (tie.spec invariant-loop decreases-loop (λ c. (omega arith, ap (λ (k : ℕ). first_from k 0 (test c)) (sub-zero c.args.n))) (λ c. omega arith)

@@ -15,45 +15,45 @@ use Rattle.merge_stretches.proofs.ask_combined.Statement.{statement}
 use Rattle.merge_stretches.proofs.ask_combined.Tie as tie
 
 -- the function's start from the search's place
-abbrev start : tie.After-first-crossed → tie.Start
+abbrev start : tie.After-first_crossed-p → tie.Start
 start c = c.before.before.before.before.before.before.before.before
 
 -- where the second's last rule on a stretch is
 abbrev last : tie.Start → Rule → ℕ
 last z = last_at z.args.from.now z.args.to.now
 
-returns : tie.Need-returns
+returns : tie.Need-returns-then-p-froms
 returns c =
     let s = c.before.before.before.before.before in
     let z = start s in
     let a = z.args in
-    let e = s.first-crossed.ensures in
-    ap (no 21) c.line-number.ensures
-    ∙ ap (λ (j : ℕ). no 21 (line_number a.two.now Kind.Rule j)) (c.before.last_on.ensures
+    let e = s.first_crossed-p.ensures in
+    ap (no 21) c.line_number.ensures
+    ∙ ap (λ (j : ℕ). no 21 (line_number a.two.now Kind.Rule j)) (c.before.last_on-last.ensures
     ∙ ap (λ (p : ℕ). last_passing (length a.from.now) (stretch_at a.from.now a.to.now (get_or a.froms.now p 0) (get_or a.tos.now p 0))) e)
     ∙ sym (no_21 a.two.now a.froms.now a.tos.now a.lows.now a.highs.now z.pre.1 z.pre.2 z.pre.3 (last z) a.past
-    (omega (arith, e, c.before.before.before.before.if1.true)))
+    (omega (arith, e, c.before.before.before.before.if-p-froms.true)))
 
-returns-2 : tie.Need-returns-2
+returns-2 : tie.Need-returns-then-froms-gt-MAX_RULES
 returns-2 c =
     let s = c.before.before.before in
     let z = start s in
     let a = z.args in
-    ap (no 10) c.line-number2.ensures
+    ap (no 10) c.line_number-then-froms-gt-MAX_RULES.ensures
     ∙ sym (no_10 a.two.now a.froms.now a.tos.now a.lows.now a.highs.now z.pre.1 z.pre.2 z.pre.3 (last z) a.past
-    (omega (arith, s.first-crossed.ensures, c.before.before.if1.false)) c.before.if2.true)
+    (omega (arith, s.first_crossed-p.ensures, c.before.before.if-p-froms.false)) c.before.if-froms-gt-MAX_RULES.true)
 
-returns-3 : tie.Need-returns-3
+returns-3 : tie.Need-returns-then-p-froms
 returns-3 c =
     let s = c.before.before in
     let z = start s in
     let a = z.args in
     sym (all_yes_lem a.two.now a.froms.now a.tos.now a.lows.now a.highs.now z.pre.1 z.pre.2 z.pre.3 (last z) a.past
-    (omega (arith, s.first-crossed.ensures, c.before.if1.false)) c.if2.false)
+    (omega (arith, s.first_crossed-p.ensures, c.before.if-p-froms.false)) c.if-froms-gt-MAX_RULES.false)
 
 pub ask_combined_spec : {M : Type 1} → statement M
 ask_combined_spec = tie.close (tie.spec
     (λ c κs. let z = c.before.before.before.before.before.before.before in z.requires.3 ∙ sym z.requires.2)
-    (λ c. omega arith) (λ c. c.before.if1.true) (λ c. omega arith)
-    (λ c. omega (arith, (start c.before.before.before).requires.1, c.before.before.if1.true))
+    (λ c. omega arith) (λ c. c.before.if-p-froms.true) (λ c. omega arith)
+    (λ c. omega (arith, (start c.before.before.before).requires.1, c.before.before.if-p-froms.true))
     (λ c κs. (start c.before.before.before).requires.0) (λ c κs. tt) returns (λ c κs. tt) returns-2 returns-3)

@@ -19,14 +19,14 @@ use Rattle.merge_stretches.proofs.ask_rules.Statement.{statement}
 use Rattle.merge_stretches.proofs.ask_rules.Tie as tie
 
 -- the places: the questions' call, the combining's, and the function's start
-abbrev combined : tie.After-slice-known8 → tie.After-combine
+abbrev combined : tie.After-slice_known-8-1 → tie.After-combine-all
 combined c = c.before.before.before.before.before.before.before.before
 
-abbrev start : tie.After-combine → tie.Start
+abbrev start : tie.After-combine-all → tie.Start
 start c = c.before.before.before.before.before.before.before.before.before.before.before.before.before.before
 
 -- from the last argument on, back to where the arrays came back
-abbrev come_back : tie.After-struct-known → tie.After-slice-known8
+abbrev come_back : tie.After-struct_known-1 → tie.After-slice_known-8-1
 come_back c = c.before.before.before
 
 abbrev rules : tie.Start → List Rule
@@ -37,27 +37,27 @@ few z =
     let a = z.args in
     omega (arith, rules_of_length a.from.now a.to.now a.low.now a.high.now z.requires.0.0 z.requires.0.1 z.requires.0.2, z.requires.1.1.0)
 
-not_below : tie.Need-overflow-sub-ask-combined-3
+not_below : tie.Need-overflow_sub-all
 not_below c =
     let k = combined (come_back c) in
     let z = start k in
-    omega (arith, k.combine.ensures.1.0, past_first (rules z) z.args.n (few z) z.pre.1.1.1)
+    omega (arith, k.combine-all.ensures.1.0, past_first (rules z) z.args.n (few z) z.pre.1.1.1)
 
 -- the combined rules, and that each array holds a column of them
-abbrev merged : tie.After-combine → List Rule
+abbrev merged : tie.After-combine-all → List Rule
 merged k = merged_rules (rules (start k))
 
-froms_hold : (k : tie.After-combine) → k.combine.result.count ≤ length k.combine.new.1.1.1.1.0
-froms_hold k = front_holds (λ r. r.from) (merged k) _ _ _ k.combine.ensures.0 k.combine.ensures.1.1.0
+froms_hold : (k : tie.After-combine-all) → k.combine-all.result.count ≤ length k.combine-all.new.1.1.1.1.0
+froms_hold k = front_holds (λ r. r.from) (merged k) _ _ _ k.combine-all.ensures.0 k.combine-all.ensures.1.1.0
 
-tos_hold : (k : tie.After-combine) → k.combine.result.count ≤ length k.combine.new.1.1.1.1.1.0
-tos_hold k = front_holds (λ r. r.to) (merged k) _ _ _ k.combine.ensures.0 k.combine.ensures.1.1.1.0
+tos_hold : (k : tie.After-combine-all) → k.combine-all.result.count ≤ length k.combine-all.new.1.1.1.1.1.0
+tos_hold k = front_holds (λ r. r.to) (merged k) _ _ _ k.combine-all.ensures.0 k.combine-all.ensures.1.1.1.0
 
-lows_hold : (k : tie.After-combine) → k.combine.result.count ≤ length k.combine.new.1.1.1.1.1.1.0
-lows_hold k = front_holds (λ r. r.low) (merged k) _ _ _ k.combine.ensures.0 k.combine.ensures.1.1.1.1.0
+lows_hold : (k : tie.After-combine-all) → k.combine-all.result.count ≤ length k.combine-all.new.1.1.1.1.1.1.0
+lows_hold k = front_holds (λ r. r.low) (merged k) _ _ _ k.combine-all.ensures.0 k.combine-all.ensures.1.1.1.1.0
 
-highs_hold : (k : tie.After-combine) → k.combine.result.count ≤ length k.combine.new.1.1.1.1.1.1.1.0
-highs_hold k = front_holds (λ r. r.high) (merged k) _ _ _ k.combine.ensures.0 k.combine.ensures.1.1.1.1.1
+highs_hold : (k : tie.After-combine-all) → k.combine-all.result.count ≤ length k.combine-all.new.1.1.1.1.1.1.1.0
+highs_hold k = front_holds (λ r. r.high) (merged k) _ _ _ k.combine-all.ensures.0 k.combine-all.ensures.1.1.1.1.1
 
 -- so many places of an array that holds them
 so_many : (n : ℕ) (xs : List ℕ) → n ≤ length xs → n ≡ length (take n xs)
@@ -66,12 +66,12 @@ so_many n xs h = sym (length-take-le n xs h)
 same_many : (n : ℕ) (xs ys : List ℕ) → n ≤ length xs → n ≤ length ys → length (take n xs) ≡ length (take n ys)
 same_many n xs ys h g = length-take-le n xs h ∙ so_many n ys g
 
-ask_combined_requires : tie.Need-ask-combined-requires
+ask_combined_requires : tie.Need-ask_combined-asked-requires
 ask_combined_requires c κs =
     let k = combined (come_back c.before.before.before.before) in
     let z = start k in
     let a = z.args in
-    let n = k.combine.result.count in (
+    let n = k.combine-all.result.count in (
       part_long a.to.now a.n ∙ ap (λ (m : ℕ). m - a.n) z.pre.0.0 ∙ sym (part_long a.from.now a.n),
       same_many n _ _ (tos_hold k) (froms_hold k),
       same_many n _ _ (lows_hold k) (froms_hold k),
@@ -79,7 +79,7 @@ ask_combined_requires c κs =
     )
 
 -- the combining, from the answer's arms
-abbrev asked_of : tie.After-ask-combined → tie.After-combine
+abbrev asked_of : tie.After-ask_combined-asked → tie.After-combine-all
 asked_of q = combined (come_back q.before.before.before.before.before)
 
 -- where the last of the rules past the first's is that are on a stretch
@@ -89,30 +89,30 @@ last z =
     last_at (take (length a.from.now - a.n) (drop a.n a.from.now)) (take (length a.to.now - a.n) (drop a.n a.to.now))
 
 -- what was asked of the combined rules was asked of the two sheets' rules
-asked_both : (c : tie.After-ask-combined) → let z = start (asked_of c) in
-    verdict_of c.ask-combined.result ≡ first_no (rule_questions z.args.two.now (take z.args.n (rules z)) (drop z.args.n (rules z)))
+asked_both : (c : tie.After-ask_combined-asked) → let z = start (asked_of c) in
+    verdict_of c.ask_combined-asked.result ≡ first_no (rule_questions z.args.two.now (take z.args.n (rules z)) (drop z.args.n (rules z)))
 asked_both c =
     let k = asked_of c in
     let z = start k in
     let a = z.args in
-    let e = k.combine.ensures in
-    c.ask-combined.ensures
-    ∙ asked_is a.two.now (last z) (rules z) _ a.n k.combine.result.past
+    let e = k.combine-all.ensures in
+    c.ask_combined-asked.ensures
+    ∙ asked_is a.two.now (last z) (rules z) _ a.n k.combine-all.result.past
     (last_past a.from.now a.to.now a.low.now a.high.now z.pre.0.0 z.pre.0.1 z.pre.0.2 a.n)
-    (fronts_are (merged k) k.combine.result.count e.0 _ _ _ _ _ _ _ _ e.1.1.0 e.1.1.1.0 e.1.1.1.1.0 e.1.1.1.1.1)
+    (fronts_are (merged k) k.combine-all.result.count e.0 _ _ _ _ _ _ _ _ e.1.1.0 e.1.1.1.0 e.1.1.1.1.0 e.1.1.1.1.1)
     e.1.0 (few z)
 
-returns : tie.Need-returns
+returns : tie.Need-returns-in-No
 returns c =
     let q = c.before.before.before in
     let k = asked_of q in
-    (sym (ap verdict_of c.before.asked.given.1) ∙ asked_both q, (tt, k.combine.ensures.1.1))
+    (sym (ap verdict_of c.before.asked-1.given.1) ∙ asked_both q, (tt, k.combine-all.ensures.1.1))
 
-returns-2 : tie.Need-returns-2
+returns-2 : tie.Need-returns-in-Yes
 returns-2 c =
     let q = c.before.before in
     let k = asked_of q in
-    (sym (ap verdict_of c.enum_told.given.1) ∙ asked_both q, (k.combine.ensures.0, k.combine.ensures.1.1))
+    (sym (ap verdict_of c.enum_told-1.given.1) ∙ asked_both q, (k.combine-all.ensures.0, k.combine-all.ensures.1.1))
 
 pub ask_rules_spec : {M : Type 1} → statement M
 ask_rules_spec = tie.close (tie.spec
@@ -125,10 +125,10 @@ ask_rules_spec = tie.close (tie.spec
     (λ c. lows_hold (combined (come_back c.before.before))) (λ c. so_many _ _ (lows_hold (combined (come_back c.before.before.before))))
     (λ c. highs_hold (combined (come_back c.before.before.before)))
     (λ c. so_many _ _ (highs_hold (combined (come_back c.before.before.before.before))))
-    ask_combined_requires (λ c. c.match.keys1) (λ c. c.match.keys2)
-    (λ c. (asked_of c.before.before.before).combine.auto.1.1.1.1.0) (λ c. (asked_of c.before.before.before).combine.auto.1.1.1.1.1.0)
-    (λ c. (asked_of c.before.before.before).combine.auto.1.1.1.1.1.1.0)
-    (λ c. (asked_of c.before.before.before).combine.auto.1.1.1.1.1.1.1.0) returns
-    (λ c. (asked_of c.before.before).combine.auto.1.1.1.1.0) (λ c. (asked_of c.before.before).combine.auto.1.1.1.1.1.0)
-    (λ c. (asked_of c.before.before).combine.auto.1.1.1.1.1.1.0)
-    (λ c. (asked_of c.before.before).combine.auto.1.1.1.1.1.1.1.0) returns-2)
+    ask_combined_requires (λ c. c.in-No.keys1) (λ c. c.in-Yes.keys2)
+    (λ c. (asked_of c.before.before.before).combine-all.auto.1.1.1.1.0) (λ c. (asked_of c.before.before.before).combine-all.auto.1.1.1.1.1.0)
+    (λ c. (asked_of c.before.before.before).combine-all.auto.1.1.1.1.1.1.0)
+    (λ c. (asked_of c.before.before.before).combine-all.auto.1.1.1.1.1.1.1.0) returns
+    (λ c. (asked_of c.before.before).combine-all.auto.1.1.1.1.0) (λ c. (asked_of c.before.before).combine-all.auto.1.1.1.1.1.0)
+    (λ c. (asked_of c.before.before).combine-all.auto.1.1.1.1.1.1.0)
+    (λ c. (asked_of c.before.before).combine-all.auto.1.1.1.1.1.1.1.0) returns-2)

@@ -11,37 +11,37 @@ use Rattle.merge_units.proofs.ask_units.Statement.{statement}
 use Rattle.merge_units.proofs.ask_units.Tie as tie
 
 -- the function's start from the spans' answer and from that of the search
-abbrev start : tie.Else1 → tie.Start
+abbrev start : tie.Else-p-q → tie.Start
 start c = c.before.before.before.before
 
-returns : tie.Need-returns
+returns : tie.Need-returns-then-p-q
 returns c =
     let a = c.before.before.before.before.before.args in
-    c.refuse.ensures ∙ sym (no_19 a.two.now a.p a.q a.ones.now a.twos.now c.before.if1.true)
+    c.refuse.ensures ∙ sym (no_19 a.two.now a.p a.q a.ones.now a.twos.now c.before.if-p-q.true)
 
-returns-2 : tie.Need-returns-2
+returns-2 : tie.Need-returns-then-j-twos
 returns-2 c =
     let s = c.before.before in
     let a = (start s.before).args in
-    let e = s.first-shared.ensures in
-    c.refuse2.ensures ∙ ap (λ (j : ℕ). no 20 (line_number a.two.now Kind.Unit j)) e
-    ∙ sym (no_20 a.two.now a.p a.q a.ones.now a.twos.now s.before.if1.false (omega (arith, e, c.before.if2.true)))
+    let e = s.first_shared-j.ensures in
+    c.refuse-then-j-twos.ensures ∙ ap (λ (j : ℕ). no 20 (line_number a.two.now Kind.Unit j)) e
+    ∙ sym (no_20 a.two.now a.p a.q a.ones.now a.twos.now s.before.if-p-q.false (omega (arith, e, c.before.if-j-twos.true)))
 
-returns-3 : tie.Need-returns-3
+returns-3 : tie.Need-returns-then-left-twos
 returns-3 c =
     let s = c.before.before.before in
     let a = (start s.before).args in
-    c.refuse3.ensures
-    ∙ sym (no_9 a.two.now a.p a.q a.ones.now a.twos.now s.before.if1.false
-    (omega (arith, s.first-shared.ensures, c.before.before.if2.false)) c.before.if3.true)
+    c.refuse-then-left-twos.ensures
+    ∙ sym (no_9 a.two.now a.p a.q a.ones.now a.twos.now s.before.if-p-q.false
+    (omega (arith, s.first_shared-j.ensures, c.before.before.if-j-twos.false)) c.before.if-left-twos.true)
 
-returns-4 : tie.Need-returns-4
+returns-4 : tie.Need-returns
 returns-4 c =
     let s = c.before.before in
     let z = start s.before in
     let a = z.args in
-    sym (all_yes_lem a.two.now a.p a.q a.ones.now a.twos.now s.before.if1.false
-    (omega (arith, s.first-shared.ensures, c.before.if2.false)) z.pre.0 c.if3.false)
+    sym (all_yes_lem a.two.now a.p a.q a.ones.now a.twos.now s.before.if-p-q.false
+    (omega (arith, s.first_shared-j.ensures, c.before.if-j-twos.false)) z.pre.0 c.if-left-twos.false)
 
 pub ask_units_spec : {M : Type 1} → statement M
 ask_units_spec = tie.close (tie.spec (λ c κs. tt) returns (λ c κs. search rules) (λ c κs. tt) returns-2 (λ c. search rules) (λ c κs. tt)

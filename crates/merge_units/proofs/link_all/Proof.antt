@@ -9,17 +9,17 @@ use Rattle.loaders.specs.ChainLaws.{linked_none, linked_more}
 use Rattle.merge_units.proofs.link_all.Statement.{statement}
 use Rattle.merge_units.proofs.link_all.Tie as tie
 
-abbrev invariant-loop : tie.invariant-loop
+abbrev invariant-loop : tie.invariant-loop-j
 invariant-loop ks heads₀ nexts₀ j₀ j-end heads nexts j = (j ≤ length ks) × (length nexts ≡ max_units) × Linked ks j heads nexts
 
-abbrev decreases-loop : tie.decreases-loop
+abbrev decreases-loop : tie.decreases-loop-j
 decreases-loop ks heads₀ nexts₀ j₀ j-end heads nexts j = length ks - j
 
 -- the function's start from the loop's place
-abbrev start : tie.At-loop invariant-loop decreases-loop → tie.Start invariant-loop decreases-loop
+abbrev start : tie.At-loop-j invariant-loop decreases-loop → tie.Start invariant-loop decreases-loop
 start c = c.before.before.before.before
 
-loop-holds : tie.Need-loop-init invariant-loop decreases-loop
+loop-holds : tie.Need-loop-j-init invariant-loop decreases-loop
 loop-holds c =
     let s = c.before.before.before in
     let nexts = s.args.nexts.now in
@@ -28,14 +28,14 @@ loop-holds c =
 link_requires : tie.Need-link-requires invariant-loop decreases-loop
 link_requires c κs =
     let p = c.before.before.before.before in
-    let l = p.loop.invariant in
+    let l = p.loop-j.invariant in
     (l.2.wide, omega (arith, (start p).requires.0), omega (arith, (start p).requires.0, l.1))
 
-loop-again : tie.Need-loop-preserved invariant-loop decreases-loop
+loop-again : tie.Need-loop-j-preserved invariant-loop decreases-loop
 loop-again c =
     let k = c.before.before.before.before.link in
     let p = c.before.before.before.before.before.before.before.before.before in
-    let l = p.loop in
+    let l = p.loop-j in
     let z = start p in (
       omega arith,
       k.auto.1.1.1.0 ∙ l.invariant.1,
@@ -43,15 +43,15 @@ loop-again c =
     )
 
 -- the chains are as many as they were
-same_length : tie.Need-same-length invariant-loop decreases-loop
-same_length c = let p = c.before in p.loop.invariant.2.wide ∙ sym (ap length (start p).requires.1 ∙ length-replicate {A = ℕ} chains 0)
+same_length : tie.Need-shape_of-heads invariant-loop decreases-loop
+same_length c = let p = c.before in p.loop-j.invariant.2.wide ∙ sym (ap length (start p).requires.1 ∙ length-replicate {A = ℕ} chains 0)
 
 returns : tie.Need-returns invariant-loop decreases-loop
 returns c =
     let p = c.before in
-    let e : p.loop.j ≡ length (start p).args.ks.now = omega arith in
-    subst (λ n. Linked (start p).args.ks.now n p.loop.heads p.loop.nexts) e p.loop.invariant.2
+    let e : p.loop-j.j ≡ length (start p).args.ks.now = omega arith in
+    subst (λ n. Linked (start p).args.ks.now n p.loop-j.heads p.loop-j.nexts) e p.loop-j.invariant.2
 
 pub link_all_spec : {M : Type 1} → statement M
 link_all_spec = tie.close (tie.spec invariant-loop decreases-loop loop-holds (λ c. omega arith) (λ c. omega arith) link_requires (λ c. omega arith) (λ c. omega arith)
-    loop-again same_length (λ c. c.before.loop.invariant.1 ∙ sym (start c.before).pre.2) returns)
+    loop-again same_length (λ c. c.before.loop-j.invariant.1 ∙ sym (start c.before).pre.2) returns)

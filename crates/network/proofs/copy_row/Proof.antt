@@ -12,23 +12,23 @@ use Rattle.lists.specs.Fill.{FillInv, fill_start, fill_next, fill_end, filled_co
 use Rattle.network.proofs.copy_row.Statement.{statement}
 use Rattle.network.proofs.copy_row.Tie as tie
 
-abbrev invariant-loop : tie.invariant-loop
+abbrev invariant-loop : tie.invariant-loop-i
 invariant-loop row out₀ i₀ i-end out i = (i-end ≡ length row) × FillInv (λ (j : ℕ). get_or row j (pos 0)) (length row) out₀ i out
 
-abbrev decreases-loop : tie.decreases-loop
+abbrev decreases-loop : tie.decreases-loop-i
 decreases-loop row out₀ i₀ i-end out i = length row - i
 
-loop-again : tie.Need-loop-preserved invariant-loop decreases-loop
+loop-again : tie.Need-loop-i-preserved invariant-loop decreases-loop
 loop-again c =
     let row = c.before.before.before.args.row.now in
-    let l = c.before.before.loop in
+    let l = c.before.before.loop-i in
     let f : SFits w16 (get_or row l.i (pos 0)) = search rules in
     (refl, fill_next l.invariant.1 (to_z-of_z f) (omega arith) (omega arith))
 
 returns : tie.Need-returns invariant-loop decreases-loop
 returns c =
     let a = c.before.before.args in
-    let l = c.before.loop in
+    let l = c.before.loop-i in
     filled_copy (pos 0) a.row.now a.out.now l.out (fill_end l.invariant.1 (omega arith))
 
 pub copy_row_spec : {M : Type 1} → statement M

@@ -22,7 +22,7 @@ returns c =
     let t = st.args.t.now in
     let out = st.args.out.now in
     let k : i + w - i ≡ w = omega arith in
-    r.copy-row.ensures
+    r.copy_row.ensures
     ∙ ap (λ (n : ℕ). take (i + w - i) (drop i t) ++ drop n out) (part_length i (i + w - i) t (omega (arith, inside st)))
     ∙ ap (λ (n : ℕ). take n (drop i t) ++ drop n out) k
 

@@ -15,28 +15,28 @@ use Rattle.network.specs.RowStep.{relaxed_at}
 use Rattle.network.proofs.relax_row.Statement.{statement}
 use Rattle.network.proofs.relax_row.Tie as tie
 
-abbrev invariant-loop : tie.invariant-loop
+abbrev invariant-loop : tie.invariant-loop-b
 invariant-loop row₀ mid am b₀ b_end row b = (b_end ≡ length row₀) × FillInv (relaxed_at (to_z w16 am) mid row₀) (length row₀) row₀ b row
 
-abbrev decreases-loop : tie.decreases-loop
+abbrev decreases-loop : tie.decreases-loop-b
 decreases-loop row₀ mid am b₀ b_end row b = length row₀ - b
 
-add_lesser : tie.Need-overflow-add-lesser invariant-loop decreases-loop
+add_lesser : tie.Need-overflow_add-am invariant-loop decreases-loop
 add_lesser c =
     let st = c.before.before.before.before in
     let mid = st.args.mid.now in
-    let b = c.before.before.before.loop.b in
+    let b = c.before.before.before.loop-b.b in
     let h : b < length mid = omega arith in
     let f : SFits w16 (get_or mid b (pos 0)) = search rules in
     rw (to_z-of_z st.ranges.am, to_z-of_z f) (st.requires.1 b h)
 
-loop-again : tie.Need-loop-preserved invariant-loop decreases-loop
+loop-again : tie.Need-loop-b-preserved invariant-loop decreases-loop
 loop-again c =
     let st = c.before.before.before.before.before in
     let row₀ = st.args.row.now in
     let mid = st.args.mid.now in
     let am = st.args.am in
-    let l = c.before.before.before.before.loop in
+    let l = c.before.before.before.before.loop-b in
     let h : l.b < length mid = omega arith in
     let fx : SFits w16 (get_or l.row l.b (pos 0)) = search rules in
     let fm : SFits w16 (get_or mid l.b (pos 0)) = search rules in
@@ -54,7 +54,7 @@ returns c =
     let st = c.before.before in
     let row₀ = st.args.row.now in
     let mid = st.args.mid.now in
-    let l = c.before.loop in
+    let l = c.before.loop-b in
     let inv : FillInv (relaxed_at st.args.am mid row₀) (length row₀) row₀ l.b l.row = simp (to_z-of_z st.ranges.am) at l.invariant.1 in
     filled_all (relaxed_at st.args.am mid row₀) (length row₀) row₀ l.row (fill_end inv (omega arith)) (omega arith)
 

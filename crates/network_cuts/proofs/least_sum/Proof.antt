@@ -14,24 +14,24 @@ use borrow.Author.Rules.{rules}
 use Rattle.network_cuts.proofs.least_sum.Statement.{statement}
 use Rattle.network_cuts.proofs.least_sum.Tie as tie
 
-abbrev invariant-loop : tie.invariant-loop
+abbrev invariant-loop : tie.invariant-loop-i
 invariant-loop xs ys r₀ i₀ i-end r i = (i ≤ length xs) × (i-end ≡ length xs) × LeastSum i xs ys (to_z w16 r)
 
-abbrev decreases-loop : tie.decreases-loop
+abbrev decreases-loop : tie.decreases-loop-i
 decreases-loop xs ys r₀ i₀ i-end r i = length xs - i
 
 -- the sum at a place fits
 fits : (c : tie.Start invariant-loop decreases-loop) (i : ℕ) → i < length c.args.xs.now → SFits w16 (value_at c.args.xs.now i +ℤ value_at c.args.ys.now i)
 fits c i h = sum_fits (value_at c.args.xs.now i) (value_at c.args.ys.now i) (c.requires.2 i h) (c.requires.3 i (omega (arith, c.requires)))
 
-add_r : tie.Need-overflow-add-r invariant-loop decreases-loop
+add_r : tie.Need-overflow_add-r invariant-loop decreases-loop
 add_r c =
     let st = c.before.before in
     let fx : SFits w16 (get_or st.args.xs.now 0 (pos 0)) = search rules in
     let fy : SFits w16 (get_or st.args.ys.now 0 (pos 0)) = search rules in
     rw (to_z-of_z fx, to_z-of_z fy) (fits st 0 st.requires.0)
 
-loop-holds : tie.Need-loop-init invariant-loop decreases-loop
+loop-holds : tie.Need-loop-i-init invariant-loop decreases-loop
 loop-holds c =
     let st = c.before.before in
     let xs = st.args.xs.now in
@@ -40,30 +40,30 @@ loop-holds c =
     let fy : SFits w16 (get_or ys 0 (pos 0)) = search rules in
     (omega arith, refl, simp (to_z-of_z fx, to_z-of_z fy, to_z-of_z (fits st 0 st.requires.0)) (least_first xs ys st.requires.0))
 
-add_lesser : tie.Need-overflow-add-lesser invariant-loop decreases-loop
+add_lesser : tie.Need-overflow_add-xs invariant-loop decreases-loop
 add_lesser c =
     let st = c.before.before.before.before.before.before in
-    let i = c.before.before.before.loop.i in
+    let i = c.before.before.before.loop-i.i in
     let fx : SFits w16 (get_or st.args.xs.now i (pos 0)) = search rules in
     let fy : SFits w16 (get_or st.args.ys.now i (pos 0)) = search rules in
     rw (to_z-of_z fx, to_z-of_z fy) (fits st i (omega arith))
 
-loop-again : tie.Need-loop-preserved invariant-loop decreases-loop
+loop-again : tie.Need-loop-i-preserved invariant-loop decreases-loop
 loop-again c =
     let st = c.before.before.before.before.before.before.before in
-    let l = c.before.before.before.before.loop in
+    let l = c.before.before.before.before.loop-i in
     let xs = st.args.xs.now in
     let ys = st.args.ys.now in
     let fx : SFits w16 (get_or xs l.i (pos 0)) = search rules in
     let fy : SFits w16 (get_or ys l.i (pos 0)) = search rules in
-    let fr : SFits w16 c.lesser.result = search rules in
-    let e : c.lesser.result ≡ min_ℤ (to_z w16 l.r) (value_at xs l.i +ℤ value_at ys l.i) =
-    simp (to_z-of_z fx, to_z-of_z fy, to_z-of_z (fits st l.i (omega arith))) at c.lesser.ensures in
+    let fr : SFits w16 c.lesser-r.result = search rules in
+    let e : c.lesser-r.result ≡ min_ℤ (to_z w16 l.r) (value_at xs l.i +ℤ value_at ys l.i) =
+    simp (to_z-of_z fx, to_z-of_z fy, to_z-of_z (fits st l.i (omega arith))) at c.lesser-r.ensures in
     (omega arith, refl, simp (to_z-of_z fr) (rw e (least_more l.i xs ys (to_z w16 l.r) (omega arith) l.invariant.2)))
 
 returns : tie.Need-returns invariant-loop decreases-loop
 returns c =
-    let l = c.before.loop in
+    let l = c.before.loop-i in
     let xs = c.before.before.before.before.args.xs.now in
     let ys = c.before.before.before.before.args.ys.now in
     let e : l.i ≡ length xs = omega arith in

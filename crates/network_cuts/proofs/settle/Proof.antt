@@ -25,39 +25,39 @@ inside c =
     (omega (arith, q.net.size), omega (arith, q.net.size_arcs), omega (arith, q.cuts), omega (arith, q.cuts))
 
 -- ---- the ends of the slots v and l
-abbrev from : tie.After-end2 → ℕ
-from c = c.before.end.result.0
+abbrev from : tie.After-end-to → ℕ
+from c = c.before.end-from.result.0
 
-abbrev to : tie.After-end2 → ℕ
-to c = c.end2.result.0
+abbrev to : tie.After-end-to → ℕ
+to c = c.end-to.result.0
 
-least_sum_requires : tie.Need-least-sum-requires
+least_sum_requires : tie.Need-least_sum-k-requires
 least_sum_requires c κs =
     let e = c.before.before.before in
     let st = e.before.before in
-    rw (e.before.end.ensures, e.end2.ensures) (least_asks st.requires.0 st.args.b.0 st.requires.1)
+    rw (e.before.end-from.ensures, e.end-to.ensures) (least_asks st.requires.0 st.args.b.0 st.requires.1)
 
 -- ---- once the least sum is known
-abbrev ends : tie.After-least-sum → tie.After-end2
+abbrev ends : tie.After-least_sum-k → tie.After-end-to
 ends c = c.before.before.before.before
 
-abbrev start : tie.After-least-sum → tie.Start
+abbrev start : tie.After-least_sum-k → tie.Start
 start c = (ends c).before.before
 
-abbrev lowest : tie.After-least-sum → ℤ
-lowest c = c.least-sum.result
+abbrev lowest : tie.After-least_sum-k → ℤ
+lowest c = c.least_sum-k.result
 
 -- it is that of the arcs into b
-least : (c : tie.After-least-sum) → let a = (start c).args in
+least : (c : tie.After-least_sum-k) → let a = (start c).args in
     let zs = part a.v.0 a.l.0 a.z.now in
     LeastSum (length zs) zs (part (a.b.0 * a.w + a.v.0) (a.b.0 * a.w + a.l.0) a.m.now) (lowest c)
 least c =
     let a = (start c).args in
     let row = a.b.0 * a.w in
     let Sum : ℕ → ℕ → Type 0 = λ (v l : ℕ). LeastSum (length (part v l a.z.now)) (part v l a.z.now) (part (row + v) (row + l) a.m.now) (lowest c) in
-    subst (λ (v : ℕ). Sum v a.l.0) (ends c).before.end.ensures (subst (Sum (from (ends c))) (ends c).end2.ensures c.least-sum.ensures)
+    subst (λ (v : ℕ). Sum v a.l.0) (ends c).before.end-from.ensures (subst (Sum (from (ends c))) (ends c).end-to.ensures c.least_sum-k.ensures)
 
-relax_row_requires : tie.Need-relax-row-requires
+relax_row_requires : tie.Need-relax_row-requires
 relax_row_requires c κs =
     let k = c.before.before.before.before.before in
     let st = start k in
@@ -65,46 +65,46 @@ relax_row_requires c κs =
     simp (to_z-of_z f) (relax_asks st.pre.0 st.args.b.0 st.pre.1 (least k))
 
 -- ---- once row b is carried
-abbrev summed : tie.After-relax-row → tie.After-least-sum
+abbrev summed : tie.After-relax_row → tie.After-least_sum-k
 summed c = c.before.before.before.before.before.before
 
 -- the number before the window, below 0 or not
-before_window : (c : tie.After-less2) → let r = c.before.before.before.before in
-    c.less2.result ≡ lt_z (value_at r.relax-row.new.0 ((start (summed r)).args.f.0 - 1)) (pos 0)
+before_window : (c : tie.After-less-then-less) → let r = c.before.before.before.before in
+    c.less-then-less.result ≡ lt_z (value_at r.relax_row.new.0 ((start (summed r)).args.f.0 - 1)) (pos 0)
 before_window c =
     let r = c.before.before.before.before in
-    let z = r.relax-row.new.0 in
-    let at = c.before.before.start in
+    let z = r.relax_row.new.0 in
+    let at = c.before.before.start-before in
     let g : SFits w16 (get_or z at.result.0 (pos 0)) = search rules in
-    simp (to_z-of_z g) at c.less2.ensures ∙ ap (λ (i : ℕ). lt_z (value_at z i) (pos 0)) at.ensures
+    simp (to_z-of_z g) at c.less-then-less.ensures ∙ ap (λ (i : ℕ). lt_z (value_at z i) (pos 0)) at.ensures
 
-returns : tie.Need-returns
+returns : tie.Need-returns-then-less-2
 returns c =
     let r = c.before.before.before.before.before in
     let st = start (summed r) in
     let f : SFits w16 (lowest (summed r)) = search rules in
-    settled_lost st.pre.0 st.args.b.0 st.pre.1 (least (summed r)) (simp (to_z-of_z f) at r.relax-row.ensures)
-    (sym (before_window c.before) ∙ c.if2.true)
+    settled_lost st.pre.0 st.args.b.0 st.pre.1 (least (summed r)) (simp (to_z-of_z f) at r.relax_row.ensures)
+    (sym (before_window c.before) ∙ c.if-less-2.true)
 
-returns-2 : tie.Need-returns-2
+returns-2 : tie.Need-returns-then-less
 returns-2 c =
     let r = c.before.before.before.before.before in
     let st = start (summed r) in
     let f : SFits w16 (lowest (summed r)) = search rules in
     let fb : SFits w16 (get_or st.args.z.now st.args.b.0 (pos 0)) = search rules in
     let low : lt_z (lowest (summed r)) (value_at st.args.z.now st.args.b.0) ≡ true =
-    simp (to_z-of_z f, to_z-of_z fb) at (sym r.before.before.before.before.less.ensures ∙ r.before.before.before.if1.true) in
-    settled_lower st.pre.0 st.args.b.0 st.pre.1 (least (summed r)) (simp (to_z-of_z f) at r.relax-row.ensures) low
-    (sym (before_window c.before) ∙ c.if2.false)
+    simp (to_z-of_z f, to_z-of_z fb) at (sym r.before.before.before.before.less.ensures ∙ r.before.before.before.if-less.true) in
+    settled_lower st.pre.0 st.args.b.0 st.pre.1 (least (summed r)) (simp (to_z-of_z f) at r.relax_row.ensures) low
+    (sym (before_window c.before) ∙ c.if-less-2.false)
 
-returns-3 : tie.Need-returns-3
+returns-3 : tie.Need-returns-then-less-2
 returns-3 c =
     let k = c.before.before.before in
     let st = start k in
     let f : SFits w16 (lowest k) = search rules in
     let fb : SFits w16 (get_or st.args.z.now st.args.b.0 (pos 0)) = search rules in
     let h : lt_z (lowest k) (value_at st.args.z.now st.args.b.0) ≡ false =
-    simp (to_z-of_z f, to_z-of_z fb) at (sym c.before.less.ensures ∙ c.if1.false) in
+    simp (to_z-of_z f, to_z-of_z fb) at (sym c.before.less.ensures ∙ c.if-less.false) in
     settled_still st.pre.0 st.args.b.0 st.pre.1 (least k) h
 
 pub settle_spec : {M : Type 1} → statement M

@@ -12,71 +12,71 @@ use native.Mathlib.Omega.{arith}
 use Rattle.network_cuts.proofs.sweep.Statement.{statement}
 use Rattle.network_cuts.proofs.sweep.Tie as tie
 
-abbrev invariant-loop : tie.invariant-loop
+abbrev invariant-loop : tie.invariant-loop-b
 invariant-loop d m w f v l z₀ lower₀ end b₀ z lower b =
     (b ≤ slot_end f.0) × Sinking w d m f.0 v.0 l.0 z × Settling w d m f.0 v.0 l.0 0 b z₀ z (fell lower)
 
-abbrev decreases-loop : tie.decreases-loop
+abbrev decreases-loop : tie.decreases-loop-b
 decreases-loop d m w f v l z₀ lower₀ end b₀ z lower b = slot_end f.0 - b
 
-loop-holds : tie.Need-loop-init invariant-loop decreases-loop
+loop-holds : tie.Need-loop-b-init invariant-loop decreases-loop
 loop-holds c = let a = c.before.args in (omega arith, c.before.requires, swept_none a.w a.f.0 a.v.0 a.l.0 a.d.now a.m.now a.z.now)
 
-settle_requires : tie.Need-settle-requires invariant-loop decreases-loop
-settle_requires c κs = (c.before.before.loop.invariant.1, omega arith)
+settle_requires : tie.Need-settle-s-requires invariant-loop decreases-loop
+settle_requires c κs = (c.before.before.loop-b.invariant.1, omega arith)
 
-same_length : tie.Need-same-length invariant-loop decreases-loop
+same_length : tie.Need-shape_of-z-in-Lost invariant-loop decreases-loop
 same_length c =
     let s = c.before.before.before in
-    s.settle.auto.1.1.1.1.1.1.1.0 ∙ s.before.before.before.loop.invariant.1.long ∙ sym s.before.before.before.before.before.requires.long
+    s.settle-s.auto.1.1.1.1.1.1.1.0 ∙ s.before.before.before.loop-b.invariant.1.long ∙ sym s.before.before.before.before.before.requires.long
 
-returns : tie.Need-returns invariant-loop decreases-loop
+returns : tie.Need-returns-in-Lost invariant-loop decreases-loop
 returns c =
     let s = c.before.before.before in
     let a = s.before.before.before.before.before.args in
-    let l = s.before.before.before.loop in
-    let z' = s.settle.new.1.1.1.1.1.1.1.0 in
-    subst (Settling a.w a.d.now a.m.now a.f.0 a.v.0 a.l.0 l.b (l.b + 1) l.z z') c.enum-told3.given.1 s.settle.ensures
+    let l = s.before.before.before.loop-b in
+    let z' = s.settle-s.new.1.1.1.1.1.1.1.0 in
+    subst (Settling a.w a.d.now a.m.now a.f.0 a.v.0 a.l.0 l.b (l.b + 1) l.z z') c.enum_told-in-Lost-1.given.1 s.settle-s.ensures
 
-loop-again : tie.Need-loop-preserved invariant-loop decreases-loop
+loop-again : tie.Need-loop-b-preserved invariant-loop decreases-loop
 loop-again c =
     let s = c.before.before in
     let a = s.before.before.before.before.before.args in
-    let l = s.before.before.before.loop in
+    let l = s.before.before.before.loop-b in
     let i = l.invariant in
-    let z' = s.settle.new.1.1.1.1.1.1.1.0 in
+    let z' = s.settle-s.new.1.1.1.1.1.1.1.0 in
     let made = Settling a.w a.d.now a.m.now a.f.0 a.v.0 a.l.0 l.b (l.b + 1) l.z z' in
     ⊎_elim (λ w.
-    let e : s.settle.result ≡ Still = w.1.given.1 in
+    let e : s.settle-s.result ≡ Still = w.1.given.1 in
     let t : c.match.lower ≡ l.lower = w.2 in
-    let n = subst made e s.settle.ensures in (
+    let n = subst made e s.settle-s.ensures in (
       omega arith,
       subst (Sinking a.w a.d.now a.m.now a.f.0 a.v.0 a.l.0) (sym n.0) i.1,
       rw t (swept_still a.w a.f.0 a.v.0 a.l.0 a.d.now a.m.now a.z.now l.lower l.b l.z z' i.2 n),
     ))
     (λ w.
-    let e : s.settle.result ≡ Lower = w.1.given.1 in
+    let e : s.settle-s.result ≡ Lower = w.1.given.1 in
     let t : c.match.lower ≡ true = w.2 in
-    let n = subst made e s.settle.ensures in
+    let n = subst made e s.settle-s.ensures in
     (omega arith, n.0, rw t (swept_lower a.w a.f.0 a.v.0 a.l.0 a.d.now a.m.now a.z.now l.lower l.b l.z z' i.2 n)))
     c.match.branch
 
 -- ---- behind the loop every boundary before the window is settled
 abbrev Done : Type 0
-Done = tie.After-loop invariant-loop decreases-loop
+Done = tie.After-loop-b invariant-loop decreases-loop
 
-long : (c : Done) → length c.before.loop.z ≡ length c.before.before.before.args.z.now
-long c = c.before.loop.invariant.1.long ∙ sym c.before.before.before.requires.long
+long : (c : Done) → length c.before.loop-b.z ≡ length c.before.before.before.args.z.now
+long c = c.before.loop-b.invariant.1.long ∙ sym c.before.before.before.requires.long
 
-swept : (c : Done) (t : Bool) → c.before.loop.lower ≡ t → let a = c.before.before.before.args in
-    Settling a.w a.d.now a.m.now a.f.0 a.v.0 a.l.0 0 (slot_end a.f.0) a.z.now c.before.loop.z (fell t)
+swept : (c : Done) (t : Bool) → c.before.loop-b.lower ≡ t → let a = c.before.before.before.args in
+    Settling a.w a.d.now a.m.now a.f.0 a.v.0 a.l.0 0 (slot_end a.f.0) a.z.now c.before.loop-b.z (fell t)
 swept c t e =
     let a = c.before.before.before.args in
-    let l = c.before.loop in
+    let l = c.before.loop-b in
     let s = subst (λ t. Settling a.w a.d.now a.m.now a.f.0 a.v.0 a.l.0 0 l.b a.z.now l.z (fell t)) e l.invariant.2 in
     swept_end a.w a.f.0 a.v.0 a.l.0 a.d.now a.m.now a.z.now t l.b l.z (omega arith) s
 
 pub sweep_spec : {M : Type 1} → statement M
-sweep_spec = tie.close (tie.spec invariant-loop decreases-loop (λ c κs. tt) loop-holds settle_requires (λ c. c.match.keys1) (λ c. c.match.keys2) (λ c. c.match.keys3)
-    same_length returns (λ c. omega arith) (λ c. omega arith) loop-again (λ c. long c.before) (λ c. swept c.before true c.if1.true)
-    (λ c. long c.before) (λ c. swept c.before false c.if1.false))
+sweep_spec = tie.close (tie.spec invariant-loop decreases-loop (λ c κs. tt) loop-holds settle_requires (λ c. c.in-Still.keys1) (λ c. c.in-Lower.keys2) (λ c. c.in-Lost.keys3)
+    same_length returns (λ c. omega arith) (λ c. omega arith) loop-again (λ c. long c.before) (λ c. swept c.before true c.if-lower.true)
+    (λ c. long c.before) (λ c. swept c.before false c.if-lower.false))

@@ -20,18 +20,18 @@ use Rattle.network_cycles.proofs.first_below.Tie as tie
 abbrev below : List ℤ → List ℤ → ℕ → Bool
 below low high i = lt_z (get_or low i (pos 0)) (get_or high i (pos 0))
 
-abbrev invariant-loop : tie.invariant-loop
+abbrev invariant-loop : tie.invariant-loop-v
 invariant-loop low high n v₀ v =
     (v ≤ length low) × (n ≡ length low) × (first_from (length low - v) v (below low high) ≡ first_place (length low) (below low high))
 
-abbrev decreases-loop : tie.decreases-loop
+abbrev decreases-loop : tie.decreases-loop-v
 decreases-loop low high n v₀ v = length low - v
 
 compared : (c : tie.After-less invariant-loop decreases-loop) → let a = c.before.before.before.before.before.args in
-    below a.low.now a.high.now c.before.before.before.before.loop.v ≡ c.less.result
+    below a.low.now a.high.now c.before.before.before.before.loop-v.v ≡ c.less.result
 compared c =
     let a = c.before.before.before.before.before.args in
-    let v = c.before.before.before.before.loop.v in
+    let v = c.before.before.before.before.loop-v.v in
     let f : SFits w16 (get_or a.low.now v (pos 0)) = search rules in
     let g : SFits w16 (get_or a.high.now v (pos 0)) = search rules in
     sym (simp (to_z-of_z f, to_z-of_z g) at c.less.ensures)
@@ -43,20 +43,20 @@ test c = below c.args.low.now c.args.high.now
 abbrev size : tie.Start invariant-loop decreases-loop → ℕ
 size c = length c.args.low.now
 
-returns : tie.Need-returns invariant-loop decreases-loop
+returns : tie.Need-returns-then-less invariant-loop decreases-loop
 returns c =
     let l = c.before.before.before.before.before in
-    sym (first_passed (test l.before) (size l.before) l.loop.v (omega arith) (compared c.before ∙ c.if1.true)) ∙ l.loop.invariant.2
+    sym (first_passed (test l.before) (size l.before) l.loop-v.v (omega arith) (compared c.before ∙ c.if-less.true)) ∙ l.loop-v.invariant.2
 
-loop-again : tie.Need-loop-preserved invariant-loop decreases-loop
+loop-again : tie.Need-loop-v-preserved invariant-loop decreases-loop
 loop-again c =
     let l = c.before.before.before.before.before in
-    (omega arith, refl, first_failed (test l.before) (size l.before) l.loop.v (omega arith) (compared c.before ∙ c.if1.false) ∙ l.loop.invariant.2)
+    (omega arith, refl, first_failed (test l.before) (size l.before) l.loop-v.v (omega arith) (compared c.before ∙ c.if-less.false) ∙ l.loop-v.invariant.2)
 
-returns-2 : tie.Need-returns-2 invariant-loop decreases-loop
+returns-2 : tie.Need-returns invariant-loop decreases-loop
 returns-2 c =
     let l = c.before in
-    sym (first_none (test l.before) (size l.before) l.loop.v (omega arith)) ∙ l.loop.invariant.2
+    sym (first_none (test l.before) (size l.before) l.loop-v.v (omega arith)) ∙ l.loop-v.invariant.2
 
 pub first_below_spec : {M : Type 1} → statement M
 first_below_spec = tie.close (tie.spec invariant-loop decreases-loop

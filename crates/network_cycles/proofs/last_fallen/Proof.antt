@@ -11,10 +11,10 @@ use borrow.Author.Rules.{rules}
 use Rattle.network_cycles.proofs.last_fallen.Statement.{statement}
 use Rattle.network_cycles.proofs.last_fallen.Tie as tie
 
-sub_before : tie.Need-overflow-sub-before
+sub_before : tie.Need-overflow_sub-before
 sub_before c = omega (arith, row_inside 0 c.args.w (omega arith))
 
-first_below_requires : tie.Need-first-below-requires
+first_below_requires : tie.Need-first_below-requires
 first_below_requires c κs =
     let st = c.before.before in
     let w = st.args.w in

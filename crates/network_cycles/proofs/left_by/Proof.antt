@@ -13,15 +13,15 @@ use Rattle.network_cycles.proofs.left_by.Statement.{statement}
 use Rattle.network_cycles.proofs.left_by.Tie as tie
 
 -- the two numbers that are added
-read : (c : tie.After-entry-at2) → let a = c.before.before.args in
-    (to_z w16 (of_z w16 c.before.entry_at.result) +ℤ to_z w16 (of_z w16 c.entry-at2.result))
+read : (c : tie.After-entry_at-2) → let a = c.before.before.args in
+    (to_z w16 (of_z w16 c.before.entry_at.result) +ℤ to_z w16 (of_z w16 c.entry_at-2.result))
     ≡ entry a.w a.levels.now a.k a.u +ℤ entry a.w a.d.now a.u a.v
 read c =
     let f : SFits w16 c.before.entry_at.result = search rules in
-    let g : SFits w16 c.entry-at2.result = search rules in
-    rw (to_z-of_z f, to_z-of_z g, c.before.entry_at.ensures, c.entry-at2.ensures)
+    let g : SFits w16 c.entry_at-2.result = search rules in
+    rw (to_z-of_z f, to_z-of_z g, c.before.entry_at.ensures, c.entry_at-2.ensures)
 
-add_result : tie.Need-overflow-add-result
+add_result : tie.Need-overflow_add-result
 add_result c =
     let st = c.before.before in
     rw (read c) (left_fits st.requires.0 st.args.k st.args.u st.args.v st.requires.1 st.requires.2 st.requires.3)

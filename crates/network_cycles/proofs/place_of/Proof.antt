@@ -15,10 +15,10 @@ use Rattle.network_cycles.proofs.place_of.Tie as tie
 abbrev is_at : List ℕ → ℕ → ℕ → Bool
 is_at c x i = eqb (get_or c i 0) x
 
-abbrev invariant-loop : tie.invariant-loop
+abbrev invariant-loop : tie.invariant-loop-j
 invariant-loop c from x n j₀ j = (j ≤ length c) × (n ≡ length c) × (first_from (length c - j) j (is_at c x) ≡ first_from (length c - from) from (is_at c x))
 
-abbrev decreases-loop : tie.decreases-loop
+abbrev decreases-loop : tie.decreases-loop-j
 decreases-loop c from x n j₀ j = length c - j
 
 abbrev test : tie.Start invariant-loop decreases-loop → ℕ → Bool
@@ -27,17 +27,17 @@ test c = is_at c.args.c.now c.args.x
 abbrev size : tie.Start invariant-loop decreases-loop → ℕ
 size c = length c.args.c.now
 
-returns : tie.Need-returns invariant-loop decreases-loop
+returns : tie.Need-returns-then-c-j invariant-loop decreases-loop
 returns c =
     let l = c.before.before.before in
-    sym (first_passed (test l.before) (size l.before) l.loop.j (omega arith) (eq-eqb _ _ c.if1.true)) ∙ l.loop.invariant.2
+    sym (first_passed (test l.before) (size l.before) l.loop-j.j (omega arith) (eq-eqb _ _ c.if-c-j.true)) ∙ l.loop-j.invariant.2
 
-loop-again : tie.Need-loop-preserved invariant-loop decreases-loop
+loop-again : tie.Need-loop-j-preserved invariant-loop decreases-loop
 loop-again c =
     let l = c.before.before.before in
-    (omega arith, refl, first_failed (test l.before) (size l.before) l.loop.j (omega arith) (ne_eqb _ _ c.if1.false) ∙ l.loop.invariant.2)
+    (omega arith, refl, first_failed (test l.before) (size l.before) l.loop-j.j (omega arith) (ne_eqb _ _ c.if-c-j.false) ∙ l.loop-j.invariant.2)
 
 pub place_of_spec : {M : Type 1} → statement M
 place_of_spec = tie.close (tie.spec invariant-loop decreases-loop (λ c. (omega arith, refl, refl)) (λ c. omega arith) (λ c. omega arith) returns (λ c. omega arith)
     (λ c. omega arith) loop-again
-    (λ c. let l = c.before in sym (first_none (test l.before) (size l.before) l.loop.j (omega arith)) ∙ l.loop.invariant.2))
+    (λ c. let l = c.before in sym (first_none (test l.before) (size l.before) l.loop-j.j (omega arith)) ∙ l.loop-j.invariant.2))

@@ -15,21 +15,21 @@ inside : (c : tie.Start) → c.args.k * c.args.w + c.args.w + c.args.w ≤ lengt
 inside c = omega (arith, row_inside c.args.k c.args.w c.requires.2, c.requires.1)
 
 -- ---- once row k is copied
-abbrev start : tie.After-copy-row → tie.Start
+abbrev start : tie.After-copy_row → tie.Start
 start c = c.before.before.before.before
 
-copied : (c : tie.After-copy-row) → let a = (start c).args in Copied a.w a.k a.d.now (take a.w c.copy-row.new.1.0)
+copied : (c : tie.After-copy_row) → let a = (start c).args in Copied a.w a.k a.d.now (take a.w c.copy_row.new.1.0)
 copied c =
     let st = start c in
     let w = st.args.w in
     let k = st.args.k in
     let h = inside st in
-    row_copied w k (k * w + w - k * w) st.args.d.now st.args.levels.now c.copy-row.new.1.0 _
-    (omega arith) (omega arith) (omega arith) c.copy-row.ensures st.pre.3
+    row_copied w k (k * w + w - k * w) st.args.d.now st.args.levels.now c.copy_row.new.1.0 _
+    (omega arith) (omega arith) (omega arith) c.copy_row.ensures st.pre.3
 
-make_level_requires : tie.Need-make-level-requires
+make_level_requires : tie.Need-make_level-requires
 make_level_requires c κs =
-    let row : tie.After-copy-row = c.before.before.before in
+    let row : tie.After-copy_row = c.before.before.before in
     let st = start row in
     let w = st.args.w in
     let to = st.args.k * w + w in
@@ -39,12 +39,12 @@ make_level_requires c κs =
 
 returns : tie.Need-returns
 returns c =
-    let row : tie.After-copy-row = c.before.before.before.before.before in
+    let row : tie.After-copy_row = c.before.before.before.before.before in
     let st = start row in
     let w = st.args.w in
     let to = st.args.k * w + w in
-    rows_next (copied row) (to + w - to) st.args.levels.now c.before.make-level.new.1.1.1.0 st.pre.3 (omega arith)
-    (omega (arith, inside st)) c.before.make-level.ensures
+    rows_next (copied row) (to + w - to) st.args.levels.now c.before.make_level.new.1.1.1.0 st.pre.3 (omega arith)
+    (omega (arith, inside st)) c.before.make_level.ensures
 
 pub add_level_spec : {M : Type 1} → statement M
 add_level_spec = tie.close (tie.spec (λ c. omega (arith, inside c)) (λ c. omega (arith, inside c)) (λ c. omega (arith, inside c)) (λ c. search rules)

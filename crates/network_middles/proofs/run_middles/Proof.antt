@@ -24,16 +24,16 @@ use Rattle.network_middles.proofs.PassSteps.{PassInv, pass_start, begins_small, 
 use Rattle.network_middles.proofs.run_middles.Statement.{statement}
 use Rattle.network_middles.proofs.run_middles.Tie as tie
 
-abbrev invariant-loop2 : tie.invariant-loop2
+abbrev invariant-loop2 : tie.invariant-loop-k
 invariant-loop2 w from to outcome₀ mid m a start end row₀ am n k₀ outcome row k = ColsInv (to_z w16 am) mid row₀ w a outcome row (min (k * stretch) w)
 
-abbrev decreases-loop2 : tie.decreases-loop2
+abbrev decreases-loop2 : tie.decreases-loop-k
 decreases-loop2 w from to outcome₀ mid m a start end row₀ am n k₀ outcome row k = n - k
 
-abbrev invariant-loop : tie.invariant-loop
+abbrev invariant-loop : tie.invariant-loop-a
 invariant-loop t₀ w from to outcome₀ mid m a₀ t outcome a = RowsInv w m t₀ outcome t a
 
-abbrev decreases-loop : tie.decreases-loop
+abbrev decreases-loop : tie.decreases-loop-a
 decreases-loop t₀ w from to outcome₀ mid m a₀ t outcome a = w - a
 
 abbrev invariant-pass : tie.invariant-pass
@@ -44,7 +44,7 @@ decreases-pass t₀ w from to outcome₀ mid₀ m₀ t outcome mid m = to - m
 
 -- ---- in a turn of the outer loop: the middle row is copied
 abbrev InMiddle : Type 0
-InMiddle = tie.After-load-row invariant-loop2 decreases-loop2 invariant-loop decreases-loop invariant-pass decreases-pass
+InMiddle = tie.After-load_row invariant-loop2 decreases-loop2 invariant-loop decreases-loop invariant-pass decreases-pass
 
 abbrev start : InMiddle → tie.Start invariant-loop2 decreases-loop2 invariant-loop decreases-loop invariant-pass decreases-pass
 start c = c.before.before.before.before.before
@@ -78,20 +78,20 @@ mid_here : (c : InMiddle) → MidIs (width c) (middle_at c) (started c) (copy c)
 mid_here c =
     let inside = row_inside (middle_at c) (width c) (middle_below c) in
     let S = begins_small (turn c).pass.invariant (below c) (start c).requires.5 in
-    mid_is (turn c).pass.mid (middle_below c) S (omega (arith, (start c).requires, (turn c).pass.invariant.long)) c.Load-row.ensures
+    mid_is (turn c).pass.mid-1 (middle_below c) S (omega (arith, (start c).requires, (turn c).pass.invariant.long)) c.Load-row.ensures
 
 -- ---- in a turn of the loop over rows
 abbrev InRow : Type 0
-InRow = tie.In-loop invariant-loop2 decreases-loop2 invariant-loop decreases-loop invariant-pass decreases-pass
+InRow = tie.In-loop-a invariant-loop2 decreases-loop2 invariant-loop decreases-loop invariant-pass decreases-pass
 
 abbrev middle_of : InRow → InMiddle
 middle_of c = c.before.before.before
 
 abbrev row_at : InRow → ℕ
-row_at c = c.before.loop.a
+row_at c = c.before.loop-a.a
 
 abbrev table : InRow → List ℤ
-table c = c.before.loop.t
+table c = c.before.loop-a.t
 
 abbrev from : InRow → ℕ
 from c = row_at c * width (middle_of c)
@@ -108,11 +108,11 @@ am c = to_z w16 (of_z w16 (get_or (part c) (middle_at (middle_of c)) (pos 0)))
 row_room : (c : InRow) → (from c + width (middle_of c) ≤ length (table c)) × (size c ≡ width (middle_of c)) × (width (middle_of c) ≤ max_boundaries)
 row_room c =
     let pre = (start (middle_of c)).pre in
-    let inside = row_inside (row_at c) (width (middle_of c)) c.loop-test.true in
-    (omega (arith, (turn (middle_of c)).pass.inv.long, c.before.loop.invariant.long), omega arith, omega arith)
+    let inside = row_inside (row_at c) (width (middle_of c)) c.loop-a-test.true in
+    (omega (arith, (turn (middle_of c)).pass.inv.long, c.before.loop-a.invariant.long), omega arith, omega arith)
 
 row_here : (c : InRow) → RowIs (width (middle_of c)) (row_at c) (started (middle_of c)) (part c)
-row_here c = row_is c.before.loop.invariant (size c) (row_room c).1 (omega (arith, row_room c))
+row_here c = row_is c.before.loop-a.invariant (size c) (row_room c).1 (omega (arith, row_room c))
 
 -- ---- the table with the row put back, as a break leaves it
 abbrev put : InRow → List ℤ → List ℤ
@@ -121,7 +121,7 @@ put c row = back (from c) (size c) row (table c)
 put_long : (c : InRow) (row : List ℤ) → length row ≡ width (middle_of c) → length (put c row) ≡ length (start (middle_of c)).args.t.now
 put_long c row n =
     back_length (from c) (size c) row (table c) (omega (arith, row_room c)) (omega (arith, row_room c))
-    ∙ c.before.loop.invariant.long ∙ (turn (middle_of c)).pass.inv.long
+    ∙ c.before.loop-a.invariant.long ∙ (turn (middle_of c)).pass.inv.long
 
 broken : (c : InRow) (row : List ℤ) → length row ≡ width (middle_of c)
     → ((next : Passed) → after_rows (width (middle_of c)) 0 (width (middle_of c)) (middle_at (middle_of c)) (started (middle_of c)) next ≡ stopped)
@@ -129,8 +129,8 @@ broken : (c : InRow) (row : List ℤ) → length row ≡ width (middle_of c)
     Ran a.w a.t.now (pass_from (a.to - a.from) a.from a.w a.t.now) Stopped (put c row))
 broken c row n e =
     let m = middle_of c in
-    let l = c.before.loop in
-    let inside = row_inside (row_at c) (width m) c.loop-test.true in
+    let l = c.before.loop-a in
+    let inside = row_inside (row_at c) (width m) c.loop-a-test.true in
     let fits : from c + size c ≤ length (table c) = omega (arith, row_room c) in
     let n' : length row ≡ size c = omega (arith, row_room c) in
     pass_left (turn m).pass.inv (below m) (put c row) e
@@ -139,7 +139,7 @@ broken c row n e =
 
 -- ---- a row over the middle boundary
 abbrev Over : Type 0
-Over = tie.After-stretches invariant-loop2 decreases-loop2 invariant-loop decreases-loop invariant-pass decreases-pass
+Over = tie.After-stretches-n invariant-loop2 decreases-loop2 invariant-loop decreases-loop invariant-pass decreases-pass
 
 abbrev over_row : Over → InRow
 over_row c = c.before.before.before
@@ -151,11 +151,11 @@ over c =
     let r = over_row c in
     let m = middle_of r in
     let f : SFits w16 (get_or (part r) (middle_at m) (pos 0)) = search rules in
-    record { inside = r.loop-test.taken; middle = mid_here m; row = row_here r; over = to_z-of_z f ∙ (row_here r).at (middle_at m) (middle_below m) }
+    record { inside = r.loop-a-test.taken; middle = mid_here m; row = row_here r; over = to_z-of_z f ∙ (row_here r).at (middle_at m) (middle_below m) }
 
 -- ---- in a turn of the loop over stretches
 abbrev InStretch : Type 0
-InStretch = tie.After-stretch-end invariant-loop2 decreases-loop2 invariant-loop decreases-loop invariant-pass decreases-pass
+InStretch = tie.After-stretch_end-e invariant-loop2 decreases-loop2 invariant-loop decreases-loop invariant-pass decreases-pass
 
 abbrev over_of : InStretch → Over
 over_of c = c.before.before.before
@@ -164,30 +164,30 @@ abbrev stretch_row : InStretch → InRow
 stretch_row c = over_row (over_of c)
 
 abbrev first : InStretch → ℕ
-first c = c.before.before.loop2.k * stretch
+first c = c.before.before.loop-k.k * stretch
 
 abbrev stop : InStretch → ℕ
-stop c = c.stretch-end.result
+stop c = c.stretch_end-e.result
 
 stretch_here : (c : InStretch)
     → (first c < stop c) × (stop c ≤ width (middle_of (stretch_row c))) × (width (middle_of (stretch_row c)) ≤ max_boundaries)
 stretch_here c =
-    let h : first c < width (middle_of (stretch_row c)) = omega (arith, c.before.loop2-test.true, (over_of c).stretches.ensures) in
-    (omega (arith, c.stretch-end.ensures), omega (arith, c.stretch-end.ensures), (row_room (stretch_row c)).2)
+    let h : first c < width (middle_of (stretch_row c)) = omega (arith, c.before.loop-k-test.true, (over_of c).stretches-n.ensures) in
+    (omega (arith, c.stretch_end-e.ensures), omega (arith, c.stretch_end-e.ensures), (row_room (stretch_row c)).2)
 
 cols_here : (c : InStretch)
-    → (let r = stretch_row c in let m = middle_of r in let q = c.before.before.loop2 in
-    ColsInv (am r) (copy m) (part r) (width m) (row_at r) q.outcome q.row (first c))
+    → (let r = stretch_row c in let m = middle_of r in let q = c.before.before.loop-k in
+    ColsInv (am r) (copy m) (part r) (width m) (row_at r) q.outcome q.row-1 (first c))
 cols_here c =
     let r = stretch_row c in
     let m = middle_of r in
-    let q = c.before.before.loop2 in
+    let q = c.before.before.loop-k in
     let e : min (first c) (width m) ≡ first c = omega (arith, stretch_here c) in
-    subst (λ (b : ℕ). ColsInv (am r) (copy m) (part r) (width m) (row_at r) q.outcome q.row b) e q.invariant
+    subst (λ (b : ℕ). ColsInv (am r) (copy m) (part r) (width m) (row_at r) q.outcome q.row-1 b) e q.invariant
 
 -- ---- after the row step
 abbrev Relaxed : Type 0
-Relaxed = tie.After-relax-row invariant-loop2 decreases-loop2 invariant-loop decreases-loop invariant-pass decreases-pass
+Relaxed = tie.After-relax_row invariant-loop2 decreases-loop2 invariant-loop decreases-loop invariant-pass decreases-pass
 
 abbrev stretch_of : Relaxed → InStretch
 stretch_of c = c.before.before.before.before
@@ -198,12 +198,12 @@ relaxed_row c = stretch_row (stretch_of c)
 abbrev stepped : Relaxed → List ℤ
 stepped c =
     let at = stretch_of c in
-    back (first at) (stop at - first at) c.relax-row.new.0 at.before.before.loop2.row
+    back (first at) (stop at - first at) c.relax_row.new.0 at.before.before.loop-k.row-1
 
 stepped_long : (c : Relaxed) → length (stepped c) ≡ width (middle_of (relaxed_row c))
 stepped_long c =
     let s = stretch_here (stretch_of c) in
-    cols_long (cols_here (stretch_of c)) (stop (stretch_of c)) s.0 s.1 c.relax-row.ensures
+    cols_long (cols_here (stretch_of c)) (stop (stretch_of c)) s.0 s.1 c.relax_row.ensures
 
 -- ---- its diagonal entry looked at, where it lies in the stretch
 abbrev Looked : Type 0
@@ -216,66 +216,66 @@ relaxed_of c = c.before.before.before
 pass_holds : tie.Need-pass-init invariant-loop2 decreases-loop2 invariant-loop decreases-loop invariant-pass decreases-pass
 pass_holds c = pass_start (omega arith) refl refl
 
-load_row_requires : tie.Need-load-row-requires invariant-loop2 decreases-loop2 invariant-loop decreases-loop invariant-pass decreases-pass
+load_row_requires : tie.Need-load_row-requires invariant-loop2 decreases-loop2 invariant-loop decreases-loop invariant-pass decreases-pass
 load_row_requires c κs =
     let pre = c.before.before.before.before.requires in
     let p = c.before.before.before.pass.invariant in
     (omega (arith, c.before.before.pass-test.true), omega (arith, p.long), omega (arith, p.room))
 
-loop2_holds : tie.Need-loop2-init invariant-loop2 decreases-loop2 invariant-loop decreases-loop invariant-pass decreases-pass
+loop2_holds : tie.Need-loop-k-init invariant-loop2 decreases-loop2 invariant-loop decreases-loop invariant-pass decreases-pass
 loop2_holds c =
     let r = over_row c in
     let m = middle_of r in
-    let o = r.before.loop in
+    let o = r.before.loop-a in
     let e : 0 ≡ min (0 * stretch) (width m) = omega arith in
     subst (λ (b : ℕ). ColsInv (am r) (copy m) (part r) (width m) (row_at r) o.outcome (part r) b) e (cols_start o.inv.none (row_here r).long)
 
-relax_row_requires : tie.Need-relax-row-requires invariant-loop2 decreases-loop2 invariant-loop decreases-loop invariant-pass decreases-pass
+relax_row_requires : tie.Need-relax_row-requires invariant-loop2 decreases-loop2 invariant-loop decreases-loop invariant-pass decreases-pass
 relax_row_requires c κs =
     let at : InStretch = c.before.before.before in
     let m = middle_of (stretch_row at) in
     let b = first at in
     let e = stop at in
     let s = stretch_here at in
-    let n = part_length b (e - b) at.before.before.loop2.row (omega (arith, s, (cols_here at).long)) in
+    let n = part_length b (e - b) at.before.before.loop-k.row-1 (omega (arith, s, (cols_here at).long)) in
     let o = part_length b (e - b) (copy m) (omega (arith, s, copy_room m)) in
     (omega (arith, n, o), stretch_fits (over (over_of at)) b (e - b) (omega (arith, s)))
 
-loop2_again : tie.Need-loop2-preserved invariant-loop2 decreases-loop2 invariant-loop decreases-loop invariant-pass decreases-pass
+loop2_again : tie.Need-loop-k-preserved invariant-loop2 decreases-loop2 invariant-loop decreases-loop invariant-pass decreases-pass
 loop2_again c =
     let x : Relaxed = relaxed_of c.before in
     let at = stretch_of x in
     let r = stretch_row at in
     let m = middle_of r in
-    let q = at.before.before.loop2 in
+    let q = at.before.before.loop-k in
     let s = stretch_here at in
-    let n : stop at ≡ min ((q.k + 1) * stretch) (width m) = omega (arith, at.stretch-end.ensures) in
+    let n : stop at ≡ min ((q.k + 1) * stretch) (width m) = omega (arith, at.stretch_end-e.ensures) in
     subst (λ (b : ℕ). ColsInv (am r) (copy m) (part r) (width m) (row_at r) q.outcome (stepped x) b) n
-    (cols_again (cols_here at) (stop at) s.0 s.1 x.relax-row.ensures c.before.falls.ensures c.if1.false)
+    (cols_again (cols_here at) (stop at) s.0 s.1 x.relax_row.ensures c.before.falls.ensures c.if-falls.false)
 
-loop-again : tie.Need-loop-preserved invariant-loop2 decreases-loop2 invariant-loop decreases-loop invariant-pass decreases-pass
+loop-again : tie.Need-loop-a-preserved invariant-loop2 decreases-loop2 invariant-loop decreases-loop invariant-pass decreases-pass
 loop-again c =
     let f : Over = c.before.before.before in
     let r = over_row f in
     let s = over f in
-    let q = c.before.before.loop2 in
-    let hb : width (middle_of r) ≤ min (q.k * stretch) (width (middle_of r)) = omega (arith, c.before.loop2-test.false, f.stretches.ensures) in
-    rows_again r.before.loop.inv r.loop-test.taken (size r) q.invariant.none (row_room r).1 (omega (arith, row_room r))
-    (row_done s q.invariant hb) (row_low s false (q.invariant.fine (omega (arith, r.loop-test.taken, hb))))
+    let q = c.before.before.loop-k in
+    let hb : width (middle_of r) ≤ min (q.k * stretch) (width (middle_of r)) = omega (arith, c.before.loop-k-test.false, f.stretches-n.ensures) in
+    rows_again r.before.loop-a.inv r.loop-a-test.taken (size r) q.invariant.none (row_room r).1 (omega (arith, row_room r))
+    (row_done s q.invariant hb) (row_low s false (q.invariant.fine (omega (arith, r.loop-a-test.taken, hb))))
 
 pass_again : tie.Need-pass-preserved invariant-loop2 decreases-loop2 invariant-loop decreases-loop invariant-pass decreases-pass
 pass_again c =
     let m : InMiddle = c.before.before.before in
-    middle_again (turn m).pass.invariant (below m) c.before.loop.invariant c.loop-test.false (copy_room m)
+    middle_again (turn m).pass.invariant (below m) c.before.loop-a.invariant c.loop-a-test.false (copy_room m)
 
-returns-2 : tie.Need-returns-2 invariant-loop2 decreases-loop2 invariant-loop decreases-loop invariant-pass decreases-pass
+returns-2 : tie.Need-returns-then-falls invariant-loop2 decreases-loop2 invariant-loop decreases-loop invariant-pass decreases-pass
 returns-2 c =
     let x : Relaxed = relaxed_of c.before.before in
     let at = stretch_of x in
     let r = stretch_row at in
     let s = stretch_here at in
-    let low = cols_low (cols_here at) (stop at) s.0 s.1 x.relax-row.ensures c.before.before.falls.ensures c.before.if1.true in
-    broken r (stepped x) (stepped_long x) (rows_low r.before.loop.inv r.loop-test.taken (row_low (over (over_of at)) true low))
+    let low = cols_low (cols_here at) (stop at) s.0 s.1 x.relax_row.ensures c.before.before.falls.ensures c.before.if-falls.true in
+    broken r (stepped x) (stepped_long x) (rows_low r.before.loop-a.inv r.loop-a-test.taken (row_low (over (over_of at)) true low))
 
 pub run_middles_spec : {M : Type 1} → statement M
 run_middles_spec = tie.close (tie.spec invariant-loop2 decreases-loop2 invariant-loop decreases-loop invariant-pass decreases-pass pass_holds
@@ -283,18 +283,18 @@ run_middles_spec = tie.close (tie.spec invariant-loop2 decreases-loop2 invariant
     (λ c. omega (arith, row_room c)) (λ c. omega (arith, row_room c)) (λ c. omega (arith, row_room c)) (λ c. omega arith) (λ c. omega arith)
     (λ c. (row_room c).0) (λ c. omega (arith, middle_below (middle_of c.before), row_room c.before))
     (λ c. omega (arith, middle_below (middle_of c.before), (row_here c.before).long))
-    (λ c κs. let r : InRow = c.before.before in (omega (arith, r.loop-test.true), (row_room r).2))
-    loop2_holds (λ c. omega (arith, c.loop2-test.true, c.before.before.stretches.ensures, (row_room (over_row c.before.before)).2))
-    (λ c κs. omega (arith, c.loop2-test.true, c.before.before.stretches.ensures))
+    (λ c κs. let r : InRow = c.before.before in (omega (arith, r.loop-a-test.true), (row_room r).2))
+    loop2_holds (λ c. omega (arith, c.loop-k-test.true, c.before.before.stretches-n.ensures, (row_room (over_row c.before.before)).2))
+    (λ c κs. omega (arith, c.loop-k-test.true, c.before.before.stretches-n.ensures))
     (λ c. omega (arith, stretch_here c)) (λ c. omega (arith, stretch_here c)) (λ c. omega (arith, stretch_here c))
     (λ c. omega (arith, stretch_here c, (cols_here c).long))
     (λ c. omega (arith, stretch_here c.before)) (λ c. omega (arith, stretch_here c.before)) (λ c. omega (arith, stretch_here c.before.before))
     (λ c. omega (arith, stretch_here c.before.before, copy_room (middle_of (stretch_row c.before.before)))) relax_row_requires
-    (λ c κs. let x : Relaxed = c.before.before in omega (arith, stepped_long x, (relaxed_row x).loop-test.true))
+    (λ c κs. let x : Relaxed = c.before.before in omega (arith, stepped_long x, (relaxed_row x).loop-a-test.true))
     (λ c. omega (arith, stretch_here (stretch_of (relaxed_of c.before))))
-    (λ c. omega (arith, (stretch_of (relaxed_of c.before)).before.loop2-test.taken)) loop2_again
-    (λ c. let r = over_row c.before.before.before in omega (arith, r.loop-test.taken, row_room r))
-    (λ c. let r = over_row c.before.before.before in omega (arith, r.loop-test.taken)) loop-again
+    (λ c. omega (arith, (stretch_of (relaxed_of c.before)).before.loop-k-test.taken)) loop2_again
+    (λ c. let r = over_row c.before.before.before in omega (arith, r.loop-a-test.taken, row_room r))
+    (λ c. let r = over_row c.before.before.before in omega (arith, r.loop-a-test.taken)) loop-again
     (λ c. let m : InMiddle = c.before.before.before in omega (arith, below m, (start m).requires)) (λ c. omega (arith, below c.before.before.before))
     pass_again (λ c. c.before.pass.invariant.long) (λ c. pass_ended c.before.pass.invariant c.pass-test.false)
     (λ c. let x = relaxed_of c.before.before in put_long (relaxed_row x) (stepped x) (stepped_long x)) returns-2)

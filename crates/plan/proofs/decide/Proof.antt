@@ -17,44 +17,44 @@ lists c =
     written_lists a.span a.loader.now a.first.now a.last.now a.from.now a.to.now a.low.now a.high.now
 
 abbrev before : tie.Start → DecideRooms
-before c = let a = c.args in decide_rooms a.table.now a.ring.now
+before c = let a = c.args in decide_rooms a.table-1.now a.ring-1.now
 
 -- back to the start, from the questions' answer
-abbrev start : tie.After-ask → tie.Start
+abbrev start : tie.After-ask-asked → tie.Start
 start c = c.before.before.before.before.before.before.before.before.before.before.before.before
 
 -- which is that of the rooms' own lengths
-verdict : (c : tie.After-ask) (v : Verdict) → verdict_of c.ask.result ≡ v → refusal_in (lists (start c)) (decide_lent (before (start c))) ≡ v
-verdict c v = asked_of (lists (start c)) _ (decide_lent (before (start c))) _ v c.ask.ensures c.before.for-decision.ensures
+verdict : (c : tie.After-ask-asked) (v : Verdict) → verdict_of c.ask-asked.result ≡ v → refusal_in (lists (start c)) (decide_lent (before (start c))) ≡ v
+verdict c v = asked_of (lists (start c)) _ (decide_lent (before (start c))) _ v c.ask-asked.ensures c.before.for_decision-rooms.ensures
 
 -- where the answer was yes
-abbrev asked : tie.After-enum-told → tie.Start
+abbrev asked : tie.In-Yes → tie.Start
 asked c = start c.before.before
 
-yes : (c : tie.After-enum-told) → refusal_in (lists (asked c)) (decide_lent (before (asked c))) ≡ all_yes
-yes c = verdict c.before.before all_yes (ap verdict_of c.enum_told.given.1)
+yes : (c : tie.In-Yes) → refusal_in (lists (asked c)) (decide_lent (before (asked c))) ≡ all_yes
+yes c = verdict c.before.before all_yes (ap verdict_of c.enum_told-1.given.1)
 
 decide_requires : tie.Need-decide-requires
-decide_requires c κs = let p : tie.After-enum-told = c.before.before in asked_yes (lists (asked p)) _ (yes p)
+decide_requires c κs = let p : tie.In-Yes = c.before.before in asked_yes (lists (asked p)) _ (yes p)
 
-returns : tie.Need-returns
+returns : tie.Need-returns-in-No
 returns c =
-    let d : tie.After-ask = c.before.before.before in
-    let f = c.before.asked.given in
+    let d : tie.After-ask-asked = c.before.before.before in
+    let f = c.before.asked-1.given in
     let l = lists (start d) in
     refused_settled l _ (decided (given_by l)) (WithRing (given_by l) (contradicted (given_by l))) (before (start d))
     f.0.0.number f.0.0.line (verdict d _ (ap verdict_of f.1))
 
-returns-2 : tie.Need-returns-2
+returns-2 : tie.Need-returns-in-Yes
 returns-2 c =
     let r = c.before.before.before.before in
-    let p : tie.After-enum-told = r.before.before.before in
+    let p : tie.In-Yes = r.before.before.before in
     let l = lists (asked p) in
     solved_settled l _ (decided (given_by l)) (WithRing (given_by l) (contradicted (given_by l))) (before (asked p)) (yes p)
-    (decision_reply c.decision-of.result) (fit_reply r.decide.result) c.decision-of.ensures _ r.decide.ensures
+    (decision_reply c.decision_of.result) (fit_reply r.decide.result) c.decision_of.ensures _ r.decide.ensures
 
 pub decide_spec : {M : Type 1} → statement M
-decide_spec = tie.close (tie.spec (λ c κs. tt) (λ c κs. tt) (λ c. c.match.keys1) (λ c. c.match.keys2) decide_requires (λ c κs. tt)
+decide_spec = tie.close (tie.spec (λ c κs. tt) (λ c κs. tt) (λ c. c.in-No.keys1) (λ c. c.in-Yes.keys2) decide_requires (λ c κs. tt)
     (λ c. refl) (λ c. refl) returns
     (λ c. c.before.before.before.before.decide.auto.1.1.1.1.1.1.1.0)
     (λ c. c.before.before.before.before.decide.auto.1.1.1.1.1.1.1.1.0)

@@ -17,50 +17,50 @@ lists c =
     written_lists a.span a.loader.now a.first.now a.last.now a.from.now a.to.now a.low.now a.high.now
 
 abbrev before : tie.Start → SeatRooms
-before c = let a = c.args in seat_rooms a.table.now a.plan.now a.earliest.now a.latest.now
+before c = let a = c.args in seat_rooms a.table-1.now a.plan-1.now a.earliest-1.now a.latest-1.now
 
 -- back to the start, from the questions' answer
-abbrev start : tie.After-ask → tie.Start
+abbrev start : tie.After-ask-asked → tie.Start
 start c = c.before.before.before.before.before.before.before.before.before.before.before.before.before.before.before.before
 
 -- which is that of the rooms' own lengths
-verdict : (c : tie.After-ask) (v : Verdict) → verdict_of c.ask.result ≡ v → refusal_in (lists (start c)) (seat_lent (before (start c))) ≡ v
-verdict c v = asked_of (lists (start c)) _ (seat_lent (before (start c))) _ v c.ask.ensures c.before.for-seats.ensures
+verdict : (c : tie.After-ask-asked) (v : Verdict) → verdict_of c.ask-asked.result ≡ v → refusal_in (lists (start c)) (seat_lent (before (start c))) ≡ v
+verdict c v = asked_of (lists (start c)) _ (seat_lent (before (start c))) _ v c.ask-asked.ensures c.before.for_seats-rooms.ensures
 
 -- where the answer was yes
-abbrev asked : tie.After-enum-told → tie.Start
+abbrev asked : tie.In-Yes → tie.Start
 asked c = start c.before.before
 
-yes : (c : tie.After-enum-told) → refusal_in (lists (asked c)) (seat_lent (before (asked c))) ≡ all_yes
-yes c = verdict c.before.before all_yes (ap verdict_of c.enum_told.given.1)
+yes : (c : tie.In-Yes) → refusal_in (lists (asked c)) (seat_lent (before (asked c))) ≡ all_yes
+yes c = verdict c.before.before all_yes (ap verdict_of c.enum_told-1.given.1)
 
 seat_requires : tie.Need-seat-requires
-seat_requires c κs = let p : tie.After-enum-told = c.before.before.before.before in asked_yes (lists (asked p)) _ (yes p)
+seat_requires c κs = let p : tie.In-Yes = c.before.before.before.before in asked_yes (lists (asked p)) _ (yes p)
 
-returns : tie.Need-returns
+returns : tie.Need-returns-in-No
 returns c =
-    let d : tie.After-ask = c.before.before.before in
-    let f = c.before.asked.given in
+    let d : tie.After-ask-asked = c.before.before.before in
+    let f = c.before.asked-1.given in
     let l = lists (start d) in
     let v = verdict d _ (ap verdict_of f.1) in (
       refused_settled l _ (seated (given_by l)) (SeatNone (given_by l)) (before (start d)) f.0.0.number f.0.0.line v,
       sym (looked_by_lem l _ _ v),
     )
 
-returns-2 : tie.Need-returns-2
+returns-2 : tie.Need-returns-in-Yes
 returns-2 c =
     let r = c.before.before.before.before.before.before.before.before in
-    let p : tie.After-enum-told = r.before.before.before.before.before in
+    let p : tie.In-Yes = r.before.before.before.before.before in
     let l = lists (asked p) in
-    let told = c.seat-answer.ensures in
+    let told = c.seat_answer.ensures in
     let left = r.seat.ensures in (
       solved_settled l _ (seated (given_by l)) (SeatNone (given_by l)) (before (asked p)) (yes p)
-          (seat_reply c.seat-answer.result) (seated_reply r.seat.result) told.0 _ left.0,
+          (seat_reply c.seat_answer.result) (seated_reply r.seat.result) told.0 _ left.0,
       told.1 ∙ left.1 ∙ sym (looked_by_lem l _ _ (yes p)),
     )
 
 pub seat_spec : {M : Type 1} → statement M
-seat_spec = tie.close (tie.spec (λ c κs. tt) (λ c κs. tt) (λ c. c.match.keys1) (λ c. c.match.keys2) seat_requires (λ c κs. tt)
+seat_spec = tie.close (tie.spec (λ c κs. tt) (λ c κs. tt) (λ c. c.in-No.keys1) (λ c. c.in-Yes.keys2) seat_requires (λ c κs. tt)
     (λ c. refl) (λ c. refl) (λ c. refl) (λ c. refl) returns
     (λ c. c.before.before.before.before.before.before.before.before.seat.auto.1.1.1.1.1.1.1.0)
     (λ c. c.before.before.before.before.before.before.before.before.seat.auto.1.1.1.1.1.1.1.1.0)

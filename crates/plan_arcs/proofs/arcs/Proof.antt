@@ -19,69 +19,69 @@ use Rattle.plan_arcs.proofs.RowFillLaws.{RowsFilled, rows_start, rows_store, row
 use Rattle.plan_arcs.proofs.arcs.Statement.{statement}
 use Rattle.plan_arcs.proofs.arcs.Tie as tie
 
-abbrev invariant-loop2 : tie.invariant-loop2
+abbrev invariant-loop2 : tie.invariant-loop-a
 invariant-loop2 w t₀ b row a₀ t a =
     (b < w) × (b + 1 ≤ a) × (a ≤ w) × (length t ≡ length t₀) × ((f : Weights) → RowsFilled w f (one_less f) b (b + 1) t₀ → RowsFilled w f (one_less f) b a t)
 
-abbrev decreases-loop2 : tie.decreases-loop2
+abbrev decreases-loop2 : tie.decreases-loop-a
 decreases-loop2 w t₀ b row a₀ t a = w - a
 
-abbrev invariant-loop : tie.invariant-loop
+abbrev invariant-loop : tie.invariant-loop-b
 invariant-loop w t₀ b₀ t b = (b ≤ w) × (length t ≡ length t₀) × RowsFilled w (entry w t₀) (one_less (entry w t₀)) b (b + 1) t
 
-abbrev decreases-loop : tie.decreases-loop
+abbrev decreases-loop : tie.decreases-loop-b
 decreases-loop w t₀ b₀ t b = w - b
 
-loop-holds : tie.Need-loop-init invariant-loop2 decreases-loop2 invariant-loop decreases-loop
+loop-holds : tie.Need-loop-b-init invariant-loop2 decreases-loop2 invariant-loop decreases-loop
 loop-holds c =
     let t = c.args.t.now in
     let f = entry c.args.w t in
     (omega arith, refl, rows_start c.args.w f (one_less f) 1 t (λ a b ha hb. refl) (λ y h. sym (less_other f 0 y (omega arith))))
 
 -- the two places of a turn are inside the table
-inside : (c : tie.In-loop2 invariant-loop2 decreases-loop2 invariant-loop decreases-loop)
+inside : (c : tie.In-loop-a invariant-loop2 decreases-loop2 invariant-loop decreases-loop)
     → let w = c.before.before.before.before.args.w in
-    let b = c.before.before.before.loop.b in
-    let a = c.before.loop2.a in
-    (a * w + b < length c.before.loop2.t) × (b * w + a < length c.before.loop2.t)
+    let b = c.before.before.before.loop-b.b in
+    let a = c.before.loop-a.a in
+    (a * w + b < length c.before.loop-a.t) × (b * w + a < length c.before.loop-a.t)
 inside c =
     let st = c.before.before.before.before in
-    let b = c.before.before.before.loop in
-    let a = c.before.loop2 in
+    let b = c.before.before.before.loop-b in
+    let a = c.before.loop-a in
     let n = row_inside a.a st.args.w (omega arith) in
     let m = row_inside b.b st.args.w (omega arith) in
     (omega (arith, b.invariant.1, a.invariant.3), omega (arith, b.invariant.1, a.invariant.3))
 
 -- the table so far, and the entry that a turn reads: it is still the old one
-so_far : (c : tie.In-loop2 invariant-loop2 decreases-loop2 invariant-loop decreases-loop)
+so_far : (c : tie.In-loop-a invariant-loop2 decreases-loop2 invariant-loop decreases-loop)
     → let f = entry c.before.before.before.before.args.w c.before.before.before.before.args.t.now in
-    RowsFilled c.before.before.before.before.args.w f (one_less f) c.before.before.before.loop.b c.before.loop2.a c.before.loop2.t
+    RowsFilled c.before.before.before.before.args.w f (one_less f) c.before.before.before.loop-b.b c.before.loop-a.a c.before.loop-a.t
 so_far c =
     let st = c.before.before.before.before in
-    c.before.loop2.invariant.4 (entry st.args.w st.args.t.now) c.before.before.before.loop.invariant.2
+    c.before.loop-a.invariant.4 (entry st.args.w st.args.t.now) c.before.before.before.loop-b.invariant.2
 
-less_fits : (c : tie.In-loop2 invariant-loop2 decreases-loop2 invariant-loop decreases-loop)
-    → let l = c.before.loop2 in SFits w16 (entry c.before.before.before.before.args.w l.t l.a c.before.before.before.loop.b +ℤ negsuc 0)
+less_fits : (c : tie.In-loop-a invariant-loop2 decreases-loop2 invariant-loop decreases-loop)
+    → let l = c.before.loop-a in SFits w16 (entry c.before.before.before.before.args.w l.t l.a c.before.before.before.loop-b.b +ℤ negsuc 0)
 less_fits c =
     let st = c.before.before.before.before in
     let w = st.args.w in
-    let b = c.before.before.before.loop.b in
-    let l = c.before.loop2 in
+    let b = c.before.before.before.loop-b.b in
+    let l = c.before.loop-a in
     one_less_fits (entry w l.t l.a b)
     (subst (Within max_units) (sym ((so_far c).under l.a b (omega arith) (omega arith) (omega arith))) (st.requires.1 l.a b (omega arith) (omega arith)))
 
-sub_t : tie.Need-overflow-sub-t invariant-loop2 decreases-loop2 invariant-loop decreases-loop
+sub_t : tie.Need-overflow_sub-t invariant-loop2 decreases-loop2 invariant-loop decreases-loop
 sub_t c =
-    let l = c.before.before.loop2 in
-    let i = l.a * c.before.before.before.before.before.args.w + c.before.before.before.before.loop.b in
+    let l = c.before.before.loop-a in
+    let i = l.a * c.before.before.before.before.before.args.w + c.before.before.before.before.loop-b.b in
     let x : SFits w16 (get_or l.t i (pos 0)) = search rules in
     rw (to_z-of_z x) (less_fits c.before)
 
-loop2_again : tie.Need-loop2-preserved invariant-loop2 decreases-loop2 invariant-loop decreases-loop
+loop2_again : tie.Need-loop-a-preserved invariant-loop2 decreases-loop2 invariant-loop decreases-loop
 loop2_again c =
     let w = c.before.before.before.before.before.args.w in
-    let b = c.before.before.before.before.loop.b in
-    let l = c.before.before.loop2 in
+    let b = c.before.before.before.before.loop-b.b in
+    let l = c.before.before.loop-a in
     let v = entry w l.t l.a b +ℤ negsuc 0 in
     let x : SFits w16 (get_or l.t (l.a * w + b) (pos 0)) = search rules in
     let n = row_inside b w (omega arith) in
@@ -96,13 +96,13 @@ loop2_again c =
           (ap (λ (z : ℤ). z +ℤ negsuc 0) (G.under l.a b (omega arith) (omega arith) (omega arith)) ∙ sym (less_arc f b l.a (omega arith))),
     )
 
-loop-again : tie.Need-loop-preserved invariant-loop2 decreases-loop2 invariant-loop decreases-loop
+loop-again : tie.Need-loop-b-preserved invariant-loop2 decreases-loop2 invariant-loop decreases-loop
 loop-again c =
     let st = c.before.before.before.before in
     let w = st.args.w in
     let f = entry w st.args.t.now in
-    let r = c.before.before.before.loop in
-    let l = c.before.loop2 in (
+    let r = c.before.before.before.loop-b in
+    let l = c.before.loop-a in (
       omega arith,
       l.invariant.3 ∙ r.invariant.1,
       rows_next w f (one_less f) r.b l.a l.t (l.invariant.4 f r.invariant.2) (r.b + 1 + 1) (omega arith)
@@ -113,13 +113,13 @@ returns : tie.Need-returns invariant-loop2 decreases-loop2 invariant-loop decrea
 returns c =
     let a = c.before.before.args in
     let f = entry a.w a.t.now in
-    let l = c.before.loop in
+    let l = c.before.loop-b in
     rows_all a.w f (one_less f) l.b (l.b + 1) l.t l.invariant.2 (omega arith)
 
 pub arcs_spec : {M : Type 1} → statement M
 arcs_spec = tie.close (tie.spec invariant-loop2 decreases-loop2 invariant-loop decreases-loop loop-holds
-    (λ c. omega (arith, row_inside c.before.loop.b c.before.before.args.w (omega arith))) (λ c. omega arith)
+    (λ c. omega (arith, row_inside c.before.loop-b.b c.before.before.args.w (omega arith))) (λ c. omega arith)
     (λ c. (omega arith, omega arith, omega arith, refl, λ f F. F)) (λ c. omega (arith, inside c)) (λ c. omega (arith, inside c))
     (λ c. omega (arith, inside c)) (λ c. (inside c).0) sub_t (λ c. omega (arith, inside c.before)) (λ c. omega (arith, inside c.before))
     (λ c. (inside c.before).1) (λ c. omega arith) (λ c. omega arith) loop2_again (λ c. omega arith) (λ c. omega arith) loop-again
-    (λ c. c.before.loop.invariant.1) returns)
+    (λ c. c.before.loop-b.invariant.1) returns)

@@ -18,12 +18,12 @@ use Rattle.plan_arcs.proofs.cut_arcs.Tie as tie
 abbrev units : tie.Start → List Window
 units c = windows_of c.args.first.now c.args.last.now
 
-filled : (c : tie.After-windows-inside)
+filled : (c : tie.After-windows_inside)
     → let st = c.before.before.before.before in
-    TableFilled st.args.w (inside_weights (units st)) st.args.out.now c.windows-inside.new.1.1.1.0
+    TableFilled st.args.w (inside_weights (units st)) st.args.out.now c.windows_inside.new.1.1.1.0
 filled c =
     let st = c.before.before.before.before in
-    is_filled st.args.w (inside_weights (units st)) st.args.out.now c.windows-inside.new.1.1.1.0 st.requires.1 c.windows-inside.ensures
+    is_filled st.args.w (inside_weights (units st)) st.args.out.now c.windows_inside.new.1.1.1.0 st.requires.1 c.windows_inside.ensures
 
 arcs_requires : tie.Need-arcs-requires
 arcs_requires c κs =
@@ -40,7 +40,7 @@ returns c a b ha hb =
     let st = inside.before.before.before.before in
     let f = filled inside in
     c.before.arcs.ensures a b ha hb
-    ∙ less_same (entry st.args.w inside.windows-inside.new.1.1.1.0) (inside_weights (units st)) a b (f.at b a hb ha) (f.at a b ha hb)
+    ∙ less_same (entry st.args.w inside.windows_inside.new.1.1.1.0) (inside_weights (units st)) a b (f.at b a hb ha) (f.at a b ha hb)
 
 pub cut_arcs_spec : {M : Type 1} → statement M
 cut_arcs_spec = tie.close (tie.spec (λ c κs. search rules) arcs_requires (λ c. search rules) returns)

@@ -16,43 +16,43 @@ use Rattle.plan_ask.proofs.ask.Statement.{statement}
 use Rattle.plan_ask.proofs.ask.Tie as tie
 
 -- back to the start, from the lists' answer
-abbrev start : tie.After-ask-lists → tie.Start
+abbrev start : tie.After-ask_lists-asked → tie.Start
 start c = c.before.before.before.before.before.before.before.before
 
-abbrev lists : tie.After-ask-lists → WrittenLists
+abbrev lists : tie.After-ask_lists-asked → WrittenLists
 lists c =
     let a = (start c).args in
     written_lists a.span a.loader.now a.first.now a.last.now a.from.now a.to.now a.low.now a.high.now
 
-abbrev rooms : tie.After-ask-lists → Bool
+abbrev rooms : tie.After-ask_lists-asked → Bool
 rooms c = rooms_fit (given_by (lists c)) (start c).args.rooms
 
 -- the lists' verdict, and then the rooms'
-verdict_then : (c : tie.After-ask-lists) (v : Verdict) → verdict_of c.ask-lists.result ≡ v
+verdict_then : (c : tie.After-ask_lists-asked) (v : Verdict) → verdict_of c.ask_lists-asked.result ≡ v
     → refusal_by (lists c) (rooms c) ≡ and_then v (cond (rooms c) all_yes (no 12 0))
-verdict_then c v e = refusal_then (lists c) (rooms c) v (sym c.ask-lists.ensures ∙ e)
+verdict_then c v e = refusal_then (lists c) (rooms c) v (sym c.ask_lists-asked.ensures ∙ e)
 
 -- where the lists' answer was yes
-abbrev asked : tie.After-enum-told → tie.After-ask-lists
+abbrev asked : tie.In-Yes → tie.After-ask_lists-asked
 asked c = c.before.before
 
-given_lists : (c : tie.After-enum-told) → Listed (lists (asked c))
-given_lists c = lists_yes (lists (asked c)) (sym (asked c).ask-lists.ensures ∙ ap verdict_of c.enum_told.given.1)
+given_lists : (c : tie.In-Yes) → Listed (lists (asked c))
+given_lists c = lists_yes (lists (asked c)) (sym (asked c).ask_lists-asked.ensures ∙ ap verdict_of c.enum_told-1.given.1)
 
 -- the rooms, as they are asked
-rooms_decide : (c : tie.After-rooms-fit) (b : Bool) → c.rooms-fit.result ≡ b
+rooms_decide : (c : tie.After-rooms_fit) (b : Bool) → c.rooms_fit.result ≡ b
     → let a = asked c.before.before in refusal_by (lists a) (rooms a) ≡ cond b all_yes (no 12 0)
 rooms_decide c b e =
-    let told : tie.After-enum-told = c.before.before in
+    let told : tie.In-Yes = c.before.before in
     let l = (lists (asked told)).constraints in
     let r = (start (asked told)).args.rooms in
-    verdict_then (asked told) all_yes (ap verdict_of told.enum_told.given.1)
+    verdict_then (asked told) all_yes (ap verdict_of told.enum_told-1.given.1)
     ∙ ap (λ (fit : Bool). cond fit all_yes (no 12 0)) (asks_rooms l (lists_read l (given_lists told).lists) r
-    ∙ ap (λ (w : ℕ). lengths_fit w (length l.first) r) (sym c.before.boundaries.ensures) ∙ sym c.rooms-fit.ensures ∙ e)
+    ∙ ap (λ (w : ℕ). lengths_fit w (length l.first) r) (sym c.before.boundaries.ensures) ∙ sym c.rooms_fit.ensures ∙ e)
 
 pub ask_spec : {M : Type 1} → statement M
 ask_spec = tie.close (tie.spec (λ c κs. search rules) (λ c. search rules) (λ c. search rules)
     (λ c κs. span_bound (lists (asked c)).constraints (given_lists c).sheet)
     (λ c κs. omega (arith, c.boundaries.ensures, span_bound (lists (asked c.before)).constraints (given_lists c.before).sheet))
-    (λ c. sym (verdict_then c.before.before.before _ (ap verdict_of c.before.asked.given.1)))
-    (λ c. sym (rooms_decide c.before _ c.if1.true)) (λ c. sym (rooms_decide c.before _ c.if1.false)))
+    (λ c. sym (verdict_then c.before.before.before _ (ap verdict_of c.before.asked-1.given.1)))
+    (λ c. sym (rooms_decide c.before _ c.if-rooms_fit.true)) (λ c. sym (rooms_decide c.before _ c.if-rooms_fit.false)))

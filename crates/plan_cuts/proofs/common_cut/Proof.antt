@@ -11,50 +11,50 @@ use Rattle.plan_cuts.proofs.common_cut.Tie as tie
 
 -- ---- once the last marked place is known
 abbrev Found : Type 0
-Found = tie.After-last-marked
+Found = tie.After-last_marked-l
 
-place : (c : Found) → c.last-marked.result < c.before.before.before.args.w
+place : (c : Found) → c.last_marked-l.result < c.before.before.before.args.w
 place c =
     let st = c.before.before.before in
     let n = st.requires.3 in
-    omega (arith, last_inside st.args.row.now c.last-marked.result (omega (arith, n, st.requires.2)) c.last-marked.ensures, n)
+    omega (arith, last_inside st.args.row.now c.last_marked-l.result (omega (arith, n, st.requires.2)) c.last_marked-l.ensures, n)
 
-mul_known : tie.Need-overflow-mul-known
+mul_known : tie.Need-offset_bounds-row-l
 mul_known c = omega (arith, place c.before.before, c.before.before.before.before.before.requires.0.most)
 
-shared_slice_read_known : tie.Need-shared-slice-read-known
+shared_slice_read_known : tie.Need-bounds-row-l
 shared_slice_read_known c = omega (arith, place c.before.before.before, c.before.before.before.before.before.before.requires.3)
 
-returns : tie.Need-returns
+returns : tie.Need-returns-then-known-v
 returns c =
     let at = c.before.before.before.before in
     let st = at.before.before.before in
     let a = st.args in
-    let e = c.before.before.larger.ensures in
-    common_known a.w a.d.now a.m.now a.f.0 a.row.now at.last-marked.result c.before.before.larger.result (place at)
-    at.last-marked.ensures st.requires.5 (omega (arith, e)) c.if1.true
+    let e = c.before.before.larger-v.ensures in
+    common_known a.w a.d.now a.m.now a.f.0 a.row.now at.last_marked-l.result c.before.before.larger-v.result (place at)
+    at.last_marked-l.ensures st.requires.5 (omega (arith, e)) c.if-known-v.true
 
 admits_requires : tie.Need-admits-requires
 admits_requires c κs =
     let at = c.before.before.before.before in
     let st = at.before.before.before in
     let a = st.args in
-    let e = c.before.before.larger.ensures in
-    let known = st.requires.5 at.last-marked.result (place at) (omega (arith, c.if1.false)) in
-    (st.requires.0, (st.requires.1, omega (arith, e), omega (arith, c.if1.false, known.inside), place at))
+    let e = c.before.before.larger-v.ensures in
+    let known = st.requires.5 at.last_marked-l.result (place at) (omega (arith, c.if-known-v.false)) in
+    (st.requires.0, (st.requires.1, omega (arith, e), omega (arith, c.if-known-v.false, known.inside), place at))
 
-returns-2 : tie.Need-returns-2
+returns-2 : tie.Need-returns-then-admits
 returns-2 c =
     let at = c.before.before.before.before.before.before in
     let st = at.before.before.before in
     let a = st.args in
-    let v = c.before.before.before.before.larger in
-    let r = at.last-marked.result in
+    let v = c.before.before.before.before.larger-v in
+    let r = at.last_marked-l.result in
     let decided : Bool → Type 0 = λ t. Decides t (AdmitsAt a.w a.d.now a.m.now a.f.0 v.result r) in
-    common_last a.w a.d.now a.m.now a.f.0 a.row.now r v.result at.last-marked.ensures (omega (arith, v.ensures))
-    (λ _. subst decided c.if2.true c.before.admits.ensures)
+    common_last a.w a.d.now a.m.now a.f.0 a.row.now r v.result at.last_marked-l.ensures (omega (arith, v.ensures))
+    (λ _. subst decided c.if-admits.true c.before.admits.ensures)
 
-returns-3 : tie.Need-returns-3
+returns-3 : tie.Need-returns
 returns-3 c =
     let at = c.before.before.before.before.before.before in
     let st = at.before.before.before in
@@ -64,4 +64,4 @@ returns-3 c =
 pub common_cut_spec : {M : Type 1} → statement M
 common_cut_spec = tie.close (tie.spec (λ c κs. search rules) (λ c. omega (arith, place c, c.before.before.before.requires.0.most))
     (λ c. omega (arith, place c.before, c.before.before.before.before.requires.4)) (λ c κs. search rules) mul_known shared_slice_read_known
-    (λ c. omega (arith, c.shared-slice-known4.given c.before.before.before.last-marked.result)) returns admits_requires returns-2 returns-3)
+    (λ c. omega (arith, c.shared_slice_known-4-1.given c.before.before.before.last_marked-l.result)) returns admits_requires returns-2 returns-3)

@@ -9,32 +9,32 @@ use borrow.Author.Rules.{rules}
 use Rattle.plan_cuts.proofs.cut_windows.Statement.{statement}
 use Rattle.plan_cuts.proofs.cut_windows.Tie as tie
 
-abbrev invariant-loop : tie.invariant-loop
+abbrev invariant-loop : tie.invariant-loop-f
 invariant-loop d m w marks₀ floor₀ f₀ marks floor f = CutWindows w d m marks₀ marks floor f
 
-abbrev decreases-loop : tie.decreases-loop
+abbrev decreases-loop : tie.decreases-loop-f
 decreases-loop d m w marks₀ floor₀ f₀ marks floor f = w - f
 
-loop-holds : tie.Need-loop-init invariant-loop decreases-loop
+loop-holds : tie.Need-loop-f-init invariant-loop decreases-loop
 loop-holds c =
     let st = c.before in
     let a = st.args in
     windows_none a.w a.d.now a.m.now a.marks.now st.requires.2 st.requires.0.some
 
 -- the row in hand is inside the room for the marks
-row_fits : (c : tie.In-loop invariant-loop decreases-loop)
-    → c.before.loop.f * c.before.before.before.args.w + c.before.before.before.args.w ≤ length c.before.loop.marks
+row_fits : (c : tie.In-loop-f invariant-loop decreases-loop)
+    → c.before.loop-f.f * c.before.before.before.args.w + c.before.before.before.args.w ≤ length c.before.loop-f.marks
 row_fits c =
     let st = c.before.before.before in
-    omega (arith, row_inside c.before.loop.f st.args.w c.loop-test.true, c.before.loop.invariant.long, st.requires.1)
+    omega (arith, row_inside c.before.loop-f.f st.args.w c.loop-f-test.true, c.before.loop-f.invariant.long, st.requires.1)
 
-cut_row_requires : tie.Need-cut-row-requires invariant-loop decreases-loop
+cut_row_requires : tie.Need-cut_row-requires invariant-loop decreases-loop
 cut_row_requires c κs =
     let at = c.before.before.before in
     let st = at.before.before in
     let a = st.args in
-    let l = at.loop in
-    let h = c.before.before.loop-test.true in
+    let l = at.loop-f in
+    let h = c.before.before.loop-f-test.true in
     let k = l.f * a.w + a.w - l.f * a.w in
     let e : k ≡ a.w = omega arith in (
       (
@@ -47,18 +47,18 @@ cut_row_requires c κs =
       (known_row l.invariant st.requires.1 st.requires.2 h e, l.invariant.floored),
     )
 
-add_f : tie.Need-overflow-add-f invariant-loop decreases-loop
+add_f : tie.Need-overflow_step-f invariant-loop decreases-loop
 add_f c = let at = c.before.before.before.before.before.before.before in omega
-    (arith, c.before.before.before.before.before.before.loop-test.true, at.before.before.requires.0.most)
+    (arith, c.before.before.before.before.before.before.loop-f-test.true, at.before.before.requires.0.most)
 
-loop-again : tie.Need-loop-preserved invariant-loop decreases-loop
+loop-again : tie.Need-loop-f-preserved invariant-loop decreases-loop
 loop-again c =
     let at = c.before.before.before.before.before.before.before in
     let st = at.before.before in
     let a = st.args in
-    let l = at.loop in
-    let h = c.before.before.before.before.before.before.loop-test.true in
-    let r = c.before.before.before.cut-row in
+    let l = at.loop-f in
+    let h = c.before.before.before.before.before.before.loop-f-test.true in
+    let r = c.before.before.before.cut_row in
     let k = l.f * a.w + a.w - l.f * a.w in
     let e : k ≡ a.w = omega arith in
     let n = row_length l.invariant st.requires.1 st.requires.2 h e in
@@ -68,9 +68,9 @@ loop-again c =
 
 returns : tie.Need-returns invariant-loop decreases-loop
 returns c =
-    let l = c.before.loop in
+    let l = c.before.loop-f in
     let w = c.before.before.before.args.w in
-    let e : l.f ≡ w = omega (arith, l.invariant.place, c.loop-test.false) in
+    let e : l.f ≡ w = omega (arith, l.invariant.place, c.loop-f-test.false) in
     λ f k hf hk. l.invariant.done f k (omega arith) hk
 
 pub cut_windows_spec : {M : Type 1} → statement M
@@ -78,4 +78,4 @@ cut_windows_spec = tie.close (tie.spec invariant-loop decreases-loop loop-holds 
     (λ c. omega (arith, row_fits c, c.before.before.before.well-formed)) (λ c. omega (arith, row_fits c, c.before.before.before.well-formed))
     (λ c. omega (arith, row_fits c, c.before.before.before.well-formed)) (λ c. omega (arith, row_fits c, c.before.before.before.well-formed))
     (λ c. omega (arith, row_fits c, c.before.before.before.well-formed)) (λ c. search rules) cut_row_requires add_f
-    (λ c. omega (arith, c.before.before.before.before.before.before.loop-test.true)) loop-again (λ c. c.before.loop.invariant.long) returns)
+    (λ c. omega (arith, c.before.before.before.before.before.before.loop-f-test.true)) loop-again (λ c. c.before.loop-f.invariant.long) returns)

@@ -8,37 +8,37 @@ use Rattle.plan_lists.specs.RisingLaws.{rising_from, rising_next, rising_stop, r
 use Rattle.plan_lists.proofs.all_rise.Statement.{statement}
 use Rattle.plan_lists.proofs.all_rise.Tie as tie
 
-abbrev invariant-loop : tie.invariant-loop
+abbrev invariant-loop : tie.invariant-loop-j
 invariant-loop least start most first last j₀ j = (j ≤ length first) × (all_rising least start most first last ≡ rising_from least start most first last j)
 
-abbrev decreases-loop : tie.decreases-loop
+abbrev decreases-loop : tie.decreases-loop-j
 decreases-loop least start most first last j₀ j = length first - j
 
-loop-again : tie.Need-loop-preserved invariant-loop decreases-loop
+loop-again : tie.Need-loop-j-preserved invariant-loop decreases-loop
 loop-again c =
     let a = c.before.before.before.before.before.before.before.before.args in
-    let l = c.before.before.before.before.before.loop in
+    let l = c.before.before.before.before.before.loop-j in
     let e = c.before.before.before.before.before.before.before.before.requires in
-    let rises = sym c.before.rises.ensures ∙ c.if1.true in
+    let rises = sym c.before.rises.ensures ∙ c.if-rises.true in
     (omega arith, l.invariant.1 ∙ rising_next a.least a.start a.most a.first.now a.last.now e l.j (omega arith) rises)
 
-returns : tie.Need-returns invariant-loop decreases-loop
+returns : tie.Need-returns-else-rises invariant-loop decreases-loop
 returns c =
     let a = c.before.before.before.before.before.before.before.before.args in
-    let l = c.before.before.before.before.before.loop in
+    let l = c.before.before.before.before.before.loop-j in
     let e = c.before.before.before.before.before.before.before.before.requires in
-    let falls = sym c.before.rises.ensures ∙ c.if1.false in
+    let falls = sym c.before.rises.ensures ∙ c.if-rises.false in
     sym (l.invariant.1 ∙ rising_stop a.least a.start a.most a.first.now a.last.now e l.j (omega arith) falls)
 
-returns-2 : tie.Need-returns-2 invariant-loop decreases-loop
+returns-2 : tie.Need-returns invariant-loop decreases-loop
 returns-2 c =
     let a = c.before.before.before.before.args in
-    let l = c.before.loop in
+    let l = c.before.loop-j in
     sym (l.invariant.1 ∙ rising_end a.least a.start a.most a.first.now a.last.now c.before.before.before.before.requires l.j (omega arith))
 
 pub all_rise_spec : {M : Type 1} → statement M
 unfolding all_rising rising_from
 all_rise_spec = tie.close (tie.spec invariant-loop decreases-loop (λ c. (omega arith, refl)) (λ c. omega arith) (λ c. omega arith)
-    (λ c. omega (arith, c.shared-slice-known3.given c.before.before.loop.j)) (λ c. omega arith) (λ c. omega arith)
-    (λ c. omega (arith, c.shared-slice-known4.given c.before.before.before.loop.j)) (λ c κs. tt) (λ c. omega arith) (λ c. omega arith)
+    (λ c. omega (arith, c.shared_slice_known-in-loop-j-1.given c.before.before.loop-j.j)) (λ c. omega arith) (λ c. omega arith)
+    (λ c. omega (arith, c.shared_slice_known-in-loop-j-2-1.given c.before.before.before.loop-j.j)) (λ c κs. tt) (λ c. omega arith) (λ c. omega arith)
     loop-again returns returns-2)

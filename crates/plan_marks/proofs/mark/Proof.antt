@@ -8,57 +8,57 @@ use Rattle.plan_marks.specs.MarkLaws.{slots_below, place_inside, marked_none, ma
 use Rattle.plan_marks.proofs.mark.Statement.{statement}
 use Rattle.plan_marks.proofs.mark.Tie as tie
 
-abbrev invariant-loop : tie.invariant-loop
+abbrev invariant-loop : tie.invariant-loop-j
 invariant-loop turned w opens closes plan marks₀ j₀ j-end marks j =
     (j ≤ length opens) × (j-end ≡ length opens) × (length marks ≡ length marks₀)
     × Marked j w (seen_at turned w opens) (seen_at turned w closes) (seen_at turned w plan) marks
 
-abbrev decreases-loop : tie.decreases-loop
+abbrev decreases-loop : tie.decreases-loop-j
 decreases-loop turned w opens closes plan marks₀ j₀ j-end marks j = length opens - j
 
-abbrev start : tie.In-loop invariant-loop decreases-loop → tie.Start invariant-loop decreases-loop
+abbrev start : tie.In-loop-j invariant-loop decreases-loop → tie.Start invariant-loop decreases-loop
 start c = c.before.before.before.before.before.before
 
-loop-holds : tie.Need-loop-init invariant-loop decreases-loop
+loop-holds : tie.Need-loop-j-init invariant-loop decreases-loop
 loop-holds c =
     let st = c.before.before.before.before in
     (omega arith, refl, refl, marked_none st.requires.0 st.args.marks.now st.requires.1.2)
 
 -- unit j's slots are within the boundaries
-below : (c : tie.In-loop invariant-loop decreases-loop)
+below : (c : tie.In-loop-j invariant-loop decreases-loop)
     → let a = (start c).args in
-    let j = c.before.loop.j in
+    let j = c.before.loop-j.j in
     (get_or a.opens.now j 0 ≤ a.w) × (get_or a.closes.now j 0 ≤ a.w) × (get_or a.plan.now j 0 ≤ a.w)
-below c = slots_below (start c).requires.0 c.before.loop.j (omega arith)
+below c = slots_below (start c).requires.0 c.before.loop-j.j (omega arith)
 
-mark_place_requires : tie.Need-mark-place-requires invariant-loop decreases-loop
+mark_place_requires : tie.Need-mark_place-at-requires invariant-loop decreases-loop
 mark_place_requires c κs =
     let turn = c.before.before in
     let st = start turn in
-    let u = st.pre.0.inside turn.before.loop.j (omega arith) in
+    let u = st.pre.0.inside turn.before.loop-j.j (omega arith) in
     let b = below turn in
     (b.0, b.1, omega arith, omega arith, st.pre.1.0)
 
 -- its window's place is inside the room for the marks
-place : (c : tie.After-mark-place invariant-loop decreases-loop) → c.mark-place.result < length c.before.before.before.before.loop.marks
+place : (c : tie.After-mark_place-at invariant-loop decreases-loop) → c.mark_place-at.result < length c.before.before.before.before.loop-j.marks
 place c =
     let turn = c.before.before.before in
     let st = start turn in
-    let l = turn.before.loop in
-    omega (arith, c.mark-place.ensures, place_inside st.pre.0 l.j (omega arith), st.pre.1.1, l.invariant.2)
+    let l = turn.before.loop-j in
+    omega (arith, c.mark_place-at.ensures, place_inside st.pre.0 l.j (omega arith), st.pre.1.1, l.invariant.2)
 
-cast_marks : tie.Need-overflow-cast-marks invariant-loop decreases-loop
+cast_marks : tie.Need-overflow_cast-marks invariant-loop decreases-loop
 cast_marks c =
     let turn = c.before.before.before.before.before in
     let st = start turn in
-    omega (arith, c.Slot-seen.ensures, st.pre.0.inside turn.before.loop.j (omega arith), st.pre.1.0)
+    omega (arith, c.Slot-seen.ensures, st.pre.0.inside turn.before.loop-j.j (omega arith), st.pre.1.0)
 
-loop-again : tie.Need-loop-preserved invariant-loop decreases-loop
+loop-again : tie.Need-loop-j-preserved invariant-loop decreases-loop
 loop-again c =
     let turn = c.before.before.before.before.before in
     let st = start turn in
-    let l = turn.before.loop in
-    let at = c.before.before.mark-place in (
+    let l = turn.before.loop-j in
+    let at = c.before.before.mark_place-at in (
       omega arith,
       refl,
       length-set l.marks at.result c.Slot-seen.result ∙ l.invariant.2,
@@ -68,7 +68,7 @@ loop-again c =
 returns : tie.Need-returns invariant-loop decreases-loop
 returns c =
     let a = c.before.before.before.before.before.before.args in
-    let l = c.before.loop in
+    let l = c.before.loop-j in
     let e : l.j ≡ length a.opens.now = omega arith in
     subst (λ (n : ℕ). Marked n a.w (seen_at a.turned a.w a.opens.now) (seen_at a.turned a.w a.closes.now)
     (seen_at a.turned a.w a.plan.now) l.marks) e l.invariant.3
@@ -79,4 +79,4 @@ mark_spec = tie.close (tie.spec invariant-loop decreases-loop loop-holds (λ c. 
     (λ c. omega (arith, (start c.before.before.before).pre.0.seats))
     (λ c. omega (arith, (start c.before.before.before.before).pre.0.seats)) (λ c κs. (below c.before.before.before.before).2) cast_marks
     (λ c. omega (arith, place c.before.before)) (λ c. place c.before.before) (λ c. omega arith) (λ c. omega arith) loop-again
-    (λ c. c.before.loop.invariant.2) returns)
+    (λ c. c.before.loop-j.invariant.2) returns)

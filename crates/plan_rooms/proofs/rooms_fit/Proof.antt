@@ -13,45 +13,45 @@ use Rattle.plan_rooms.proofs.rooms_fit.Tie as tie
 of_arm : (w n : ℕ) {rooms arm : Lengths} {answer : Bool} → rooms ≡ arm → answer ≡ lengths_fit w n arm → answer ≡ lengths_fit w n rooms
 of_arm w n e h = h ∙ ap (lengths_fit w n) (sym e)
 
-returns : tie.Need-returns
+returns : tie.Need-returns-else-table_fits
 returns c =
     let f = c.before in
-    of_arm _ _ f.before.before.rooms.given.1 (fails_here _ _ (sym f.table-fits.ensures ∙ c.if1.false))
+    of_arm _ _ f.before.before.rooms-1.given.1 (fails_here _ _ (sym f.table_fits.ensures ∙ c.if-table_fits.false))
 
-returns-2 : tie.Need-returns-2
+returns-2 : tie.Need-returns-else-seats_fit
 returns-2 c =
     let g = c.before in
     let f = g.before.before in
-    of_arm _ _ f.before.before.rooms.given.1
-    (holds_here _ _ _ (sym f.table-fits.ensures ∙ g.before.if1.true) (fails_here _ _ (sym g.seats-fit.ensures ∙ c.if2.false)))
+    of_arm _ _ f.before.before.rooms-1.given.1
+    (holds_here _ _ _ (sym f.table_fits.ensures ∙ g.before.if-table_fits.true) (fails_here _ _ (sym g.seats_fit.ensures ∙ c.if-seats_fit.false)))
 
-returns-3 : tie.Need-returns-3
+returns-3 : tie.Need-returns-else-table_fits-2
 returns-3 c =
     let f = c.before in
-    of_arm _ _ f.before.before.rooms2.given.1 (fails_here _ _ (sym f.table-fits2.ensures ∙ c.if3.false))
+    of_arm _ _ f.before.before.rooms-in-ForDecision-1.given.1 (fails_here _ _ (sym f.table_fits-in-ForDecision.ensures ∙ c.if-table_fits-2.false))
 
-returns-4 : tie.Need-returns-4
+returns-4 : tie.Need-returns-else-table_fits-3
 returns-4 c =
     let f = c.before in
-    of_arm _ _ f.before.before.rooms3.given.1 (fails_here _ _ (sym f.table-fits3.ensures ∙ c.if4.false))
+    of_arm _ _ f.before.before.rooms-in-ForSeats-1.given.1 (fails_here _ _ (sym f.table_fits-in-ForSeats.ensures ∙ c.if-table_fits-3.false))
 
-returns-5 : tie.Need-returns-5
+returns-5 : tie.Need-returns-then-seats_fit
 returns-5 c =
     let g = c.before in
     let f = g.before.before in
-    of_arm _ _ f.before.before.rooms.given.1
-    (holds_here _ _ _ (sym f.table-fits.ensures ∙ g.before.if1.true) (holds_here _ _ _ (sym g.seats-fit.ensures ∙ c.if2.true) refl))
+    of_arm _ _ f.before.before.rooms-1.given.1
+    (holds_here _ _ _ (sym f.table_fits.ensures ∙ g.before.if-table_fits.true) (holds_here _ _ _ (sym g.seats_fit.ensures ∙ c.if-seats_fit.true) refl))
 
-returns-6 : tie.Need-returns-6
+returns-6 : tie.Need-returns-then-table_fits-2
 returns-6 c =
     let f = c.before in
-    of_arm _ _ f.before.before.rooms2.given.1 (holds_here _ _ _ (sym f.table-fits2.ensures ∙ c.if3.true) refl)
+    of_arm _ _ f.before.before.rooms-in-ForDecision-1.given.1 (holds_here _ _ _ (sym f.table_fits-in-ForDecision.ensures ∙ c.if-table_fits-2.true) refl)
 
-returns-7 : tie.Need-returns-7
+returns-7 : tie.Need-returns-then-table_fits-3
 returns-7 c =
     let f = c.before.before in
-    of_arm _ _ f.before.before.rooms3.given.1
-    (holds_here _ _ _ (sym f.table-fits3.ensures ∙ c.before.if4.true) c.seats-fit2.ensures)
+    of_arm _ _ f.before.before.rooms-in-ForSeats-1.given.1
+    (holds_here _ _ _ (sym f.table_fits-in-ForSeats.ensures ∙ c.before.if-table_fits-3.true) c.seats_fit-in-ForSeats.ensures)
 
 pub rooms_fit_spec : {M : Type 1} → statement M
 rooms_fit_spec = tie.close (tie.spec (λ c. search rules) (λ c κs. search rules) returns (λ c κs. search rules) returns-2 (λ c. search rules)

@@ -13,11 +13,11 @@ use Rattle.plan_seats.specs.Seats.{open_at}
 use Rattle.plan_seats.proofs.next_open.Statement.{statement}
 use Rattle.plan_seats.proofs.next_open.Tie as tie
 
-abbrev invariant-loop : tie.invariant-loop
+abbrev invariant-loop : tie.invariant-loop-p
 invariant-loop first order plan slot from p₀ p =
     (p ≤ length order) × (first_from (length order - p) p (open_at first slot order plan) ≡ first_from (length order - from) from (open_at first slot order plan))
 
-abbrev decreases-loop : tie.decreases-loop
+abbrev decreases-loop : tie.decreases-loop-p
 decreases-loop first order plan slot from p₀ p = length order - p
 
 -- the search's test, and its number of places
@@ -27,8 +27,8 @@ test c = let a = c.args in open_at a.first.now a.slot a.order.now a.plan.now
 abbrev size : tie.Start invariant-loop decreases-loop → ℕ
 size c = length c.args.order.now
 
-unit_inside : (c : tie.In-loop invariant-loop decreases-loop) → at c.before.before.args.order.now c.before.loop.p < length c.before.before.args.plan.now
-unit_inside c = c.before.before.requires.1 c.before.loop.p (omega arith)
+unit_inside : (c : tie.In-loop-p invariant-loop decreases-loop) → at c.before.before.args.order.now c.before.loop-p.p < length c.before.before.args.plan.now
+unit_inside c = c.before.before.requires.1 c.before.loop-p.p (omega arith)
 
 -- of a unit without a seat the second test decides
 free : (x : ℕ) (t : Bool) → x ≡ 0 → (eqb x 0 && t) ≡ t
@@ -37,27 +37,27 @@ free x t e = rw (eq-eqb x 0 e) refl
 seated : (x : ℕ) (t : Bool) → (x ≡ 0 → ⊥) → (eqb x 0 && t) ≡ false
 seated x t ne = rw (ne_eqb x 0 ne) refl
 
-returns : tie.Need-returns invariant-loop decreases-loop
+returns : tie.Need-returns-then-first-unit invariant-loop decreases-loop
 returns c =
     let l = c.before.before.before.before.before.before in
     let st = l.before in
-    sym (first_passed (test st) (size st) l.loop.p (omega arith) (free _ _ c.before.before.if1.true ∙ c.if2.true)) ∙ l.loop.invariant.1
+    sym (first_passed (test st) (size st) l.loop-p.p (omega arith) (free _ _ c.before.before.if-plan-unit-eq0.true ∙ c.if-first-unit.true)) ∙ l.loop-p.invariant.1
 
-loop-again : tie.Need-loop-preserved invariant-loop decreases-loop
+loop-again : tie.Need-loop-p-preserved invariant-loop decreases-loop
 loop-again c =
     let l = c.before.before.before.before in
     let st = l.before in
     let failed = ⊎_elim (λ w. free _ _ w.0.taken ∙ w.2.left) (λ w. seated _ _ w.left) c.if1.branch in
-    (omega arith, first_failed (test st) (size st) l.loop.p (omega arith) failed ∙ l.loop.invariant.1)
+    (omega arith, first_failed (test st) (size st) l.loop-p.p (omega arith) failed ∙ l.loop-p.invariant.1)
 
-returns-2 : tie.Need-returns-2 invariant-loop decreases-loop
+returns-2 : tie.Need-returns invariant-loop decreases-loop
 returns-2 c =
     let l = c.before in
     let st = l.before in
-    sym (first_none (test st) (size st) l.loop.p (omega arith)) ∙ l.loop.invariant.1
+    sym (first_none (test st) (size st) l.loop-p.p (omega arith)) ∙ l.loop-p.invariant.1
 
 pub next_open_spec : {M : Type 1} → statement M
 next_open_spec = tie.close (tie.spec invariant-loop decreases-loop (λ c. (c.requires.2, refl)) (λ c. omega arith) (λ c. omega arith)
-    (λ c. omega (arith, c.shared-slice-known.given c.before.before.loop.p)) (λ c. omega (arith, unit_inside c.before))
+    (λ c. omega (arith, c.shared_slice_known-1.given c.before.before.loop-p.p)) (λ c. omega (arith, unit_inside c.before))
     (λ c. omega (arith, unit_inside c.before.before)) (λ c. omega (arith, unit_inside c.before.before.before))
     (λ c. omega (arith, unit_inside c.before.before.before.before)) returns (λ c. omega arith) (λ c. omega arith) loop-again returns-2)

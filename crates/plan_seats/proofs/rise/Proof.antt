@@ -15,29 +15,29 @@ use Rattle.plan_seats.proofs.rise.Statement.{statement}
 use Rattle.plan_seats.proofs.rise.Tie as tie
 
 -- where the slot ends, and where it starts
-abbrev end : tie.After-result2 → ℕ
-end c = c.before.before.before.end.result.0
+abbrev end : tie.After-result-2-1 → ℕ
+end c = c.before.before.before.end-end.result-1.0
 
-abbrev start : tie.After-result2 → ℕ
-start c = c.before.before.start.result.0
+abbrev start : tie.After-result-2-1 → ℕ
+start c = c.before.before.start-start.result-1.0
 
-abbrev high : tie.After-result2 → ℤ
+abbrev high : tie.After-result-2-1 → ℤ
 high c = get_or c.before.before.before.before.args.counts.now (end c) (pos 0)
 
-abbrev low : tie.After-result2 → ℤ
+abbrev low : tie.After-result-2-1 → ℤ
 low c = get_or c.before.before.before.before.args.counts.now (start c) (pos 0)
 
-record Known (c : tie.After-result2) : Type 0 where
+record Known (c : tie.After-result-2-1) : Type 0 where
   nonneg : pos 0 ≤ℤ low c
   rises : low c ≤ℤ high c
   low_fits : SFits w16 (low c)
   high_fits : SFits w16 (high c)
 
-known : (c : tie.After-result2) → Known c
+known : (c : tie.After-result-2-1) → Known c
 known c =
     let st = c.before.before.before.before in
-    let e : suc (start c) ≡ end c = omega (arith, c.before.before.before.end.ensures, c.before.before.start.ensures) in
-    let r = st.requires.2 (start c) (omega (arith, c.before.before.before.end.ensures)) in
+    let e : suc (start c) ≡ end c = omega (arith, c.before.before.before.end-end.ensures, c.before.before.start-start.ensures) in
+    let r = st.requires.2 (start c) (omega (arith, c.before.before.before.end-end.ensures)) in
     record {
       nonneg = r.0;
       rises = subst (λ (k : ℕ). low c ≤ℤ get_or st.args.counts.now k (pos 0)) e r.1;
@@ -45,12 +45,12 @@ known c =
       high_fits = search rules;
     }
 
-sub_result : tie.Need-overflow-sub-result
+sub_result : tie.Need-overflow_sub-result
 sub_result c =
     let k = known c in
     rw (to_z-of_z k.high_fits, to_z-of_z k.low_fits) (rise_fits (high c) (low c) k.nonneg k.rises k.high_fits)
 
-cast_result : tie.Need-overflow-cast-result
+cast_result : tie.Need-overflow_cast-result
 cast_result c =
     let k = known c in
     rw (to_z-of_z k.high_fits, to_z-of_z k.low_fits, to_z-of_z (rise_fits (high c) (low c) k.nonneg k.rises k.high_fits))
@@ -62,7 +62,7 @@ returns c =
     let counts = c.before.before.before.before.args.counts.now in
     rw (to_z-of_z k.high_fits, to_z-of_z k.low_fits, to_z-of_z (rise_fits (high c) (low c) k.nonneg k.rises k.high_fits))
     (rise_is (high c) (low c) k.nonneg k.rises k.high_fits)
-    ∙ ap₂ (λ (e b : ℕ). count_at counts e - count_at counts b) c.before.before.before.end.ensures c.before.before.start.ensures
+    ∙ ap₂ (λ (e b : ℕ). count_at counts e - count_at counts b) c.before.before.before.end-end.ensures c.before.before.start-start.ensures
 
 pub rise_spec : {M : Type 1} → statement M
 rise_spec = tie.close (tie.spec (λ c κs. tt) (λ c κs. search rules) (λ c. search rules) (λ c. search rules) (λ c. search rules) (λ c. search rules)

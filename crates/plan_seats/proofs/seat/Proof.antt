@@ -13,7 +13,7 @@ use borrow.Author.Rules.{rules}
 use Rattle.plan_seats.proofs.seat.Statement.{statement}
 use Rattle.plan_seats.proofs.seat.Tie as tie
 
-seat_in_order_requires : tie.Need-seat-in-order-requires
+seat_in_order_requires : tie.Need-seat_in_order-requires
 seat_in_order_requires c κs =
     let st = c.before.before.before.before.before in
     let p = st.requires in
@@ -36,7 +36,7 @@ returns c =
     let whole : n - 0 ≡ n = omega arith in
     let order : List ℕ = take (n - 0) (replicate max_units 0) in
     let zeros = ap (λ (k : ℕ). take {A = ℕ} k (replicate max_units 0)) whole ∙ take_zeros n max_units st.requires.units in
-    let called = at_call.seat-in-order in
+    let called = at_call.seat_in_order in
     let all = room_seated first last counts (n - 0) order called.new.1.1.1.1.0 plan whole zeros called.ensures.1.0 in
     let looks = room_looked first last counts order called.result zeros called.ensures.1.1 in (
       (all, looks),

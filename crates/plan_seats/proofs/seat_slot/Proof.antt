@@ -20,7 +20,7 @@ decreases-loop first order slot count plan₀ looked₀ counter₀ plan looked c
 abbrev start : tie.At-loop invariant-loop decreases-loop → tie.Start invariant-loop decreases-loop
 start c = c.before.before.before.before
 
-module _ (c : tie.After-next-open invariant-loop decreases-loop) where
+module _ (c : tie.After-next_open-place invariant-loop decreases-loop) where
   abbrev l : tie.At-loop invariant-loop decreases-loop
   l = c.before.before.before
 
@@ -28,21 +28,21 @@ module _ (c : tie.After-next-open invariant-loop decreases-loop) where
       let first = at a.first.now in
       let order = a.order.now in
       let plan = l.loop.plan in
-      let r = c.next-open.result in
+      let r = c.next_open-place.result in
       (r ≤ length order) × (r < length order → free_open (at plan) first a.slot (at order r) ≡ true)
       × Search first a.slot order a.count a.plan.now r (suc (a.count - (l.loop.counter + 1))) plan
   next =
       let a = (start l).args in
       let left : a.count - l.loop.counter ≡ suc (a.count - (l.loop.counter + 1)) = omega arith in
-      found (at a.first.now) a.slot a.order.now a.count a.plan.now l.loop.looked _ c.next-open.result l.loop.plan
-      l.loop.inv.1 c.next-open.ensures (rw (sym left) l.loop.inv.3)
+      found (at a.first.now) a.slot a.order.now a.count a.plan.now l.loop.looked _ c.next_open-place.result l.loop.plan
+      l.loop.inv.1 c.next_open-place.ensures (rw (sym left) l.loop.inv.3)
 
-  unit_inside : c.next-open.result < length (start l).args.order.now → at (start l).args.order.now c.next-open.result < length l.loop.plan
-  unit_inside h = omega (arith, l.loop.inv.2, (start l).pre.1 c.next-open.result h)
+  unit_inside : c.next_open-place.result < length (start l).args.order.now → at (start l).args.order.now c.next_open-place.result < length l.loop.plan
+  unit_inside h = omega (arith, l.loop.inv.2, (start l).pre.1 c.next_open-place.result h)
 
 -- the place is not the end of the order
-here : (c : tie.Else1 invariant-loop decreases-loop) → c.before.next-open.result < length (start (l c.before)).args.order.now
-here c = let b = (next c.before).0 in let ne = c.if1.false in omega arith
+here : (c : tie.Else-place-order invariant-loop decreases-loop) → c.before.next_open-place.result < length (start (l c.before)).args.order.now
+here c = let b = (next c.before).0 in let ne = c.if-place-order.false in omega arith
 
 loop-holds : tie.Need-loop-init invariant-loop decreases-loop
 loop-holds c =
@@ -50,18 +50,18 @@ loop-holds c =
     let all : a.count - 0 ≡ a.count = omega arith in
     (omega arith, omega arith, refl, rw all (search_start (at a.first.now) a.slot a.order.now a.count a.plan.now))
 
-next_open_requires : tie.Need-next-open-requires invariant-loop decreases-loop
+next_open_requires : tie.Need-next_open-place-requires invariant-loop decreases-loop
 next_open_requires c κs =
     let l = c.before.before in
     let p = (start l).requires in
     (omega (arith, p.0, l.loop.invariant.2), λ j h. omega (arith, p.1 j h, l.loop.invariant.2), l.loop.invariant.1)
 
-returns : tie.Need-returns invariant-loop decreases-loop
+returns : tie.Need-returns-then-place-order invariant-loop decreases-loop
 returns c =
     let n = next c.before in
     let a = (start (l c.before)).args in
-    all_seen (at a.first.now) a.slot a.order.now a.count a.plan.now c.before.next-open.result _ (l c.before).loop.plan
-    (omega (arith, c.if1.true)) n.2
+    all_seen (at a.first.now) a.slot a.order.now a.count a.plan.now c.before.next_open-place.result _ (l c.before).loop.plan
+    (omega (arith, c.if-place-order.true)) n.2
 
 loop-again : tie.Need-loop-preserved invariant-loop decreases-loop
 loop-again c =
@@ -69,7 +69,7 @@ loop-again c =
     let n = next e.before in
     let a = (start (l e.before)).args in
     let plan = (l e.before).loop.plan in
-    let r = e.before.next-open.result in
+    let r = e.before.next_open-place.result in
     let u = at a.order.now r in
     let left = a.count - ((l e.before).loop.counter + 1) in
     let one : suc r ≡ r + 1 = omega arith in (
@@ -80,7 +80,7 @@ loop-again c =
           (taken (at a.first.now) a.slot a.order.now a.count a.plan.now r left plan (here e) (n.1 (here e)) n.2),
     )
 
-returns-2 : tie.Need-returns-2 invariant-loop decreases-loop
+returns-2 : tie.Need-returns-then-place-order invariant-loop decreases-loop
 returns-2 c =
     let l = c.before in
     let a = (start l).args in
@@ -90,6 +90,6 @@ returns-2 c =
 pub seat_slot_spec : {M : Type 1} → statement M
 seat_slot_spec = tie.close (tie.spec invariant-loop decreases-loop loop-holds next_open_requires (λ c. (l c.before).loop.inv.2) returns
     (λ c. omega (arith, here c)) (λ c. omega (arith, here c.before))
-    (λ c. omega (arith, c.shared-slice-known3.given c.before.before.next-open.result))
+    (λ c. omega (arith, c.shared_slice_known-in-loop-1.given c.before.before.next_open-place.result))
     (λ c. omega (arith, unit_inside c.before.before (here c.before))) (λ c. omega (arith, unit_inside c.before.before (here c.before)))
     (λ c. omega (arith, here c.before)) (λ c. omega arith) (λ c. omega arith) loop-again (λ c. c.before.loop.invariant.2) returns-2)

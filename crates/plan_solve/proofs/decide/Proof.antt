@@ -13,7 +13,7 @@ use Rattle.plan_solve.proofs.decide.Statement.{statement}
 use Rattle.plan_solve.proofs.decide.Tie as tie
 
 -- the call's lists, its rooms, and the table that the pass leaves
-abbrev start : tie.After-close-limits → tie.Start
+abbrev start : tie.After-close_limits-outcome → tie.Start
 start c = c.before.before.before.before.before.before.before.before.before
 
 abbrev lists : tie.Start → Lists
@@ -30,39 +30,39 @@ ring c = c.args.ring.now
 holds : (c : tie.Start) → (places (given (lists c)) ≤ length (room c)) × (boundaries (given (lists c)) ≤ length (ring c))
 holds c = decide_hold (given (lists c)) (length (room c)) (length (ring c)) c.requires.rooms
 
-abbrev table : tie.After-close-limits → List ℤ
-table c = c.close-limits.new.1.1.1.1.1.1.1.0
+abbrev table : tie.After-close_limits-outcome → List ℤ
+table c = c.close_limits-outcome.new.1.1.1.1.1.1.1.0
 
-close_limits_requires : tie.Need-close-limits-requires
+close_limits_requires : tie.Need-close_limits-outcome-requires
 close_limits_requires c κs =
     let st = c.before.before.before.before.before.before.before.before in
     limits_asked (lists st) _ st.requires (room st) (holds st).0
 
-find_ring_requires : tie.Need-find-ring-requires
+find_ring_requires : tie.Need-find_ring-n-requires
 find_ring_requires c κs =
     let d = c.before.before.before.before.before in
     let st = start d in
-    ring_asked (lists st) _ st.pre (room st) (holds st).0 d.close-limits.result (table d) d.close-limits.ensures
-    c.before.before.enum_told.given.1 (length (ring st)) (holds st).1
+    ring_asked (lists st) _ st.pre (room st) (holds st).0 d.close_limits-outcome.result (table d) d.close_limits-outcome.ensures
+    c.before.before.enum_told-1.given.1 (length (ring st)) (holds st).1
 
-returns : tie.Need-returns
+returns : tie.Need-returns-in-Stopped
 returns c =
     let f = c.before.before.before in
     let d = f.before.before.before.before.before.before in
     let st = start d in
-    ring_left_lem (lists st) _ st.pre (room st) (holds st).0 d.close-limits.result (table d) d.close-limits.ensures
-    f.before.before.before.enum_told.given.1 (ring st)
-    f.find-ring.result f.find-ring.new.1.1.1.1.1.1.1.0 f.find-ring.new.1.1.1.1.1.1.1.1.0 f.find-ring.ensures
+    ring_left_lem (lists st) _ st.pre (room st) (holds st).0 d.close_limits-outcome.result (table d) d.close_limits-outcome.ensures
+    f.before.before.before.enum_told-1.given.1 (ring st)
+    f.find_ring-n.result f.find_ring-n.new.1.1.1.1.1.1.1.0 f.find_ring-n.new.1.1.1.1.1.1.1.1.0 f.find_ring-n.ensures
 
-returns-2 : tie.Need-returns-2
+returns-2 : tie.Need-returns-in-Finished
 returns-2 c =
     let d = c.before.before.before in
     let st = start d in
-    fits_left (lists st) _ st.pre (room st) (holds st).0 d.close-limits.result (table d) d.close-limits.ensures c.enum-told2.given.1 (ring st)
+    fits_left (lists st) _ st.pre (room st) (holds st).0 d.close_limits-outcome.result (table d) d.close_limits-outcome.ensures c.enum_told-in-Finished-1.given.1 (ring st)
 
 pub decide_spec : {M : Type 1} → statement M
-decide_spec = tie.close (tie.spec close_limits_requires (λ c. c.match.keys1) find_ring_requires (λ c. c.match.keys2)
-    (λ c. let f = c.before.before.before in f.find-ring.auto.1.1.1.1.1.1.1.0
-    ∙ f.before.before.before.before.before.before.close-limits.auto.1.1.1.1.1.1.1.0)
-    (λ c. c.before.before.before.find-ring.auto.1.1.1.1.1.1.1.1.0) returns
-    (λ c. c.before.before.before.close-limits.auto.1.1.1.1.1.1.1.0) returns-2)
+decide_spec = tie.close (tie.spec close_limits_requires (λ c. c.in-Stopped.keys1) find_ring_requires (λ c. c.in-Finished.keys2)
+    (λ c. let f = c.before.before.before in f.find_ring-n.auto.1.1.1.1.1.1.1.0
+    ∙ f.before.before.before.before.before.before.close_limits-outcome.auto.1.1.1.1.1.1.1.0)
+    (λ c. c.before.before.before.find_ring-n.auto.1.1.1.1.1.1.1.1.0) returns
+    (λ c. c.before.before.before.close_limits-outcome.auto.1.1.1.1.1.1.1.0) returns-2)

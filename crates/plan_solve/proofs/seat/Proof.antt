@@ -18,7 +18,7 @@ use Rattle.plan_solve.proofs.seat.Statement.{statement}
 use Rattle.plan_solve.proofs.seat.Tie as tie
 
 -- the call's lists, its rooms, and the table that the pass leaves
-abbrev start : tie.After-close-limits → tie.Start
+abbrev start : tie.After-close_limits-outcome → tie.Start
 start c = c.before.before.before.before.before.before.before.before.before.before.before
 
 abbrev lists : tie.Start → Lists
@@ -35,68 +35,68 @@ seats c = seat_lengths c.args.plan.now c.args.earliest.now c.args.latest.now
 holds : (c : tie.Start) → (places (given (lists c)) ≤ length (room c)) × SeatsHold (given (lists c)) (seats c)
 holds c = seat_hold (given (lists c)) (length (room c)) (seats c) c.requires.rooms
 
-abbrev table : tie.After-close-limits → List ℤ
-table c = c.close-limits.new.1.1.1.1.1.1.1.0
+abbrev table : tie.After-close_limits-outcome → List ℤ
+table c = c.close_limits-outcome.new.1.1.1.1.1.1.1.0
 
-close_limits_requires : tie.Need-close-limits-requires
+close_limits_requires : tie.Need-close_limits-outcome-requires
 close_limits_requires c κs =
     let st = c.before.before.before.before.before.before.before.before.before.before in
     limits_asked (lists st) _ st.requires (room st) (holds st).0
 
 -- where the pass finished
-abbrev closed : tie.After-enum-told2 → tie.After-close-limits
+abbrev closed : tie.In-Finished → tie.After-close_limits-outcome
 closed c = c.before.before.before
 
-front : (c : tie.After-enum-told2) → let st = start (closed c) in let s = given (lists st) in
+front : (c : tie.In-Finished) → let st = start (closed c) in let s = given (lists st) in
     (t : List ℤ) × (passed s ≡ finished t) × (table (closed c) ≡ table_in s t (room st))
 front c =
     let d = closed c in
     let st = start d in
-    closed_table (lists st) _ st.pre (room st) (holds st).0 d.close-limits.result (table d) d.close-limits.ensures c.enum-told2.given.1
+    closed_table (lists st) _ st.pre (room st) (holds st).0 d.close_limits-outcome.result (table d) d.close_limits-outcome.ensures c.enum_told-in-Finished-1.given.1
 
-units_ready : (c : tie.After-boundaries) → let st = start (closed c.before) in
-    Ready (given (lists st)) c.boundaries.result st.args.first.now st.args.last.now (table (closed c.before))
+units_ready : (c : tie.After-boundaries-w) → let st = start (closed c.before) in
+    Ready (given (lists st)) c.boundaries-w.result st.args.first.now st.args.last.now (table (closed c.before))
 units_ready c =
     let d = closed c.before in
     let st = start d in
     let f = front c.before in
-    ready (lists st) _ st.pre (room st) (holds st).0 f.0 f.1 (table d) f.2 c.boundaries.result c.boundaries.ensures
+    ready (lists st) _ st.pre (room st) (holds st).0 f.0 f.1 (table d) f.2 c.boundaries-w.result c.boundaries-w.ensures
 
-fill_plan_requires : tie.Need-fill-plan-requires
+fill_plan_requires : tie.Need-fill_plan-looked-requires
 fill_plan_requires c κs =
     let b = c.before.before.before.before in
     let st = start (closed b.before) in
     ((given (lists st), units_ready b), seats_asked (lists st) _ st.pre (room st) (holds st).0 (seats st) (holds st).1)
 
-returns : tie.Need-returns
+returns : tie.Need-returns-in-Stopped
 returns c =
     let d = c.before.before.before in
     let st = start d in
-    let stopped = c.enum_told.given.1 in (
-      none_seated (lists st) _ st.pre (room st) (holds st).0 d.close-limits.result (table d) d.close-limits.ensures stopped
+    let stopped = c.enum_told-1.given.1 in (
+      none_seated (lists st) _ st.pre (room st) (holds st).0 d.close_limits-outcome.result (table d) d.close_limits-outcome.ensures stopped
           st.args.plan.now st.args.earliest.now st.args.latest.now,
-      none_looked (lists st) _ st.pre (room st) (holds st).0 d.close-limits.result (table d) d.close-limits.ensures stopped,
+      none_looked (lists st) _ st.pre (room st) (holds st).0 d.close_limits-outcome.result (table d) d.close_limits-outcome.ensures stopped,
     )
 
-returns-2 : tie.Need-returns-2
+returns-2 : tie.Need-returns-in-Finished
 returns-2 c =
     let p = c.before.before.before.before.before.before in
     let b = p.before.before.before.before.before in
     let d = closed b.before in
     let st = start d in
     let f = front b.before in
-    let filled = p.fill-plan.ensures (given (lists st)) (units_ready b) in (
+    let filled = p.fill_plan-looked.ensures (given (lists st)) (units_ready b) in (
       seats_left (lists st) _ st.pre (room st) (holds st).0 f.0 f.1 (table d) f.2 _ _ _ _ _ _ _ filled,
       looks_left (lists st) _ st.pre (room st) (holds st).0 f.0 f.1 (table d) f.2 _ _ _ _ _ _ _ filled,
     )
 
 pub seat_spec : {M : Type 1} → statement M
-seat_spec = tie.close (tie.spec close_limits_requires (λ c. c.match.keys1) (λ c. c.match.keys2)
+seat_spec = tie.close (tie.spec close_limits_requires (λ c. c.in-Stopped.keys1) (λ c. c.in-Finished.keys2)
     (λ c κs. let st = start (closed c) in span_bound (lists st) st.pre.sheet) fill_plan_requires
-    (λ c. c.before.before.before.close-limits.auto.1.1.1.1.1.1.1.0) returns
+    (λ c. c.before.before.before.close_limits-outcome.auto.1.1.1.1.1.1.1.0) returns
     (λ c. (closed c.before.before.before.before.before.before.before.before.before.before.before.before
-    ).close-limits.auto.1.1.1.1.1.1.1.0)
-    (λ c. c.before.before.before.before.before.before.fill-plan.auto.1.1.1.1.0)
-    (λ c. c.before.before.before.before.before.before.fill-plan.auto.1.1.1.1.1.0)
-    (λ c. c.before.before.before.before.before.before.fill-plan.auto.1.1.1.1.1.1.0)
+    ).close_limits-outcome.auto.1.1.1.1.1.1.1.0)
+    (λ c. c.before.before.before.before.before.before.fill_plan-looked.auto.1.1.1.1.0)
+    (λ c. c.before.before.before.before.before.before.fill_plan-looked.auto.1.1.1.1.1.0)
+    (λ c. c.before.before.before.before.before.before.fill_plan-looked.auto.1.1.1.1.1.1.0)
     returns-2)

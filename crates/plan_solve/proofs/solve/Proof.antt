@@ -20,7 +20,7 @@ use Rattle.plan_solve.proofs.solve.Statement.{statement}
 use Rattle.plan_solve.proofs.solve.Tie as tie
 
 -- the call's lists, its rooms, and what deciding leaves in two of them
-abbrev start : tie.After-decide → tie.Start
+abbrev start : tie.After-decide-fit → tie.Start
 start c = c.before.before.before.before.before.before.before.before.before.before.before.before.before
 
 abbrev lists : tie.Start → Lists
@@ -40,21 +40,21 @@ seats c = seat_lengths c.args.plan.now c.args.earliest.now c.args.latest.now
 holds : (c : tie.Start) → let s = given (lists c) in (places s ≤ length (room c)) × SeatsHold s (seats c) × (boundaries s ≤ length (ring c))
 holds c = plan_holds (given (lists c)) (length (room c)) (seats c) (length (ring c)) c.requires.rooms
 
-abbrev table : tie.After-decide → List ℤ
-table c = c.decide.new.1.1.1.1.1.1.1.0
+abbrev table : tie.After-decide-fit → List ℤ
+table c = c.decide-fit.new.1.1.1.1.1.1.1.0
 
-abbrev ring_left : tie.After-decide → List ℕ
-ring_left c = c.decide.new.1.1.1.1.1.1.1.1.0
+abbrev ring_left : tie.After-decide-fit → List ℕ
+ring_left c = c.decide-fit.new.1.1.1.1.1.1.1.1.0
 
 -- what it leaves, by what it said
-told : (c : tie.After-decide) (reply : Reply) → fit_reply c.decide.result ≡ reply → let st = start c in let s = given (lists st) in
+told : (c : tie.After-decide-fit) (reply : Reply) → fit_reply c.decide-fit.result ≡ reply → let st = start c in let s = given (lists st) in
     DecideSettled (by_pass (passed s)) s (decide_rooms (room st) (ring st)) reply (decide_rooms (table c) (ring_left c))
 told c reply e =
     let st = start c in
     let s = given (lists st) in
-    subst (λ (r : Reply). DecideSettled (by_pass (passed s)) s (decide_rooms (room st) (ring st)) r (decide_rooms (table c) (ring_left c))) e c.decide.ensures
+    subst (λ (r : Reply). DecideSettled (by_pass (passed s)) s (decide_rooms (room st) (ring st)) r (decide_rooms (table c) (ring_left c))) e c.decide-fit.ensures
 
-decide_requires : tie.Need-decide-requires
+decide_requires : tie.Need-decide-fit-requires
 decide_requires c κs =
     let st = c.before.before.before.before.before.before.before.before.before.before.before.before in
     record {
@@ -64,39 +64,39 @@ decide_requires c κs =
     }
 
 -- where it fits
-abbrev decided : tie.After-enum-told → tie.After-decide
+abbrev decided : tie.In-Fits → tie.After-decide-fit
 decided c = c.before.before.before.before.before
 
-front : (c : tie.After-enum-told) → let st = start (decided c) in let s = given (lists st) in
+front : (c : tie.In-Fits) → let st = start (decided c) in let s = given (lists st) in
     (t : List ℤ) × (passed s ≡ finished t) × (table (decided c) ≡ table_in s t (room st)) × (ring_left (decided c) ≡ ring st)
 front c =
     let d = decided c in
     let st = start d in
-    decided_fits (given (lists st)) (room st) (ring st) (table d) (ring_left d) (passed (given (lists st))) (told d _ (ap fit_reply c.enum_told.given.1))
+    decided_fits (given (lists st)) (room st) (ring st) (table d) (ring_left d) (passed (given (lists st))) (told d _ (ap fit_reply c.enum_told-1.given.1))
 
-units_ready : (c : tie.After-boundaries) → let st = start (decided c.before) in
-    Ready (given (lists st)) c.boundaries.result st.args.first.now st.args.last.now (table (decided c.before))
+units_ready : (c : tie.After-boundaries-w) → let st = start (decided c.before) in
+    Ready (given (lists st)) c.boundaries-w.result st.args.first.now st.args.last.now (table (decided c.before))
 units_ready c =
     let d = decided c.before in
     let st = start d in
     let f = front c.before in
-    ready (lists st) _ st.pre (room st) (holds st).0 f.0 f.1 (table d) f.2 c.boundaries.result c.boundaries.ensures
+    ready (lists st) _ st.pre (room st) (holds st).0 f.0 f.1 (table d) f.2 c.boundaries-w.result c.boundaries-w.ensures
 
-fill_plan_requires : tie.Need-fill-plan-requires
+fill_plan_requires : tie.Need-fill_plan-requires
 fill_plan_requires c κs =
     let b = c.before.before.before.before in
     let st = start (decided b.before) in
     ((given (lists st), units_ready b), seats_asked (lists st) _ st.pre (room st) (holds st).0 (seats st) (holds st).1)
 
-returns : tie.Need-returns
+returns : tie.Need-returns-in-None
 returns c =
     let f = c.before in
     let d = f.before.before.before.before.before in
     let st = start d in
     decided_none (given (lists st)) (room st) (ring st) (table d) (ring_left d) st.args.plan.now st.args.earliest.now st.args.latest.now
-    _ (passed (given (lists st))) (told d _ (ap fit_reply f.fit.given.1))
+    _ (passed (given (lists st))) (told d _ (ap fit_reply f.fit-1.given.1))
 
-returns-2 : tie.Need-returns-2
+returns-2 : tie.Need-returns-in-Fits
 returns-2 c =
     let p = c.before.before.before.before.before.before in
     let b = p.before.before.before.before.before in
@@ -104,18 +104,18 @@ returns-2 c =
     let st = start d in
     let f = front b.before in
     plan_left (lists st) _ st.pre (room st) (holds st).0 f.0 f.1 (table d) f.2
-    st.args.plan.now st.args.earliest.now st.args.latest.now p.fill-plan.result
-    p.fill-plan.new.1.1.1.1.0 p.fill-plan.new.1.1.1.1.1.0 p.fill-plan.new.1.1.1.1.1.1.0
-    (p.fill-plan.ensures (given (lists st)) (units_ready b)) (ring st) (ring_left d) f.3
+    st.args.plan.now st.args.earliest.now st.args.latest.now p.fill_plan.result
+    p.fill_plan.new.1.1.1.1.0 p.fill_plan.new.1.1.1.1.1.0 p.fill_plan.new.1.1.1.1.1.1.0
+    (p.fill_plan.ensures (given (lists st)) (units_ready b)) (ring st) (ring_left d) f.3
 
 pub solve_spec : {M : Type 1} → statement M
-solve_spec = tie.close (tie.spec decide_requires (λ c. c.match.keys1) (λ c. c.match.keys2)
+solve_spec = tie.close (tie.spec decide_requires (λ c. c.in-None.keys1) (λ c. c.in-Fits.keys2)
     (λ c κs. let st = start (decided c) in span_bound (lists st) st.pre.sheet) fill_plan_requires
-    (λ c. c.before.before.before.before.before.before.decide.auto.1.1.1.1.1.1.1.0)
-    (λ c. c.before.before.before.before.before.before.decide.auto.1.1.1.1.1.1.1.1.0) returns
-    (λ c. (decided c.before.before.before.before.before.before.before.before.before.before.before.before).decide.auto.1.1.1.1.1.1.1.0)
-    (λ c. c.before.before.before.before.before.before.fill-plan.auto.1.1.1.1.0)
-    (λ c. c.before.before.before.before.before.before.fill-plan.auto.1.1.1.1.1.0)
-    (λ c. c.before.before.before.before.before.before.fill-plan.auto.1.1.1.1.1.1.0)
+    (λ c. c.before.before.before.before.before.before.decide-fit.auto.1.1.1.1.1.1.1.0)
+    (λ c. c.before.before.before.before.before.before.decide-fit.auto.1.1.1.1.1.1.1.1.0) returns
+    (λ c. (decided c.before.before.before.before.before.before.before.before.before.before.before.before).decide-fit.auto.1.1.1.1.1.1.1.0)
+    (λ c. c.before.before.before.before.before.before.fill_plan.auto.1.1.1.1.0)
+    (λ c. c.before.before.before.before.before.before.fill_plan.auto.1.1.1.1.1.0)
+    (λ c. c.before.before.before.before.before.before.fill_plan.auto.1.1.1.1.1.1.0)
     (λ c. (decided
-    c.before.before.before.before.before.before.before.before.before.before.before.before).decide.auto.1.1.1.1.1.1.1.1.0) returns-2)
+    c.before.before.before.before.before.before.before.before.before.before.before.before).decide-fit.auto.1.1.1.1.1.1.1.1.0) returns-2)

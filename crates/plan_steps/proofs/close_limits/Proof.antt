@@ -8,10 +8,10 @@ use Rattle.plan_steps.proofs.close_limits.Statement.{statement}
 use Rattle.plan_steps.proofs.close_limits.Tie as tie
 
 -- the place where the table is filled, and the function's start
-abbrev filled : tie.After-boundaries → tie.After-fill-limits
+abbrev filled : tie.After-boundaries → tie.After-fill_limits
 filled c = c.before.before.before
 
-abbrev start : tie.After-fill-limits → tie.Start
+abbrev start : tie.After-fill_limits → tie.Start
 start c = c.before.before.before.before.before.before.before.before
 
 abbrev lists : tie.Start → Lists
@@ -23,8 +23,8 @@ pass_requires : tie.Need-pass-requires
 pass_requires c κs =
     let st = start (filled c) in
     let n = boundaries_counted (lists st) st.pre.ok _ c.boundaries.ensures in
-    let room = filled_room (given (lists st)) st.args.table.now _ _ n.0 st.pre.fits (filled c).fill-limits.ensures in
-    let L = filled_limited (given (lists st)) st.pre.ok st.args.table.now _ _ n.0 (filled c).fill-limits.ensures in
+    let room = filled_room (given (lists st)) st.args.table.now _ _ n.0 st.pre.fits (filled c).fill_limits.ensures in
+    let L = filled_limited (given (lists st)) st.pre.ok st.args.table.now _ _ n.0 (filled c).fill_limits.ensures in
     (omega (arith, n.0), n.1, room, L)
 
 returns : tie.Need-returns
@@ -32,9 +32,9 @@ returns c =
     let b = c.before.before in
     let st = start (filled b) in
     limits_closed (given (lists st)) st.args.table.now _ c.before.pass.result c.before.pass.new.0 _
-    (boundaries_counted (lists st) st.pre.ok _ b.boundaries.ensures).0 (filled b).fill-limits.ensures c.before.pass.ensures
+    (boundaries_counted (lists st) st.pre.ok _ b.boundaries.ensures).0 (filled b).fill_limits.ensures c.before.pass.ensures
 
 pub close_limits_spec : {M : Type 1} → statement M
 close_limits_spec = tie.close (tie.spec (λ c κs. c.before.before.before.before.before.before.before.requires)
     (λ c κs. let st = start c.before.before in span_bound (lists st) st.pre.ok)
-    pass_requires (λ c. c.before.pass.auto.0 ∙ (filled c.before.before).fill-limits.auto.1.1.1.1.1.1.1.0) returns)
+    pass_requires (λ c. c.before.pass.auto.0 ∙ (filled c.before.before).fill_limits.auto.1.1.1.1.1.1.1.0) returns)

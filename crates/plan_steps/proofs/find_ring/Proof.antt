@@ -14,10 +14,10 @@ use Rattle.plan_steps.proofs.find_ring.Statement.{statement}
 use Rattle.plan_steps.proofs.find_ring.Tie as tie
 
 -- from the place where the table is filled back to the count of boundaries, and to the function's start
-abbrev sized : tie.After-fill-limits → tie.After-boundaries
+abbrev sized : tie.After-fill_limits → tie.After-boundaries-w
 sized c = c.before.before
 
-abbrev start : tie.After-boundaries → tie.Start
+abbrev start : tie.After-boundaries-w → tie.Start
 start c = c.before.before.before.before.before.before.before.before
 
 abbrev lists : tie.Start → Lists
@@ -25,32 +25,32 @@ lists c =
     let a = c.args in
     listed a.span a.first.now a.last.now a.from.now a.to.now a.low.now a.high.now
 
-size : (c : tie.After-boundaries) → (boundaries (given (lists (start c))) ≡ c.boundaries.result) × (c.boundaries.result ≤ max_boundaries)
-size c = boundaries_counted (lists (start c)) (start c).requires.0.ok _ c.boundaries.ensures
+size : (c : tie.After-boundaries-w) → (boundaries (given (lists (start c))) ≡ c.boundaries-w.result) × (c.boundaries-w.result ≤ max_boundaries)
+size c = boundaries_counted (lists (start c)) (start c).requires.0.ok _ c.boundaries-w.ensures
 
-negative_cycle_requires : tie.Need-negative-cycle-requires
+negative_cycle_requires : tie.Need-negative_cycle-n-requires
 negative_cycle_requires c κs =
     let filled = c.before.before.before in
     let st = start (sized filled) in
     let p = st.pre.0 in
     let n = (size (sized filled)).0 in
-    let e = filled.fill-limits.ensures in (
+    let e = filled.fill_limits.ensures in (
       weighed (given (lists st)) p.ok st.args.table.now _ p.fits e _ n,
       no_potential (given (lists st)) p.ok st.args.table.now _ p.fits e _ n st.pre.2,
       omega (arith, st.pre.1, n),
     )
 
-mul_clear : tie.Need-overflow-mul-clear
+mul_clear : tie.Need-overflow_mul-w
 mul_clear c =
     let b = sized c.before.before.before.before.before.before in
-    let m : b.boundaries.result * b.boundaries.result ≤ max_cells = mul-le-mul (size b).1 (size b).1 in
+    let m : b.boundaries-w.result * b.boundaries-w.result ≤ max_cells = mul-le-mul (size b).1 (size b).1 in
     omega (arith, m)
 
 clear_requires : tie.Need-clear-requires
 clear_requires c κs =
     let filled = c.before.before.before.before.before.before.before in
     let st = start (sized filled) in
-    let room = filled_room (given (lists st)) st.args.table.now _ _ (size (sized filled)).0 st.pre.0.fits filled.fill-limits.ensures in
+    let room = filled_room (given (lists st)) st.args.table.now _ _ (size (sized filled)).0 st.pre.0.fits filled.fill_limits.ensures in
     omega (arith, room)
 
 returns : tie.Need-returns
@@ -59,13 +59,13 @@ returns c =
     let b = sized filled in
     let st = start b in
     let p = st.pre.0 in
-    let n = c.before.before.before.before.before.negative-cycle in
-    ring_found (given (lists st)) p.ok st.args.table.now _ p.fits filled.fill-limits.ensures _ (size b).0 st.args.ring.now
+    let n = c.before.before.before.before.before.negative_cycle-n in
+    ring_found (given (lists st)) p.ok st.args.table.now _ p.fits filled.fill_limits.ensures _ (size b).0 st.args.ring.now
     n.result n.new.1.1.0 c.before.clear.new.1.0 (omega (arith, n.auto, st.pre.1, (size b).0)) n.ensures c.before.clear.ensures
 
 pub find_ring_spec : {M : Type 1} → statement M
 find_ring_spec = tie.close (tie.spec
     (λ c κs. let st = c.before.before.before.before.before.before.before in span_bound (lists st) st.requires.0.ok) (λ c κs. (start c.before).requires.0)
     negative_cycle_requires mul_clear clear_requires
-    (λ c. c.before.clear.auto.1.0 ∙ c.before.before.before.before.before.before.before.before.before.fill-limits.auto.1.1.1.1.1.1.1.0)
-    (λ c. c.before.before.before.before.before.negative-cycle.auto.1.1.0) returns)
+    (λ c. c.before.clear.auto.1.0 ∙ c.before.before.before.before.before.before.before.before.before.fill_limits.auto.1.1.1.1.1.1.1.0)
+    (λ c. c.before.before.before.before.before.negative_cycle-n.auto.1.1.0) returns)

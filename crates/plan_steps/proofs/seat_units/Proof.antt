@@ -6,7 +6,7 @@ use Rattle.network.specs.Table.{entry}
 use Rattle.plan_steps.proofs.seat_units.Statement.{statement}
 use Rattle.plan_steps.proofs.seat_units.Tie as tie
 
-part_seat_end : tie.Need-slice-bounds-seat-end
+part_seat_end : tie.Need-slice_bounds-seat-end
 part_seat_end c =
     let a = c.before.before.before.args in
     let p = c.before.before.before.requires in
@@ -16,7 +16,7 @@ seat_requires : tie.Need-seat-requires
 seat_requires c κs =
     let a = c.before.before.before.before.before.args in
     let p = c.before.before.before.before.before.requires in
-    seatable p.0.0 a.w a.first.now a.last.now a.table.now p.0.1 (a.w - 0) (omega arith) a.plan.now p.1
+    seatable p.0.0 a.w a.first.now a.last.now a.table.now p.0.1 (a.w - 0) (omega arith) a.plan-1.now p.1
 
 returns : tie.Need-returns
 returns c s R =

@@ -16,35 +16,35 @@ use Rattle.plan_windows.proofs.greatest_cuts.Statement.{statement}
 use Rattle.plan_windows.proofs.greatest_cuts.Tie as tie
 
 -- ---- the table and the arcs, mirrored
-abbrev start : tie.After-mirror2 → tie.Start
+abbrev start : tie.After-mirror-2 → tie.Start
 start c = c.before.before.before.before.before.before.before.before.before
 
-abbrev table : tie.After-mirror2 → List ℤ
+abbrev table : tie.After-mirror-2 → List ℤ
 table c = c.before.before.before.mirror.new.1.1.0
 
-abbrev added : tie.After-mirror2 → List ℤ
-added c = c.mirror2.new.1.1.0
+abbrev added : tie.After-mirror-2 → List ℤ
+added c = c.mirror-2.new.1.1.0
 
-long : (c : tie.After-mirror2) → let w = (start c).args.w in (w * w ≤ length (table c)) × (w * w ≤ length (added c))
+long : (c : tie.After-mirror-2) → let w = (start c).args.w in (w * w ≤ length (table c)) × (w * w ≤ length (added c))
 long c =
     let st = start c in
     let n : length (table c) ≡ max_cells = c.before.before.before.mirror.auto.1.1.0 in
-    let n' : length (added c) ≡ max_cells = c.mirror2.auto.1.1.0 in
+    let n' : length (added c) ≡ max_cells = c.mirror-2.auto.1.1.0 in
     omega (arith, square_most st.args.w st.pre.0.0.most)
 
-network : (c : tie.After-mirror2) → CutNetwork (start c).args.w (table c) (added c)
+network : (c : tie.After-mirror-2) → CutNetwork (start c).args.w (table c) (added c)
 network c =
     let st = start c in
     let a = st.args in
     network_mirrored a.w a.d.now a.m.now (table c) (added c) st.pre.0.0 (long c).0 (long c).1
-    c.before.before.before.mirror.ensures c.mirror2.ensures
+    c.before.before.before.mirror.ensures c.mirror-2.ensures
 
-admitted : (c : tie.After-mirror2) → let a = (start c).args in Admitted true a.w (table c) (added c) a.last.now a.first.now a.plan.now
+admitted : (c : tie.After-mirror-2) → let a = (start c).args in Admitted true a.w (table c) (added c) a.last.now a.first.now a.plan.now
 admitted c =
     let st = start c in
     let a = st.args in
     late_turned a.w a.d.now a.m.now (table c) (added c) st.pre.0.0 (long c).0 (long c).1
-    c.before.before.before.mirror.ensures c.mirror2.ensures a.first.now a.last.now a.plan.now st.pre.0.1 st.pre.1
+    c.before.before.before.mirror.ensures c.mirror-2.ensures a.first.now a.last.now a.plan.now st.pre.0.1 st.pre.1
 
 mirror_requires : tie.Need-mirror-requires
 mirror_requires c κs =
@@ -57,7 +57,7 @@ mirror_requires_2 c κs =
     let st = first.before.before.before.before.before.before in
     (st.requires.0.0.size_arcs, square_most st.args.w st.requires.0.0.most)
 
-least_cuts_requires : tie.Need-least-cuts-requires
+least_cuts_requires : tie.Need-least_cuts-requires
 least_cuts_requires c κs =
     let r = c.before.before.before.before in
     let st = start r in
@@ -68,12 +68,12 @@ least_cuts_requires c κs =
 returns : tie.Need-returns
 returns c =
     let r = c.before.before.before.before.before.before.before in
-    let l = c.before.before.least-cuts in
+    let l = c.before.before.least_cuts in
     let st = start r in
     let a = st.args in
     turned_greatest a.w a.d.now a.m.now (table r) (added r) st.pre.0.0 (long r).0 (long r).1
-    r.before.before.before.mirror.ensures r.mirror2.ensures
-    a.first.now a.last.now a.plan.now st.pre.0.1 a.out.now l.new.1.1.1.1.1.1.1.0 l.ensures
+    r.before.before.before.mirror.ensures r.mirror-2.ensures
+    a.first.now a.last.now a.plan.now st.pre.0.1 a.out-1.now l.new.1.1.1.1.1.1.1.0 l.ensures
 
 pub greatest_cuts_spec : {M : Type 1} → statement M
 greatest_cuts_spec = tie.close (tie.spec (λ c. search rules) mirror_requires (λ c. search rules) mirror_requires_2 (λ c. search rules)

@@ -17,15 +17,15 @@ start c = c.before.before.before.before.before.before
 abbrev marks : tie.After-mark → List ℕ
 marks c = c.mark.new.1.1.1.1.1.0
 
-abbrev cuts : tie.After-cut-windows → List ℕ
-cuts c = c.cut-windows.new.1.1.1.0
+abbrev cuts : tie.After-cut_windows → List ℕ
+cuts c = c.cut_windows.new.1.1.1.0
 
 mark_requires : tie.Need-mark-requires
 mark_requires c κs =
     let st = c.before.before.before.before.before in
     (st.requires.0.1, (st.requires.0.0.most, square_most st.args.w st.requires.0.0.most, zeros max_cells))
 
-cut_windows_requires : tie.Need-cut-windows-requires
+cut_windows_requires : tie.Need-cut_windows-requires
 cut_windows_requires c κs =
     let mk = c.before.before in
     let st = start mk in
@@ -36,15 +36,15 @@ cut_windows_requires c κs =
       marks_known st.pre.0.1 a.d.now a.m.now st.pre.1 mk.mark.ensures,
     )
 
-read_marks_requires : tie.Need-read-marks-requires
+read_marks_requires : tie.Need-read_marks-requires
 read_marks_requires c κs =
     let cut = c.before.before.before in
     let mk = cut.before.before.before in
     let st = start mk in
     let a = st.args in
-    let n : length (cuts cut) ≡ max_cells = cut.cut-windows.auto.1.1.1.0 ∙ mk.mark.auto.1.1.1.1.1.0 in (
+    let n : length (cuts cut) ≡ max_cells = cut.cut_windows.auto.1.1.1.0 ∙ mk.mark.auto.1.1.1.1.1.0 in (
       (st.pre.0.1.paired, st.pre.0.2, st.pre.0.0.most, omega (arith, square_most a.w st.pre.0.0.most)),
-      cuts_read st.pre.0.1 a.d.now a.m.now st.pre.1 mk.mark.ensures (cuts cut) cut.cut-windows.ensures,
+      cuts_read st.pre.0.1 a.d.now a.m.now st.pre.1 mk.mark.ensures (cuts cut) cut.cut_windows.ensures,
     )
 
 returns : tie.Need-returns
@@ -54,8 +54,8 @@ returns c =
     let mk = cut.before.before.before in
     let st = start mk in
     let a = st.args in
-    cuts_least st.pre.0.1 a.d.now a.m.now st.pre.1 mk.mark.ensures (cuts cut) cut.cut-windows.ensures a.out.now
-    rd.read-marks.new.1.1.1.1.1.0 rd.read-marks.ensures
+    cuts_least st.pre.0.1 a.d.now a.m.now st.pre.1 mk.mark.ensures (cuts cut) cut.cut_windows.ensures a.out-1.now
+    rd.read_marks.new.1.1.1.1.1.0 rd.read_marks.ensures
 
 pub least_cuts_spec : {M : Type 1} → statement M
 least_cuts_spec = tie.close (tie.spec (λ c. search rules) mark_requires (λ c. search rules) cut_windows_requires (λ c. search rules)

@@ -16,40 +16,40 @@ use Rattle.plan_windows.proofs.narrow.Statement.{statement}
 use Rattle.plan_windows.proofs.narrow.Tie as tie
 
 -- ---- the network of the sheet that the caller has, with the arcs
-abbrev start : tie.After-cut-arcs → tie.Start
+abbrev start : tie.After-cut_arcs → tie.Start
 start c = c.before.before.before.before.before.before.before
 
-abbrev added : tie.After-cut-arcs → List ℤ
-added c = c.cut-arcs.new.1.1.1.0
+abbrev added : tie.After-cut_arcs → List ℤ
+added c = c.cut_arcs.new.1.1.1.0
 
-long : (c : tie.After-cut-arcs) → let w = (start c).args.w in w * w ≤ length (added c)
+long : (c : tie.After-cut_arcs) → let w = (start c).args.w in w * w ≤ length (added c)
 long c =
     let st = start c in
-    let n : length (added c) ≡ max_cells = c.cut-arcs.auto.1.1.1.0 in
+    let n : length (added c) ≡ max_cells = c.cut_arcs.auto.1.1.1.0 in
     omega (arith, square_most st.args.w st.pre.0.1.most)
 
-network : (c : tie.After-cut-arcs) → let a = (start c).args in CutNetwork a.w a.table.now (added c)
-network c = network_of (start c).requires.0.1 (added c) (long c) c.cut-arcs.ensures
+network : (c : tie.After-cut_arcs) → let a = (start c).args in CutNetwork a.w a.table.now (added c)
+network c = network_of (start c).requires.0.1 (added c) (long c) c.cut_arcs.ensures
 
-early : (c : tie.After-cut-arcs) → let a = (start c).args in Admitted false a.w a.table.now (added c) a.first.now a.last.now a.plan.now
-early c = admitted_of (start c).requires.0.1 (added c) (long c) c.cut-arcs.ensures
+early : (c : tie.After-cut_arcs) → let a = (start c).args in Admitted false a.w a.table.now (added c) a.first.now a.last.now a.plan.now
+early c = admitted_of (start c).requires.0.1 (added c) (long c) c.cut_arcs.ensures
 
-late : (c : tie.After-cut-arcs) → let a = (start c).args in AdmittedLate a.w a.table.now (added c) a.first.now a.last.now a.plan.now
-late c = admitted_late_of (start c).requires.0.1 (added c) (long c) c.cut-arcs.ensures
+late : (c : tie.After-cut_arcs) → let a = (start c).args in AdmittedLate a.w a.table.now (added c) a.first.now a.last.now a.plan.now
+late c = admitted_late_of (start c).requires.0.1 (added c) (long c) c.cut_arcs.ensures
 
-cut_arcs_requires : tie.Need-cut-arcs-requires
+cut_arcs_requires : tie.Need-cut_arcs-requires
 cut_arcs_requires c κs =
     let st = c.before.before.before.before.before.before in
     let h = st.requires.0.1 in
     (windows_fit_lem h, square_most st.args.w h.most)
 
-least_cuts_requires : tie.Need-least-cuts-requires
+least_cuts_requires : tie.Need-least_cuts-requires
 least_cuts_requires c κs =
     let r = c.before.before.before in
     let st = start r in
     ((network r, units_of_lem st.pre.0.1, st.pre.1.0), early r)
 
-greatest_cuts_requires : tie.Need-greatest-cuts-requires
+greatest_cuts_requires : tie.Need-greatest_cuts-requires
 greatest_cuts_requires c κs =
     let cut = c.before.before.before.before in
     let r = cut.before.before.before.before in
@@ -61,10 +61,10 @@ returns c =
     let cut = c.before.before.before.before.before.before.before in
     let r = cut.before.before.before.before in
     let a = (start r).args in
-    let e = cut.least-cuts in
-    let l = c.before.before.greatest-cuts in (
-      λ s h. earliest_room_lem h (added r) (long r) r.cut-arcs.ensures a.earliest.now e.new.1.1.1.1.1.1.1.0 e.ensures,
-      λ s h. latest_room_lem h (added r) (long r) r.cut-arcs.ensures a.latest.now l.new.1.1.1.1.1.1.0 l.ensures,
+    let e = cut.least_cuts in
+    let l = c.before.before.greatest_cuts in (
+      λ s h. earliest_room_lem h (added r) (long r) r.cut_arcs.ensures a.earliest-1.now e.new.1.1.1.1.1.1.1.0 e.ensures,
+      λ s h. latest_room_lem h (added r) (long r) r.cut_arcs.ensures a.latest-1.now l.new.1.1.1.1.1.1.0 l.ensures,
     )
 
 pub narrow_spec : {M : Type 1} → statement M

@@ -9,7 +9,7 @@ use Rattle.print_bytes.specs.WritingLaws.{bytes_set}
 use Rattle.print_bytes.proofs.put_digit.Statement.{statement}
 use Rattle.print_bytes.proofs.put_digit.Tie as tie
 
-slice_write_page : tie.Need-slice-write-page
+slice_write_page : tie.Need-bounds-page-at
 slice_write_page c = omega (arith, ap length (digits_one c.args.n c.requires.0))
 
 returns : tie.Need-returns

@@ -9,8 +9,8 @@ pub put_four_digits_spec : {M : Type 1} → statement M
 put_four_digits_spec = tie.close (tie.spec
     (λ c κs. let s = c.before.before in (omega arith, first_room (number_parts s.args.n (omega arith)) s.requires.1))
     (λ c κs. let s = c.before.before.before.before.before.before in
-    (omega arith, second_room (number_parts s.args.n (omega arith)) s.requires.1 c.before.before.before.put-three-digits.ensures))
-    (λ c. c.before.before.put-digit.auto.0 ∙ c.before.before.before.before.before.before.put-three-digits.auto.0)
+    (omega arith, second_room (number_parts s.args.n (omega arith)) s.requires.1 c.before.before.before.put_three_digits-last.ensures))
+    (λ c. c.before.before.put_digit.auto.0 ∙ c.before.before.before.before.before.before.put_three_digits-last.auto.0)
     (λ c. let s = c.before.before.before.before.before.before.before.before.before in
-    both_written (number_parts s.args.n (omega arith)) s.requires.1 c.before.before.before.before.before.before.put-three-digits.ensures
-    c.before.before.put-digit.ensures))
+    both_written (number_parts s.args.n (omega arith)) s.requires.1 c.before.before.before.before.before.before.put_three_digits-last.ensures
+    c.before.before.put_digit.ensures))

@@ -19,8 +19,8 @@ pub put_four_numbers_spec : {M : Type 1} → statement M
 put_four_numbers_spec = tie.close (tie.spec
     (λ c κs. let s = c.before.before.before.before.before.before.before in first_room (parts s) s.requires)
     (λ c κs. let s = c.before.before.before.before.before.before.before.before.before.before.before in
-    second_room (parts s) s.requires c.before.before.before.put-pair.ensures)
+    second_room (parts s) s.requires c.before.before.before.put_pair-next.ensures)
     (λ c. search rules)
     (λ c. let s = c.before.before.before.before.before.before.before.before.before.before.before.before.before.before in
-    both_written (parts s) s.requires c.before.before.before.before.before.before.put-pair.ensures
-    c.before.before.put-three-numbers.ensures))
+    both_written (parts s) s.requires c.before.before.before.before.before.before.put_pair-next.ensures
+    c.before.before.put_three_numbers.ensures))

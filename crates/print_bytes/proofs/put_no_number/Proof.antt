@@ -10,8 +10,8 @@ put_no_number_spec = tie.close (tie.spec
     (λ c κs. let s = c.before.before.before in first_room (word_line s.args.end.now) s.requires)
     (λ c. refl)
     (λ c κs. let s = c.before.before.before.before.before.before.before.before in
-    second_room (word_line s.args.end.now) s.requires c.before.before.before.before.put_word.ensures)
+    second_room (word_line s.args.end.now) s.requires c.before.before.before.before.put_word-next.ensures)
     (λ c. search rules)
     (λ c. let s = c.before.before.before.before.before.before.before.before.before.before.before in
-    both_written (word_line s.args.end.now) s.requires c.before.before.before.before.before.before.before.put_word.ensures
-    c.before.before.put-word2.ensures))
+    both_written (word_line s.args.end.now) s.requires c.before.before.before.before.before.before.before.put_word-next.ensures
+    c.before.before.put_word.ensures))

@@ -8,7 +8,7 @@ use Rattle.print_bytes.proofs.put_one_number.Statement.{statement}
 use Rattle.print_bytes.proofs.put_one_number.Tie as tie
 
 begun : (c : tie.Start) → let a = c.args in
-    Pending a.page.now a.at (form_line (one_number a.first.now a.end.now) (a.a ∷ [])) a.page.now a.at
+    Pending a.page-1.now a.at (form_line (one_number a.first.now a.end.now) (a.a ∷ [])) a.page-1.now a.at
     (a.first.now ∷ digits a.a ∷ form_line (no_number a.end.now) [] ∷ [])
 begun c = pending_whole _ (line_words ((c.args.first.now, c.args.a) ∷ []) c.args.end.now) c.requires
 
@@ -16,12 +16,12 @@ pub put_one_number_spec : {M : Type 1} → statement M
 put_one_number_spec = tie.close (tie.spec
     (λ c κs. pending_room (begun c.before.before.before.before))
     (λ c κs. pending_room (pending_after (begun c.before.before.before.before.before.before.before.before)
-    c.before.before.before.put_word.ensures))
+    c.before.before.before.put_word-next.ensures))
     (λ c κs. pending_room (pending_after (pending_after (begun
     c.before.before.before.before.before.before.before.before.before.before.before.before)
-    c.before.before.before.before.before.before.before.put_word.ensures) c.before.before.before.put-number.ensures))
+    c.before.before.before.before.before.before.before.put_word-next.ensures) c.before.before.before.put_number-next2.ensures))
     (λ c. search rules)
     (λ c. pending_nothing (pending_after (pending_after (pending_after (begun
     c.before.before.before.before.before.before.before.before.before.before.before.before.before.before.before)
-    c.before.before.before.before.before.before.before.before.before.before.put_word.ensures)
-    c.before.before.before.before.before.before.put-number.ensures) c.before.before.put-no-number.ensures)))
+    c.before.before.before.before.before.before.before.before.before.before.put_word-next.ensures)
+    c.before.before.before.before.before.before.put_number-next2.ensures) c.before.before.put_no_number.ensures)))

@@ -14,7 +14,7 @@ pub put_pair_spec : {M : Type 1} → statement M
 put_pair_spec = tie.close (tie.spec
     (λ c κs. first_room (parts c.before.before.before) c.before.before.before.requires)
     (λ c κs. let s = c.before.before.before.before.before.before.before in
-    second_room (parts s) s.requires c.before.before.before.put_word.ensures)
+    second_room (parts s) s.requires c.before.before.before.put_word-next.ensures)
     (λ c. search rules)
     (λ c. let s = c.before.before.before.before.before.before.before.before.before.before in
-    both_written (parts s) s.requires c.before.before.before.before.before.before.put_word.ensures c.before.before.put-number.ensures))
+    both_written (parts s) s.requires c.before.before.before.before.before.before.put_word-next.ensures c.before.before.put_number.ensures))

@@ -11,23 +11,23 @@ use Rattle.print_bytes.specs.WritingLaws.{Pending, pending_whole, pending_byte, 
 use Rattle.print_bytes.proofs.put_word.Statement.{statement}
 use Rattle.print_bytes.proofs.put_word.Tie as tie
 
-abbrev invariant-loop : tie.invariant-loop
+abbrev invariant-loop : tie.invariant-loop-i
 invariant-loop page₀ at word i₀ page i = (i ≤ length word) × Pending page₀ at word page (at + i) (drop i word ∷ [])
 
-abbrev decreases-loop : tie.decreases-loop
+abbrev decreases-loop : tie.decreases-loop-i
 decreases-loop page₀ at word i₀ page i = length word - i
 
-loop-holds : tie.Need-loop-init invariant-loop decreases-loop
+loop-holds : tie.Need-loop-i-init invariant-loop decreases-loop
 loop-holds c =
     let a = c.args in
     (omega arith, rw (add-zero a.at) (pending_whole (a.word.now ∷ []) (sym (append-nil a.word.now)) c.requires))
 
-loop-again : tie.Need-loop-preserved invariant-loop decreases-loop
+loop-again : tie.Need-loop-i-preserved invariant-loop decreases-loop
 loop-again c =
-    let l = c.before.before.loop in
+    let l = c.before.before.loop-i in
     let a = c.before.before.before.args in
     let w = a.word.now in
-    let t : l.i < length w = c.before.loop-test.true in (
+    let t : l.i < length w = c.before.loop-i-test.true in (
       omega arith,
       rw (sym (add_assoc a.at l.i 1), add-one (a.at + l.i), add-one l.i)
           (pending_byte (rw (drop-cons w l.i 0 t) at l.invariant.1)),
@@ -35,9 +35,9 @@ loop-again c =
 
 returns : tie.Need-returns invariant-loop decreases-loop
 returns c =
-    let l = c.before.loop in
+    let l = c.before.loop-i in
     let w = c.before.before.args.word.now in
-    pending_nothing (pending_empty (rw (drop_of_length-le w c.loop-test.false) at l.invariant.1))
+    pending_nothing (pending_empty (rw (drop_of_length-le w c.loop-i-test.false) at l.invariant.1))
 
 pub put_word_spec : {M : Type 1} → statement M
 put_word_spec = tie.close (tie.spec invariant-loop decreases-loop loop-holds (λ c. omega arith) (λ c. omega arith) (λ c. omega arith) (λ c. omega arith)

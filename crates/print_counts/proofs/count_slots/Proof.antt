@@ -8,44 +8,44 @@ use Rattle.print_counts.proofs.SlotCountLaws.{Counted, counted_none, counted_sma
 use Rattle.print_counts.proofs.count_slots.Statement.{statement}
 use Rattle.print_counts.proofs.count_slots.Tie as tie
 
-abbrev invariant-loop : tie.invariant-loop
+abbrev invariant-loop : tie.invariant-loop-j
 invariant-loop plan counts₀ j₀ counts j =
     (j ≤ length plan) × Counted plan j counts
 
-abbrev decreases-loop : tie.decreases-loop
+abbrev decreases-loop : tie.decreases-loop-j
 decreases-loop plan counts₀ j₀ counts j = length plan - j
 
-loop-holds : tie.Need-loop-init invariant-loop decreases-loop
+loop-holds : tie.Need-loop-j-init invariant-loop decreases-loop
 loop-holds c = (omega arith, counted_none c.args.plan.now c.args.counts.now c.requires.0)
 
-cast_slot : tie.Need-overflow-cast-slot invariant-loop decreases-loop
-cast_slot c = omega (arith, c.shared-slice-known.given c.before.before.loop.j)
+cast_slot : tie.Need-overflow_cast-slot invariant-loop decreases-loop
+cast_slot c = omega (arith, c.shared_slice_known-1.given c.before.before.loop-j.j)
 
-add_counts : tie.Need-overflow-add-counts invariant-loop decreases-loop
+add_counts : tie.Need-overflow_add-counts invariant-loop decreases-loop
 add_counts c =
-    let l = c.before.before.before.before.loop in
+    let l = c.before.before.before.before.loop-j in
     let counted = l.invariant.1 in
     let slot = get_or c.before.before.before.before.before.args.plan.now l.j 0 in
-    omega (arith, counted_small counted slot (omega (arith, c.before.if1.true, counted.long)), l.invariant.0)
+    omega (arith, counted_small counted slot (omega (arith, c.before.if-slot-counts.true, counted.long)), l.invariant.0)
 
-loop-again : tie.Need-loop-preserved invariant-loop decreases-loop
+loop-again : tie.Need-loop-j-preserved invariant-loop decreases-loop
 loop-again c =
-    let l = c.before.before.before.loop in
+    let l = c.before.before.before.loop-j in
     let plan = c.before.before.before.before.args.plan.now in
-    let less = c.before.before.loop-test.true in
+    let less = c.before.before.loop-j-test.true in
     let counted : Counted plan l.j l.counts = l.invariant.1 in (
       omega arith,
       ⊎_elim
           (λ w. subst (Counted plan (l.j + 1)) (sym w.2) (counted_store less counted (omega (arith, w.0.taken, counted.long))))
           (λ w. subst (Counted plan (l.j + 1)) (sym w.1) (counted_pass less counted (omega (arith, w.0.left, counted.long))))
-          c.if1.branch,
+          c.if-slot-counts.branch,
     )
 
-same_length : tie.Need-same-length invariant-loop decreases-loop
+same_length : tie.Need-shape_of-counts invariant-loop decreases-loop
 same_length c = omega (arith, ap length c.before.before.requires.0)
 
 returns : tie.Need-returns invariant-loop decreases-loop
-returns c = counted_all c.loop-test.false c.before.loop.invariant.1
+returns c = counted_all c.loop-j-test.false c.before.loop-j.invariant.1
 
 pub count_slots_spec : {M : Type 1} → statement M
 count_slots_spec = tie.close (tie.spec invariant-loop decreases-loop loop-holds (λ c. omega arith) (λ c. omega arith) cast_slot (λ c. omega arith)

@@ -14,4 +14,4 @@ put_refusal_spec = tie.close (tie.spec
     (λ c. refl)
     (λ c κs. c.before.before.before.before.before.requires)
     (λ c. search rules)
-    (λ c. c.before.before.put-two-numbers.ensures))
+    (λ c. c.before.before.put_two_numbers.ensures))

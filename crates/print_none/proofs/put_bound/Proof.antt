@@ -16,4 +16,4 @@ put_bound_spec = tie.close (tie.spec
     (λ c. refl)
     (λ c κs. c.before.before.before.before.before.before.before.before.requires.1)
     (λ c. search rules)
-    (λ c. c.before.before.put-three-numbers.ensures))
+    (λ c. c.before.before.put_three_numbers.ensures))

@@ -13,43 +13,43 @@ use Rattle.print_none.proofs.put_none.Tie as tie
 begun : (c : tie.Start) →
     let a = c.args in
     let d = entry a.w a.limits.now in
-    Pending a.page.now a.at (none_page d a.ring.now) a.page.now a.at
+    Pending a.page-1.now a.at (none_page d a.ring.now) a.page-1.now a.at
     (none_head ∷ joined (ring_lines d a.ring.now) ∷ shortfall_line (shortfall_of d a.ring.now) ∷ [])
 unfolding none_page
 begun c = pending_whole _ refl c.requires.1
 
-put_no_number_requires : tie.Need-put-no-number-requires
+put_no_number_requires : tie.Need-put_no_number-next-requires
 unfolding none_head text
 put_no_number_requires c κs = pending_room (begun c.before.before.before.before)
 
-put_steps_requires : tie.Need-put-steps-requires
+put_steps_requires : tie.Need-put_steps-next2-requires
 unfolding none_head text
 put_steps_requires c κs =
     let s = c.before.before.before.before.before.before.before.before in
-    (s.requires.0, pending_room (pending_after (begun s) c.before.before.before.put-no-number.ensures))
+    (s.requires.0, pending_room (pending_after (begun s) c.before.before.before.put_no_number-next.ensures))
 
-put_one_number_requires : tie.Need-put-one-number-requires
+put_one_number_requires : tie.Need-put_one_number-requires
 unfolding none_head shortfall_line text
 put_one_number_requires c κs =
     rw c.before.shortfall.ensures
     (pending_room (pending_after (pending_after (begun
     c.before.before.before.before.before.before.before.before.before.before.before.before.before.before.before)
-    c.before.before.before.before.before.before.before.before.before.before.put-no-number.ensures)
-    c.before.before.before.before.before.before.put-steps.ensures))
+    c.before.before.before.before.before.before.before.before.before.before.put_no_number-next.ensures)
+    c.before.before.before.before.before.before.put_steps-next2.ensures))
 
-same_length : tie.Need-same-length
+same_length : tie.Need-shape_of-page
 same_length c =
-    c.before.before.put-one-number.auto.0 ∙ c.before.before.before.before.before.before.before.before.before.put-steps.auto.0
-    ∙ c.before.before.before.before.before.before.before.before.before.before.before.before.before.put-no-number.auto.0
+    c.before.before.put_one_number.auto.0 ∙ c.before.before.before.before.before.before.before.before.before.put_steps-next2.auto.0
+    ∙ c.before.before.before.before.before.before.before.before.before.before.before.before.before.put_no_number-next.auto.0
 
 returns : tie.Need-returns
 unfolding none_head shortfall_line text
 returns c =
     pending_nothing (pending_after (pending_after (pending_after (begun
     c.before.before.before.before.before.before.before.before.before.before.before.before.before.before.before.before.before.before)
-    c.before.before.before.before.before.before.before.before.before.before.before.before.before.put-no-number.ensures)
-    c.before.before.before.before.before.before.before.before.before.put-steps.ensures)
-    (rw c.before.before.before.before.shortfall.ensures at c.before.before.put-one-number.ensures))
+    c.before.before.before.before.before.before.before.before.before.before.before.before.before.put_no_number-next.ensures)
+    c.before.before.before.before.before.before.before.before.before.put_steps-next2.ensures)
+    (rw c.before.before.before.before.shortfall.ensures at c.before.before.put_one_number.ensures))
 
 pub put_none_spec : {M : Type 1} → statement M
 put_none_spec = tie.close (tie.spec (λ c. refl) put_no_number_requires put_steps_requires (λ c. refl)

@@ -15,11 +15,11 @@ use Rattle.pages.specs.PageLaws.{step_inside, Walked, walked_none, walked_next, 
 use Rattle.print_none.proofs.shortfall.Statement.{statement}
 use Rattle.print_none.proofs.shortfall.Tie as tie
 
-abbrev invariant-loop : tie.invariant-loop
+abbrev invariant-loop : tie.invariant-loop-i
 invariant-loop limits w ring last rise₀ fall₀ i₀ rise fall i =
     (i ≤ last) × (rise ≤ i * max_count) × (fall ≤ i * max_count) × Walked (entry w limits) ring i rise fall
 
-abbrev decreases-loop : tie.decreases-loop
+abbrev decreases-loop : tie.decreases-loop-i
 decreases-loop limits w ring last rise₀ fall₀ i₀ rise fall i = last - i
 
 abbrev limits : tie.Start invariant-loop decreases-loop → Weights
@@ -29,71 +29,71 @@ abbrev boundary : tie.Start invariant-loop decreases-loop → ℕ → ℕ
 boundary c i = get_or c.args.ring.now i 0
 
 -- the limit of the step in hand
-abbrev step : tie.After-entry-at invariant-loop decreases-loop → ℤ
+abbrev step : tie.After-entry_at-limit invariant-loop decreases-loop → ℤ
 step c =
     let s : tie.Start invariant-loop decreases-loop = c.before.before.before.before.before.before in
-    let i = c.before.before.before.before.loop.i in
+    let i = c.before.before.before.before.loop-i.i in
     limits s (boundary s i) (boundary s (i + 1))
 
-step_is : (c : tie.After-entry-at invariant-loop decreases-loop) → to_z w16 (of_z w16 c.entry_at.result) ≡ step c
-step_is c = to_z-of_z {w = w16} (record { sfits = c.entry_at.type-inv }) ∙ c.entry_at.ensures
+step_is : (c : tie.After-entry_at-limit invariant-loop decreases-loop) → to_z w16 (of_z w16 c.entry_at-limit.result) ≡ step c
+step_is c = to_z-of_z {w = w16} (record { sfits = c.entry_at-limit.type-inv }) ∙ c.entry_at-limit.ensures
 
-step_small : (c : tie.After-entry-at invariant-loop decreases-loop) → (up (step c) ≤ max_count) × (dn (step c) ≤ max_count)
+step_small : (c : tie.After-entry_at-limit invariant-loop decreases-loop) → (up (step c) ≤ max_count) × (dn (step c) ≤ max_count)
 step_small c =
     let s : tie.Start invariant-loop decreases-loop = c.before.before.before.before.before.before in
     let f = s.requires in
-    let i = c.before.before.before.before.loop.i in
+    let i = c.before.before.before.before.loop-i.i in
     f.small (boundary s i) (boundary s (i + 1)) (f.inside i (omega (arith, f.some))) (f.inside (i + 1) (omega (arith, f.some)))
 
 -- the limit of the last step
-abbrev closing : tie.After-entry-at2 invariant-loop decreases-loop → ℤ
+abbrev closing : tie.After-entry_at-limit-2 invariant-loop decreases-loop → ℤ
 closing c =
     let s : tie.Start invariant-loop decreases-loop = c.before.before.before.before.before.before in
     limits s (boundary s (length s.args.ring.now - 1)) (boundary s 0)
 
-closing_is : (c : tie.After-entry-at2 invariant-loop decreases-loop) → to_z w16 (of_z w16 c.entry-at2.result) ≡ closing c
-closing_is c = to_z-of_z {w = w16} (record { sfits = c.entry-at2.type-inv }) ∙ c.entry-at2.ensures
+closing_is : (c : tie.After-entry_at-limit-2 invariant-loop decreases-loop) → to_z w16 (of_z w16 c.entry_at-limit-2.result) ≡ closing c
+closing_is c = to_z-of_z {w = w16} (record { sfits = c.entry_at-limit-2.type-inv }) ∙ c.entry_at-limit-2.ensures
 
-closing_small : (c : tie.After-entry-at2 invariant-loop decreases-loop) → (up (closing c) ≤ max_count) × (dn (closing c) ≤ max_count)
+closing_small : (c : tie.After-entry_at-limit-2 invariant-loop decreases-loop) → (up (closing c) ≤ max_count) × (dn (closing c) ≤ max_count)
 closing_small c =
     let s = c.before.before.before.before.before.before in
     let f = s.requires in
     let last = length s.args.ring.now - 1 in
     f.small (boundary s last) (boundary s 0) (f.inside last (omega (arith, f.some))) (f.inside 0 f.some)
 
-loop-holds : tie.Need-loop-init invariant-loop decreases-loop
+loop-holds : tie.Need-loop-i-init invariant-loop decreases-loop
 loop-holds c = (omega arith, omega arith, omega arith, walked_none (limits c.before) c.before.args.ring.now c.before.requires.some)
 
-cast_entry_at : tie.Need-overflow-cast-entry-at invariant-loop decreases-loop
-cast_entry_at c = omega (arith, c.shared-slice-known2.given c.before.before.loop.i)
+cast_entry_at : tie.Need-overflow_cast-ring invariant-loop decreases-loop
+cast_entry_at c = omega (arith, c.shared_slice_known-in-loop-i-1.given c.before.before.loop-i.i)
 
-cast_entry_at_2 : tie.Need-overflow-cast-entry-at-2 invariant-loop decreases-loop
-cast_entry_at_2 c = omega (arith, c.shared-slice-known3.given (c.before.before.before.loop.i + 1))
+cast_entry_at_2 : tie.Need-overflow_cast-ring-in-loop-i invariant-loop decreases-loop
+cast_entry_at_2 c = omega (arith, c.shared_slice_known-in-loop-i-2-1.given (c.before.before.before.loop-i.i + 1))
 
-entry_at_requires : tie.Need-entry-at-requires invariant-loop decreases-loop
+entry_at_requires : tie.Need-entry_at-limit-requires invariant-loop decreases-loop
 entry_at_requires c κs =
     let s = c.before.before.before.before.before in
-    let i = c.before.before.before.loop.i in
+    let i = c.before.before.before.loop-i.i in
     step_inside s.requires i (i + 1) (omega (arith, s.requires.some)) (omega (arith, s.requires.some))
 
-add_rise : tie.Need-overflow-add-rise invariant-loop decreases-loop
+add_rise : tie.Need-overflow_add-rise invariant-loop decreases-loop
 add_rise c =
-    let l = c.before.before.before.before.before.loop in
+    let l = c.before.before.before.before.before.loop-i in
     let at = c.before in
-    omega (arith, l.invariant.0, l.invariant.1, c.above.ensures, ap up (step_is at), (step_small at).0, at.before.before.before.before.before.before.requires.few)
+    omega (arith, l.invariant.0, l.invariant.1, c.above-rise.ensures, ap up (step_is at), (step_small at).0, at.before.before.before.before.before.before.requires.few)
 
-add_fall : tie.Need-overflow-add-fall invariant-loop decreases-loop
+add_fall : tie.Need-overflow_add-fall invariant-loop decreases-loop
 add_fall c =
-    let l = c.before.before.before.before.before.before.loop in
+    let l = c.before.before.before.before.before.before.loop-i in
     let at = c.before.before in
-    omega (arith, l.invariant.0, l.invariant.2, c.below.ensures, ap dn (step_is at), (step_small at).1, at.before.before.before.before.before.before.requires.few)
+    omega (arith, l.invariant.0, l.invariant.2, c.below-fall.ensures, ap dn (step_is at), (step_small at).1, at.before.before.before.before.before.before.requires.few)
 
-loop-again : tie.Need-loop-preserved invariant-loop decreases-loop
+loop-again : tie.Need-loop-i-preserved invariant-loop decreases-loop
 loop-again c =
-    let l = c.before.before.before.before.before.before.loop in
+    let l = c.before.before.before.before.before.before.loop-i in
     let s = c.before.before.before.before.before.before.before.before in
-    let rise = c.before.above.ensures ∙ ap up (step_is c.before.before) in
-    let fall = c.below.ensures ∙ ap dn (step_is c.before.before) in
+    let rise = c.before.above-rise.ensures ∙ ap up (step_is c.before.before) in
+    let fall = c.below-fall.ensures ∙ ap dn (step_is c.before.before) in
     let small = step_small c.before.before in (
       omega arith,
       omega (arith, small.0),
@@ -101,38 +101,38 @@ loop-again c =
       rw (rise, fall) (walked_next (limits s) s.args.ring.now l.i l.rise l.fall (omega (arith, s.requires.some)) l.invariant.3),
     )
 
-cast_entry_at_3 : tie.Need-overflow-cast-entry-at-3 invariant-loop decreases-loop
-cast_entry_at_3 c = omega (arith, c.shared-slice-known4.given (length c.before.before.before.before.args.ring.now - 1))
+cast_entry_at_3 : tie.Need-overflow_cast-ring-2 invariant-loop decreases-loop
+cast_entry_at_3 c = omega (arith, c.shared_slice_known-2-1.given (length c.before.before.before.before.args.ring.now - 1))
 
-cast_entry_at_4 : tie.Need-overflow-cast-entry-at-4 invariant-loop decreases-loop
-cast_entry_at_4 c = omega (arith, c.shared-slice-known5.given 0)
+cast_entry_at_4 : tie.Need-overflow_cast-ring-3 invariant-loop decreases-loop
+cast_entry_at_4 c = omega (arith, c.shared_slice_known-3-1.given 0)
 
-entry_at_requires_2 : tie.Need-entry-at-requires-2 invariant-loop decreases-loop
+entry_at_requires_2 : tie.Need-entry_at-limit-requires-2 invariant-loop decreases-loop
 entry_at_requires_2 c κs =
     let s = c.before.before.before.before.before in
     step_inside s.requires (length s.args.ring.now - 1) 0 (omega (arith, s.requires.some)) s.requires.some
 
-add_excess : tie.Need-overflow-add-excess invariant-loop decreases-loop
+add_excess : tie.Need-overflow_add-fall-2 invariant-loop decreases-loop
 add_excess c =
-    let l = c.before.before.before.before.before.loop in
+    let l = c.before.before.before.before.before.loop-i in
     let at = c.before in
     let few = at.before.before.before.before.before.before.requires.few in
-    omega (arith, l.invariant.0, l.invariant.2, c.below2.ensures, ap dn (closing_is at), (closing_small at).1, few)
+    omega (arith, l.invariant.0, l.invariant.2, c.below.ensures, ap dn (closing_is at), (closing_small at).1, few)
 
-add_excess_2 : tie.Need-overflow-add-excess-2 invariant-loop decreases-loop
+add_excess_2 : tie.Need-overflow_add-rise-2 invariant-loop decreases-loop
 add_excess_2 c =
-    let l = c.before.before.before.before.before.before.loop in
+    let l = c.before.before.before.before.before.before.loop-i in
     let at = c.before.before in
     let few = at.before.before.before.before.before.before.requires.few in
-    omega (arith, l.invariant.0, l.invariant.1, c.above2.ensures, ap up (closing_is at), (closing_small at).0, few)
+    omega (arith, l.invariant.0, l.invariant.1, c.above.ensures, ap up (closing_is at), (closing_small at).0, few)
 
 returns : tie.Need-returns invariant-loop decreases-loop
 returns c =
-    let l = c.before.before.before.before.before.before.before.loop in
+    let l = c.before.before.before.before.before.before.before.loop-i in
     let s = c.before.before.before.before.before.before.before.before.before in
     let e : l.i ≡ length s.args.ring.now - 1 = omega arith in
-    let rise = c.before.above2.ensures ∙ ap up (closing_is c.before.before.before) in
-    let fall = c.before.before.below2.ensures ∙ ap dn (closing_is c.before.before.before) in
+    let rise = c.before.above.ensures ∙ ap up (closing_is c.before.before.before) in
+    let fall = c.before.before.below.ensures ∙ ap dn (closing_is c.before.before.before) in
     c.excess.ensures
     ∙ rw (rise, fall) (rw e at (walked_all (limits s) s.args.ring.now l.i l.rise l.fall (omega (arith, s.requires.some)) l.invariant.3))
 

@@ -15,7 +15,7 @@ begun : (c : tie.Start) →
     let a = c.args in
     let low = least_from (boundaries_of a.span) a.table.now in
     let high = greatest_from (boundaries_of a.span) a.table.now in
-    Pending a.page.now a.at (fits_page a.span a.units low high) a.page.now a.at
+    Pending a.page-1.now a.at (fits_page a.span a.units low high) a.page-1.now a.at
     (fits_head a.units ∷ range_lines a.span low high ∷ [])
 unfolding fits_page
 begun c = pending_whole _ refl c.requires.1
@@ -29,8 +29,8 @@ put_fits_spec = tie.close (tie.spec
     (λ c κs. pending_room (begun c.before.before.before.before))
     (λ c κs.
     let s = c.before.before.before.before.before.before.before.before in
-    ((s.requires.0.0, s.requires.0.2), pending_room (pending_after (begun s) c.before.before.before.put-one-number.ensures)))
+    ((s.requires.0.0, s.requires.0.2), pending_room (pending_after (begun s) c.before.before.before.put_one_number-next.ensures)))
     (λ c. search rules)
     (λ c. pending_nothing (pending_after (pending_after (begun
     c.before.before.before.before.before.before.before.before.before.before.before)
-    c.before.before.before.before.before.before.put-one-number.ensures) c.before.before.put-ranges.ensures)))
+    c.before.before.before.before.before.before.put_one_number-next.ensures) c.before.before.put_ranges.ensures)))

@@ -13,60 +13,60 @@ use Rattle.print_page.proofs.put_plan.Statement.{statement}
 use Rattle.print_page.proofs.put_plan.Tie as tie
 
 -- back to the start, from where the units are counted
-abbrev start : tie.After-count-slots → tie.Start
+abbrev start : tie.After-count_slots → tie.Start
 start c = c.before.before.before.before.before.before.before
 
-begun : (c : tie.After-count-slots) →
+begun : (c : tie.After-count_slots) →
     let a = (start c).args in
     let w = boundaries_of a.span in
-    Pending a.page.now a.at
-    (table_page a.span a.loader.now a.plan.now a.earliest.now a.latest.now a.table.now) a.page.now a.at
+    Pending a.page-1.now a.at
+    (table_page a.span a.loader.now a.plan.now a.earliest.now a.latest.now a.table.now) a.page-1.now a.at
     (plan_head (length a.plan.now) ∷ unit_lines a.span a.loader.now a.plan.now a.earliest.now a.latest.now
-    ∷ slot_lines a.span (λ t. get_or c.count-slots.new.1.0 t 0) (least_from w a.table.now) (greatest_from w a.table.now) ∷ [])
+    ∷ slot_lines a.span (λ t. get_or c.count_slots.new.1.0 t 0) (least_from w a.table.now) (greatest_from w a.table.now) ∷ [])
 begun c =
     let s = start c in
     let a = s.args in
     let w = boundaries_of a.span in
-    pending_whole _ (page_counted a.span a.loader.now a.plan.now a.earliest.now a.latest.now c.count-slots.new.1.0
-    (least_from w a.table.now) (greatest_from w a.table.now) s.pre.0.slots c.count-slots.ensures) s.pre.1
+    pending_whole _ (page_counted a.span a.loader.now a.plan.now a.earliest.now a.latest.now c.count_slots.new.1.0
+    (least_from w a.table.now) (greatest_from w a.table.now) s.pre.0.slots c.count_slots.ensures) s.pre.1
 
-put_one_number_requires : tie.Need-put-one-number-requires
+put_one_number_requires : tie.Need-put_one_number-next-requires
 unfolding plan_head text
 put_one_number_requires c κs = pending_room (begun c.before.before.before.before)
 
-put_units_requires : tie.Need-put-units-requires
+put_units_requires : tie.Need-put_units-next2-requires
 unfolding plan_head text
 put_units_requires c κs =
     let k = c.before.before.before.before.before.before.before.before in
     let p = (start k).requires.0 in
-    ((p.loaders, p.earliest, p.latest), pending_room (pending_after (begun k) c.before.before.before.put-one-number.ensures))
+    ((p.loaders, p.earliest, p.latest), pending_room (pending_after (begun k) c.before.before.before.put_one_number-next.ensures))
 
-put_slots_requires : tie.Need-put-slots-requires
+put_slots_requires : tie.Need-put_slots-requires
 unfolding plan_head text
 put_slots_requires c κs =
     let k = c.before.before.before.before.before.before.before.before.before.before.before.before.before in
     let p = (start k).requires.0 in (
-      (p.slots, p.entries, ap length k.count-slots.ensures ∙ counts_length (start k).args.plan.now),
+      (p.slots, p.entries, ap length k.count_slots.ensures ∙ counts_length (start k).args.plan.now),
       pending_room (pending_after (pending_after (begun k)
-          c.before.before.before.before.before.before.before.before.put-one-number.ensures)
-          c.before.before.before.before.put-units.ensures),
+          c.before.before.before.before.before.before.before.before.put_one_number-next.ensures)
+          c.before.before.before.before.put_units-next2.ensures),
     )
 
-same_length : tie.Need-same-length
+same_length : tie.Need-shape_of-page
 same_length c =
-    c.before.before.put-slots.auto.0 ∙ c.before.before.before.before.before.before.before.put-units.auto.0
-    ∙ c.before.before.before.before.before.before.before.before.before.before.before.put-one-number.auto.0
+    c.before.before.put_slots.auto.0 ∙ c.before.before.before.before.before.before.before.put_units-next2.auto.0
+    ∙ c.before.before.before.before.before.before.before.before.before.before.before.put_one_number-next.auto.0
 
 returns : tie.Need-returns
 unfolding plan_head text
 returns c =
     pending_nothing (pending_after (pending_after (pending_after (begun
     c.before.before.before.before.before.before.before.before.before.before.before.before.before.before.before.before)
-    c.before.before.before.before.before.before.before.before.before.before.before.put-one-number.ensures)
-    c.before.before.before.before.before.before.before.put-units.ensures) c.before.before.put-slots.ensures)
+    c.before.before.before.before.before.before.before.before.before.before.before.put_one_number-next.ensures)
+    c.before.before.before.before.before.before.before.put_units-next2.ensures) c.before.before.put_slots.ensures)
 
 pub put_plan_spec : {M : Type 1} → statement M
 put_plan_spec = tie.close (tie.spec (λ c. refl) (λ c κs. (refl, c.before.before.before.before.before.before.requires.0.units)) (λ c. refl)
     (λ c. omega arith) (λ c. refl) put_one_number_requires put_units_requires (λ c. sym
-    c.before.before.before.before.before.before.before.before.before.before.before.before.before.count-slots.auto.1.0)
+    c.before.before.before.before.before.before.before.before.before.before.before.before.before.count_slots.auto.1.0)
     put_slots_requires same_length returns)

@@ -11,13 +11,13 @@ use Rattle.print_bytes.specs.WritingLaws.{Pending, pending_whole, pending_room, 
 use Rattle.print_slots.proofs.put_ranges.Statement.{statement}
 use Rattle.print_slots.proofs.put_ranges.Tie as tie
 
-abbrev invariant-loop : tie.invariant-loop
+abbrev invariant-loop : tie.invariant-loop-slot
 invariant-loop page₀ at span table next₀ slot₀ page next slot =
     let low = least_from (boundaries_of span) table in
     let high = greatest_from (boundaries_of span) table in
     (1 ≤ slot) × (slot ≤ span + 1) × Pending page₀ at (range_lines span low high) page next (map (range_line_at low high) (run slot (suc span - slot)))
 
-abbrev decreases-loop : tie.decreases-loop
+abbrev decreases-loop : tie.decreases-loop-slot
 decreases-loop page₀ at span table next₀ slot₀ page next slot = suc span - slot
 
 -- the numbers of the lines, as the code has them
@@ -34,42 +34,42 @@ line c = range_line_at (low c) (high c)
 abbrev lines : tie.Start invariant-loop decreases-loop → List ℕ
 lines c = range_lines c.args.span (low c) (high c)
 
-loop-holds : tie.Need-loop-init invariant-loop decreases-loop
+loop-holds : tie.Need-loop-slot-init invariant-loop decreases-loop
 unfolding range_lines
 loop-holds c =
     let s = c.before in
     (omega arith, omega arith, pending_whole (map (line s) (from_to 1 s.args.span)) refl s.requires.1)
 
 -- back to the start of the loop's turn, and of the call
-abbrev turn : tie.After-greatest-of invariant-loop decreases-loop → tie.In-loop invariant-loop decreases-loop
+abbrev turn : tie.After-greatest_of-greatest invariant-loop decreases-loop → tie.In-loop-slot invariant-loop decreases-loop
 turn c = c.before.before
 
-abbrev start : tie.In-loop invariant-loop decreases-loop → tie.Start invariant-loop decreases-loop
+abbrev start : tie.In-loop-slot invariant-loop decreases-loop → tie.Start invariant-loop decreases-loop
 start c = c.before.before.before
 
-next : (c : tie.In-loop invariant-loop decreases-loop)
-    → (let s = start c in let l = c.before.loop in
+next : (c : tie.In-loop-slot invariant-loop decreases-loop)
+    → (let s = start c in let l = c.before.loop-slot in
     Pending s.args.page.now s.args.at (lines s) l.page l.next
     (line s l.slot ∷ map (line s) (run (l.slot + 1) (suc s.args.span - (l.slot + 1)))))
-next c = lines_next (line (start c)) c.before.loop.slot (suc (start c).args.span) (omega arith) c.before.loop.invariant.2
+next c = lines_next (line (start c)) c.before.loop-slot.slot (suc (start c).args.span) (omega arith) c.before.loop-slot.invariant.2
 
 -- what is handed over is the line of the slot
-same : (c : tie.After-greatest-of invariant-loop decreases-loop)
-    → (let t = (turn c).before.loop.slot in range_line t c.before.least-of.result c.greatest-of.result ≡ line (start (turn c)) t)
+same : (c : tie.After-greatest_of-greatest invariant-loop decreases-loop)
+    → (let t = (turn c).before.loop-slot.slot in range_line t c.before.least_of-least.result c.greatest_of-greatest.result ≡ line (start (turn c)) t)
 unfolding range_line_at
-same c = ap₂ (range_line (turn c).before.loop.slot) c.before.least-of.ensures c.greatest-of.ensures
+same c = ap₂ (range_line (turn c).before.loop-slot.slot) c.before.least_of-least.ensures c.greatest_of-greatest.ensures
 
-put_range_requires : tie.Need-put-range-requires invariant-loop decreases-loop
+put_range_requires : tie.Need-put_range-next-requires invariant-loop decreases-loop
 put_range_requires c κs =
-    let g : tie.After-greatest-of invariant-loop decreases-loop = c.before in
-    let l = (turn g).before.loop in
+    let g : tie.After-greatest_of-greatest invariant-loop decreases-loop = c.before in
+    let l = (turn g).before.loop-slot in
     subst (Room l.page l.next) (sym (same g)) (pending_room (next (turn g)))
 
-loop-again : tie.Need-loop-preserved invariant-loop decreases-loop
+loop-again : tie.Need-loop-slot-preserved invariant-loop decreases-loop
 loop-again c =
-    let g : tie.After-greatest-of invariant-loop decreases-loop = c.before.before.before.before in
-    let l = (turn g).before.loop in
-    let put = c.before.before.put-range in (
+    let g : tie.After-greatest_of-greatest invariant-loop decreases-loop = c.before.before.before.before in
+    let l = (turn g).before.loop-slot in
+    let put = c.before.before.put_range-next in (
       omega arith,
       omega arith,
       pending_after (next (turn g)) (subst (λ line. Written l.page l.next line put.new.0 put.result) (same g) put.ensures),
@@ -78,7 +78,7 @@ loop-again c =
 returns : tie.Need-returns invariant-loop decreases-loop
 returns c =
     let s : tie.Start invariant-loop decreases-loop = c.before.before.before in
-    lines_end (line s) c.before.loop.slot (suc s.args.span) (omega arith) c.before.loop.invariant.2
+    lines_end (line s) c.before.loop-slot.slot (suc s.args.span) (omega arith) c.before.loop-slot.invariant.2
 
 pub put_ranges_spec : {M : Type 1} → statement M
 put_ranges_spec = tie.close (tie.spec invariant-loop decreases-loop loop-holds (λ c κs. omega arith) (λ c κs. omega arith) (λ c. omega arith)

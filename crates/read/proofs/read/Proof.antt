@@ -16,29 +16,29 @@ use Rattle.read.proofs.read.Statement.{statement}
 use Rattle.read.proofs.read.Tie as tie
 
 -- the places: the room question's yes, a sheet from the pass, a text that is short enough and the function's start
-abbrev start : tie.Else1 → tie.Start
+abbrev start : tie.Else-text-gt-MAX_BYTES → tie.Start
 start c = c.before.before.before.before.before.before.before.before.before
 
-abbrev told_short : tie.After-known-told2 → tie.Else1
+abbrev told_short : tie.In-Sheet → tie.Else-text-gt-MAX_BYTES
 told_short c = c.before.before.before.before.before.before.before.before.before.before.before.before.before.before.before.before.before.before
 
-abbrev fits_told : tie.Else2 → tie.After-known-told2
+abbrev fits_told : tie.Else-not-lists_fit → tie.In-Sheet
 fits_told c = c.before.before
 
-abbrev called_fits : tie.After-fill → tie.Else2
+abbrev called_fits : tie.After-fill → tie.Else-not-lists_fit
 called_fits c = c.before.before.before.before.before.before.before.before.before.before.before.before.before.before.before
 
-abbrev fill_call : tie.After-slice-known14 → tie.After-fill
+abbrev fill_call : tie.After-slice_known-in-Sheet-7-1 → tie.After-fill
 fill_call c = c.before.before.before.before.before.before.before.before.before.before.before.before.before.before
 
-abbrev asked : tie.After-known-told2 → tie.After-ask-text
+abbrev asked : tie.In-Sheet → tie.After-ask_text-asked
 asked c = c.before.before.before.before.before.before.before.before.before.before
 
 -- the rooms that are lent; the arrays of the pass, before it and after it
 abbrev lent : tie.Start → ListRooms (List ℕ)
 lent z =
     let a = z.args in
-    rooms a.loader.now a.first.now a.last.now a.from.now a.to.now a.low.now a.high.now
+    rooms a.loader-1.now a.first-1.now a.last-1.now a.from-1.now a.to-1.now a.low-1.now a.high-1.now
 
 abbrev cleared : ListRooms (List ℕ)
 cleared =
@@ -46,9 +46,9 @@ cleared =
     let rules : List ℕ = replicate max_rules 0 in
     rooms units units units rules rules rules rules
 
-abbrev arrays : tie.After-ask-text → ListRooms (List ℕ)
+abbrev arrays : tie.After-ask_text-asked → ListRooms (List ℕ)
 arrays c =
-    let k = c.ask-text.new.1.1 in
+    let k = c.ask_text-asked.new.1.1 in
     rooms k.0 k.1.0 k.1.1.0 k.1.1.1.0 k.1.1.1.1.0 k.1.1.1.1.1.0 k.1.1.1.1.1.1.0
 
 cleared_hold : Holds max_units max_rules cleared
@@ -63,39 +63,39 @@ cleared_hold =
       in_high = lit≤ tt;
     }
 
-short : (c : tie.Else1) → length (start c).args.text.now ≤ max_bytes
-short c = c.if1.false
+short : (c : tie.Else-text-gt-MAX_BYTES) → length (start c).args.text.now ≤ max_bytes
+short c = c.if-text-gt-MAX_BYTES.false
 
 -- of a sheet that the pass found: its numbers, and what the arrays hold
-answered : (c : tie.After-known-told2) → let s = c.before.asked2.given.0.0 in
+answered : (c : tie.In-Sheet) → let s = c.before.asked-in-Sheet-1.given.0.0 in
     let a = (start (told_short c)).args in
     read s.span s.units s.rules ≡ pass_reply a.house a.text.now
-answered c = sym (ap reply_of c.before.asked2.given.1) ∙ (asked c).ask-text.ensures.0
+answered c = sym (ap reply_of c.before.asked-in-Sheet-1.given.1) ∙ (asked c).ask_text-asked.ensures.0
 
-kept : (c : tie.After-known-told2) → let a = (start (told_short c)).args in
-    KeptNumbers a.house c.before.asked2.given.0.0 a.text.now cleared (arrays (asked c))
+kept : (c : tie.In-Sheet) → let a = (start (told_short c)).args in
+    KeptNumbers a.house c.before.asked-in-Sheet-1.given.0.0 a.text.now cleared (arrays (asked c))
 kept c =
     let a = (start (told_short c)).args in
-    subst (λ (r : Reading). Kept a.house r a.text.now cleared (arrays (asked c))) c.before.asked2.given.1 (asked c).ask-text.ensures.1
+    subst (λ (r : Reading). Kept a.house r a.text.now cleared (arrays (asked c))) c.before.asked-in-Sheet-1.given.1 (asked c).ask_text-asked.ensures.1
 
-fitting : (c : tie.Else2) → let s = (fits_told c).before.asked2.given.0.0 in
+fitting : (c : tie.Else-not-lists_fit) → let s = (fits_told c).before.asked-in-Sheet-1.given.0.0 in
     lists_fit s.units s.rules (sizes_of (lent (start (told_short (fits_told c))))) ≡ true
-fitting c = sym c.before.lists-fit.ensures ∙ not-false _ c.if2.false
+fitting c = sym c.before.lists_fit.ensures ∙ not-false _ c.if-not-lists_fit.false
 
-returns : tie.Need-returns
+returns : tie.Need-returns-then-text-gt-MAX_BYTES
 returns c =
     let z = c.before.before.before.before.before.before.before.before.before in
     let a = z.args in
-    let e = answer_long a.house a.text.now (sizes_of (lent z)) c.if1.true in
+    let e = answer_long a.house a.text.now (sizes_of (lent z)) c.if-text-gt-MAX_BYTES.true in
     (e, rooms_kept a.house a.text.now (lent z) 1 0 e)
 
-returns-2 : tie.Need-returns-2
+returns-2 : tie.Need-returns-then-not-lists_fit
 returns-2 c =
     let d = c.before.before in
     let z = start (told_short d) in
     let a = z.args in
     let e = answer_rooms a.house a.text.now (sizes_of (lent z)) (short (told_short d)) _ _ _
-    (answered d) (sym c.before.lists-fit.ensures ∙ not-true _ c.if2.true) in
+    (answered d) (sym c.before.lists_fit.ensures ∙ not-true _ c.if-not-lists_fit.true) in
     (e, rooms_kept a.house a.text.now (lent z) 12 0 e)
 
 fill_requires : tie.Need-fill-requires
@@ -104,16 +104,16 @@ fill_requires c κs =
     let d = fits_told f in
     (arrays_hold _ _ _ cleared (arrays (asked d)) cleared_hold (kept d), rooms_hold _ _ (lent (start (told_short d))) (fitting f))
 
-returns-3 : tie.Need-returns-3
+returns-3 : tie.Need-returns-in-Refused
 returns-3 c =
     let d = c.before.before.before.before.before.before.before.before.before.before.before.before.before.before.before.before.before.before in
     let z = start d in
     let a = z.args in
     let e = answer_no a.house a.text.now (sizes_of (lent z)) (short d) _ _
-    (sym (ap reply_of c.before.asked.given.1) ∙ c.before.before.before.before.before.before.before.before.before.before.ask-text.ensures.0) in
+    (sym (ap reply_of c.before.asked-1.given.1) ∙ c.before.before.before.before.before.before.before.before.before.before.ask_text-asked.ensures.0) in
     (e, rooms_kept a.house a.text.now (lent z) _ _ e)
 
-returns-4 : tie.Need-returns-4
+returns-4 : tie.Need-returns-else-not-lists_fit
 returns-4 c =
     let f = called_fits (fill_call c) in
     let d = fits_told f in
@@ -126,14 +126,14 @@ returns-4 c =
 
 pub read_spec : {M : Type 1} → statement M
 read_spec = tie.close (tie.spec returns (λ c. refl) (λ c. refl) (λ c. refl) (λ c. refl) (λ c. refl) (λ c. refl) (λ c. refl) (λ c κs. cleared_hold)
-    (λ c. c.match.keys1) (λ c. c.match.keys2) (λ c κs. tt) returns-2
-    (λ c. sym (asked (fits_told c.before)).ask-text.auto.1.1.0)
-    (λ c. sym (asked (fits_told c.before.before)).ask-text.auto.1.1.1.0)
-    (λ c. sym (asked (fits_told c.before.before.before)).ask-text.auto.1.1.1.1.0)
-    (λ c. sym (asked (fits_told c.before.before.before.before)).ask-text.auto.1.1.1.1.1.0)
-    (λ c. sym (asked (fits_told c.before.before.before.before.before)).ask-text.auto.1.1.1.1.1.1.0)
-    (λ c. sym (asked (fits_told c.before.before.before.before.before.before)).ask-text.auto.1.1.1.1.1.1.1.0)
-    (λ c. sym (asked (fits_told c.before.before.before.before.before.before.before)).ask-text.auto.1.1.1.1.1.1.1.1.0)
+    (λ c. c.in-Refused.keys1) (λ c. c.in-Sheet.keys2) (λ c κs. tt) returns-2
+    (λ c. sym (asked (fits_told c.before)).ask_text-asked.auto.1.1.0)
+    (λ c. sym (asked (fits_told c.before.before)).ask_text-asked.auto.1.1.1.0)
+    (λ c. sym (asked (fits_told c.before.before.before)).ask_text-asked.auto.1.1.1.1.0)
+    (λ c. sym (asked (fits_told c.before.before.before.before)).ask_text-asked.auto.1.1.1.1.1.0)
+    (λ c. sym (asked (fits_told c.before.before.before.before.before)).ask_text-asked.auto.1.1.1.1.1.1.0)
+    (λ c. sym (asked (fits_told c.before.before.before.before.before.before)).ask_text-asked.auto.1.1.1.1.1.1.1.0)
+    (λ c. sym (asked (fits_told c.before.before.before.before.before.before.before)).ask_text-asked.auto.1.1.1.1.1.1.1.1.0)
     fill_requires returns-3
     (λ c. (fill_call c).fill.auto.1.1.1.1.1.1.1.1.0)
     (λ c. (fill_call c).fill.auto.1.1.1.1.1.1.1.1.1.0)

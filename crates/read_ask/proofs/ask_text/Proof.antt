@@ -15,29 +15,29 @@ ours : tie.Need-pass-requires
 ours c κs =
     let told = c.before.before.before.before.before.before.before.before.before.before in
     let p = told.before.before.before.before.before.before.before.before.before.before.before.requires in (
-      tables_of _ _ _ _ told.enum_told.given.1 c.before.before.before.before.before.before.before.before.before.table.ensures
-          told.before.before.class-table.ensures,
+      tables_of _ _ _ _ told.enum_told-1.given.1 c.before.before.before.before.before.before.before.before.before.table-grid.ensures
+          told.before.before.class_table-table.ensures,
       p,
     )
 
-partners : tie.Need-pass-requires-2
+partners : tie.Need-pass-requires-in-Partner
 partners c κs =
     let told = c.before.before.before.before.before.before.before.before.before.before in
     let p = told.before.before.before.before.before.before.before.before.before.before.before.requires in (
-      tables_of _ _ _ _ told.enum-told2.given.1 c.before.before.before.before.before.before.before.before.before.table3.ensures
-          told.before.before.class-table.ensures,
+      tables_of _ _ _ _ told.enum_told-in-Partner-1.given.1 c.before.before.before.before.before.before.before.before.before.table-grid-in-Partner.ensures
+          told.before.before.class_table-table.ensures,
       p,
     )
 
 -- from where every array is given back to the call of the pass
-abbrev our_pass : tie.After-slice-known14 → tie.After-pass
+abbrev our_pass : tie.After-slice_known-in-Ours-7-1 → tie.After-pass
 our_pass c = c.before.before.before.before.before.before.before.before.before.before.before.before.before.before
 
-abbrev partner_pass : tie.After-slice-known21 → tie.After-pass2
+abbrev partner_pass : tie.After-slice_known-in-Partner-7-1 → tie.After-pass-in-Partner
 partner_pass c = c.before.before.before.before.before.before.before.before.before.before.before.before.before.before
 
 pub ask_text_spec : {M : Type 1} → statement M
-ask_text_spec = tie.close (tie.spec (λ c κs. tt) (λ c. c.match.keys1) (λ c κs. tt) ours (λ c. c.match.keys2) (λ c κs. tt) partners
+ask_text_spec = tie.close (tie.spec (λ c κs. tt) (λ c. c.in-Ours.keys1) (λ c κs. tt) ours (λ c. c.in-Partner.keys2) (λ c κs. tt) partners
     (λ c. (our_pass c).pass.auto.1.1.1.1.0)
     (λ c. (our_pass c).pass.auto.1.1.1.1.1.0)
     (λ c. (our_pass c).pass.auto.1.1.1.1.1.1.0)
@@ -46,11 +46,11 @@ ask_text_spec = tie.close (tie.spec (λ c κs. tt) (λ c. c.match.keys1) (λ c �
     (λ c. (our_pass c).pass.auto.1.1.1.1.1.1.1.1.1.0)
     (λ c. (our_pass c).pass.auto.1.1.1.1.1.1.1.1.1.1.0)
     (λ c. (our_pass c).pass.ensures)
-    (λ c. (partner_pass c).pass2.auto.1.1.1.1.0)
-    (λ c. (partner_pass c).pass2.auto.1.1.1.1.1.0)
-    (λ c. (partner_pass c).pass2.auto.1.1.1.1.1.1.0)
-    (λ c. (partner_pass c).pass2.auto.1.1.1.1.1.1.1.0)
-    (λ c. (partner_pass c).pass2.auto.1.1.1.1.1.1.1.1.0)
-    (λ c. (partner_pass c).pass2.auto.1.1.1.1.1.1.1.1.1.0)
-    (λ c. (partner_pass c).pass2.auto.1.1.1.1.1.1.1.1.1.1.0)
-    (λ c. (partner_pass c).pass2.ensures))
+    (λ c. (partner_pass c).pass-in-Partner.auto.1.1.1.1.0)
+    (λ c. (partner_pass c).pass-in-Partner.auto.1.1.1.1.1.0)
+    (λ c. (partner_pass c).pass-in-Partner.auto.1.1.1.1.1.1.0)
+    (λ c. (partner_pass c).pass-in-Partner.auto.1.1.1.1.1.1.1.0)
+    (λ c. (partner_pass c).pass-in-Partner.auto.1.1.1.1.1.1.1.1.0)
+    (λ c. (partner_pass c).pass-in-Partner.auto.1.1.1.1.1.1.1.1.1.0)
+    (λ c. (partner_pass c).pass-in-Partner.auto.1.1.1.1.1.1.1.1.1.1.0)
+    (λ c. (partner_pass c).pass-in-Partner.ensures))

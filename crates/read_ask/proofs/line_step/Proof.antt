@@ -10,82 +10,82 @@ use Rattle.read_ask.proofs.line_step.Statement.{statement}
 use Rattle.read_ask.proofs.line_step.Tie as tie
 
 -- the function's start, its arrays, and the loader numbers of the units so far
-abbrev start : tie.After-slice-known9 → tie.Start
+abbrev start : tie.After-slice_known-9-1 → tie.Start
 start c = c.before.before.before.before.before.before.before.before.before
 
 abbrev arrays : tie.Start → ListRooms (List ℕ)
 arrays z =
     let a = z.args in
-    rooms a.numbers.now a.firsts.now a.lasts.now a.froms.now a.tos.now a.lows.now a.highs.now
+    rooms a.numbers.now a.firsts-1.now a.lasts-1.now a.froms-1.now a.tos-1.now a.lows-1.now a.highs-1.now
 
 abbrev numbers : tie.Start → List ℕ
 numbers z = take z.args.s.units z.args.numbers.now
 
-returns : tie.Need-returns
+returns : tie.Need-returns-in-Refused
 unfolding step_of
 returns c =
     let z = start c.before.before.before in
     let a = z.args in
-    line_stepped a.house (numbers z) a.s a.line _ _ (arrays z) _ a.heads.now a.nexts.now c.before.line.given.1 refl tt refl
+    line_stepped a.house (numbers z) a.s a.line-1 _ _ (arrays z) _ a.heads-1.now a.nexts-1.now c.before.line-1.given.1 refl tt refl
 
-returns-2 : tie.Need-returns-2
+returns-2 : tie.Need-returns-in-Note
 unfolding step_of
 returns-2 c =
     let z = start c.before.before in
     let a = z.args in
-    line_stepped a.house (numbers z) a.s a.line _ _ (arrays z) _ a.heads.now a.nexts.now c.enum_told.given.1 refl z.pre.0 refl
+    line_stepped a.house (numbers z) a.s a.line-1 _ _ (arrays z) _ a.heads-1.now a.nexts-1.now c.enum_told-1.given.1 refl z.pre.0 refl
 
-returns-3 : tie.Need-returns-3
+returns-3 : tie.Need-returns-in-Sheet
 returns-3 c =
     let z = start c.before.before.before.before in
     let a = z.args in
-    let r = c.sheet-step in
+    let r = c.sheet_step in
     let stays = sheet_stays a.s _ _ _ z.pre.0 a.house (numbers z) _ r.result r.ensures in
-    line_stepped a.house (numbers z) a.s a.line _ _ (arrays z) _ a.heads.now a.nexts.now c.before.before.line2.given.1
+    line_stepped a.house (numbers z) a.s a.line-1 _ _ (arrays z) _ a.heads-1.now a.nexts-1.now c.before.before.line-in-Sheet-1.given.1
     stays.0 stays.1 (kept_sheet r.result (arrays z) a.s _)
 
-returns-4 : tie.Need-returns-4
+returns-4 : tie.Need-returns-in-Unit
 unfolding step_of
 returns-4 c =
     let d = c.before.before.before.before.before.before.before.before.before.before in
     let l = d.before.before.before.before.before.before.before in
     let z = start l.before.before in
     let a = z.args in
-    let r = d.unit-step in
+    let r = d.unit_step in
     let e = r.ensures in
-    line_stepped a.house (numbers z) a.s a.line _ _ (arrays z) _ _ _ l.line3.given.1 e.0 e.1.0
+    line_stepped a.house (numbers z) a.s a.line-1 _ _ (arrays z) _ _ _ l.line-in-Unit-1.given.1 e.0 e.1.0
     (kept_unit r.result (arrays z) a.s _ _ _ _ _ _ e.1.1.0 e.1.1.1.0 e.1.1.1.1)
 
-returns-5 : tie.Need-returns-5
+returns-5 : tie.Need-returns-in-Rule
 returns-5 c =
     let d = c.before.before.before.before.before.before.before.before in
     let l = d.before.before.before.before.before.before in
     let z = start l.before.before in
     let a = z.args in
-    let r = d.rule-step in
+    let r = d.rule_step in
     let e = r.ensures in
     let stays = rule_stays a.s _ _ _ z.pre.0 a.house (numbers z) _ _ _ _ r.result e.0 in
-    line_stepped a.house (numbers z) a.s a.line _ _ (arrays z) _ a.heads.now a.nexts.now l.line4.given.1
+    line_stepped a.house (numbers z) a.s a.line-1 _ _ (arrays z) _ a.heads-1.now a.nexts-1.now l.line-in-Rule-1.given.1
     stays.0 stays.1 (kept_rule r.result (arrays z) a.s _ _ _ _ _ _ _ _ e.1.0 e.1.1.0 e.1.1.1.0 e.1.1.1.1)
 
 -- the arrays hold what their steps ask for
-unit_step_requires : tie.Need-unit-step-requires
+unit_step_requires : tie.Need-unit_step-requires
 unit_step_requires c κs = let p = (start c.before.before.before.before.before.before.before.before).requires in (p.0, p.1.in_first, p.1.in_last)
 
-rule_step_requires : tie.Need-rule-step-requires
+rule_step_requires : tie.Need-rule_step-requires
 rule_step_requires c κs = let p = (start c.before.before.before.before.before.before.before).requires.1 in (p.in_from, p.in_to, p.in_low, p.in_high)
 
 pub line_step_spec : {M : Type 1} → statement M
-line_step_spec = tie.close (tie.spec (λ c. c.match.keys1) (λ c. c.match.keys2) (λ c. c.match.keys3) (λ c κs. tt) (λ c. c.match.keys4)
-    unit_step_requires (λ c. c.match.keys5) rule_step_requires returns returns-2 returns-3
-    (λ c. c.before.before.before.before.before.before.before.before.before.before.unit-step.auto.1.1.1.1.1.0)
-    (λ c. c.before.before.before.before.before.before.before.before.before.before.unit-step.auto.1.1.1.1.1.1.0)
-    (λ c. c.before.before.before.before.before.before.before.before.before.before.unit-step.auto.1.1.1.1.1.1.1.0)
-    (λ c. c.before.before.before.before.before.before.before.before.before.before.unit-step.auto.1.1.1.1.1.1.1.1.0)
-    (λ c. c.before.before.before.before.before.before.before.before.before.before.unit-step.auto.1.1.1.1.1.1.1.1.1.0)
+line_step_spec = tie.close (tie.spec (λ c. c.in-Refused.keys1) (λ c. c.in-Note.keys2) (λ c. c.in-Sheet.keys3) (λ c κs. tt) (λ c. c.in-Unit.keys4)
+    unit_step_requires (λ c. c.in-Rule.keys5) rule_step_requires returns returns-2 returns-3
+    (λ c. c.before.before.before.before.before.before.before.before.before.before.unit_step.auto.1.1.1.1.1.0)
+    (λ c. c.before.before.before.before.before.before.before.before.before.before.unit_step.auto.1.1.1.1.1.1.0)
+    (λ c. c.before.before.before.before.before.before.before.before.before.before.unit_step.auto.1.1.1.1.1.1.1.0)
+    (λ c. c.before.before.before.before.before.before.before.before.before.before.unit_step.auto.1.1.1.1.1.1.1.1.0)
+    (λ c. c.before.before.before.before.before.before.before.before.before.before.unit_step.auto.1.1.1.1.1.1.1.1.1.0)
     returns-4
-    (λ c. c.before.before.before.before.before.before.before.before.rule-step.auto.1.1.1.1.1.0)
-    (λ c. c.before.before.before.before.before.before.before.before.rule-step.auto.1.1.1.1.1.1.0)
-    (λ c. c.before.before.before.before.before.before.before.before.rule-step.auto.1.1.1.1.1.1.1.0)
-    (λ c. c.before.before.before.before.before.before.before.before.rule-step.auto.1.1.1.1.1.1.1.1.0)
+    (λ c. c.before.before.before.before.before.before.before.before.rule_step.auto.1.1.1.1.1.0)
+    (λ c. c.before.before.before.before.before.before.before.before.rule_step.auto.1.1.1.1.1.1.0)
+    (λ c. c.before.before.before.before.before.before.before.before.rule_step.auto.1.1.1.1.1.1.1.0)
+    (λ c. c.before.before.before.before.before.before.before.before.rule_step.auto.1.1.1.1.1.1.1.1.0)
     returns-5)

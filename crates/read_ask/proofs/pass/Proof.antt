@@ -22,34 +22,34 @@ use Rattle.read_ask.proofs.ReadLaws.{arrays_kept, arrays_sizes}
 use Rattle.read_ask.proofs.pass.Statement.{statement}
 use Rattle.read_ask.proofs.pass.Tie as tie
 
-abbrev invariant-loop : tie.invariant-loop
+abbrev invariant-loop : tie.invariant-loop-at
 invariant-loop house text grid table numbers₀ firsts₀ lasts₀ froms₀ tos₀ lows₀ highs₀ whole heads₀ nexts₀ s₀ at₀ n₀
     numbers firsts lasts froms tos lows highs heads nexts s at n =
     Asking house text at n s (rooms numbers₀ firsts₀ lasts₀ froms₀ tos₀ lows₀ highs₀) (rooms numbers firsts lasts froms tos lows highs)
     × Chained s numbers heads nexts
 
-abbrev decreases-loop : tie.decreases-loop
+abbrev decreases-loop : tie.decreases-loop-at
 decreases-loop house text grid table numbers₀ firsts₀ lasts₀ froms₀ tos₀ lows₀ highs₀ whole heads₀ nexts₀ s₀ at₀ n₀
     numbers firsts lasts froms tos lows highs heads nexts s at n =
     whole - at
 
 -- the places: past the line's step, the step, the line that was found, the turn it is made in, the loop's head and the function's start
-abbrev stepped : tie.After-nexts2 invariant-loop decreases-loop → tie.After-line-step invariant-loop decreases-loop
+abbrev stepped : tie.After-nexts-in-loop-at-1 invariant-loop decreases-loop → tie.After-line_step-step invariant-loop decreases-loop
 stepped c = c.before.before.before.before.before.before.before.before.before.before.before.before.before.before.before.before
 
-abbrev found : tie.After-line-step invariant-loop decreases-loop → tie.After-line-at invariant-loop decreases-loop
+abbrev found : tie.After-line_step-step invariant-loop decreases-loop → tie.After-line_at-found invariant-loop decreases-loop
 found c = c.before.before.before.before.before.before.before.before.before.before
 
-abbrev in_turn_lem : tie.After-line-at invariant-loop decreases-loop → tie.In-loop invariant-loop decreases-loop
+abbrev in_turn_lem : tie.After-line_at-found invariant-loop decreases-loop → tie.In-loop-at invariant-loop decreases-loop
 in_turn_lem c = c.before
 
-abbrev at_head : tie.After-line-at invariant-loop decreases-loop → tie.At-loop invariant-loop decreases-loop
+abbrev at_head : tie.After-line_at-found invariant-loop decreases-loop → tie.At-loop-at invariant-loop decreases-loop
 at_head c = (in_turn_lem c).before
 
-abbrev start : tie.At-loop invariant-loop decreases-loop → tie.Start invariant-loop decreases-loop
+abbrev start : tie.At-loop-at invariant-loop decreases-loop → tie.Start invariant-loop decreases-loop
 start c = c.before.before.before.before.before.before.before.before.before.before.before
 
-abbrev text : tie.At-loop invariant-loop decreases-loop → List ℕ
+abbrev text : tie.At-loop-at invariant-loop decreases-loop → List ℕ
 text c = (start c).args.text.now
 
 -- the arrays: as they were lent, at the loop's head, and after the line's step
@@ -58,31 +58,31 @@ lent z =
     let a = z.args in
     rooms a.numbers.now a.firsts.now a.lasts.now a.froms.now a.tos.now a.lows.now a.highs.now
 
-abbrev held : tie.At-loop invariant-loop decreases-loop → ListRooms (List ℕ)
+abbrev held : tie.At-loop-at invariant-loop decreases-loop → ListRooms (List ℕ)
 held c =
-    let l = c.loop in
+    let l = c.loop-at in
     rooms l.numbers l.firsts l.lasts l.froms l.tos l.lows l.highs
 
-abbrev after : tie.After-line-step invariant-loop decreases-loop → ListRooms (List ℕ)
+abbrev after : tie.After-line_step-step invariant-loop decreases-loop → ListRooms (List ℕ)
 after c =
-    let k = c.line_step.new.1.1.1 in
+    let k = c.line_step-step.new.1.1.1 in
     rooms k.0 k.1.0 k.1.1.0 k.1.1.1.0 k.1.1.1.1.0 k.1.1.1.1.1.0 k.1.1.1.1.1.1.0
 
-sizes : (c : tie.At-loop invariant-loop decreases-loop) → SameSizes (held c) (lent (start c))
-sizes c = arrays_sizes _ _ _ _ _ _ _ c.loop.invariant.0
+sizes : (c : tie.At-loop-at invariant-loop decreases-loop) → SameSizes (held c) (lent (start c))
+sizes c = arrays_sizes _ _ _ _ _ _ _ c.loop-at.invariant.0
 
 -- where a line starts before the last line feed, and where none does any more
-in_whole : (c : tie.In-loop invariant-loop decreases-loop) → c.before.loop.at < whole_lines (text c.before)
-in_whole c = omega (arith, c.loop-test.true, c.before.before.before.lines_end.ensures)
+in_whole : (c : tie.In-loop-at invariant-loop decreases-loop) → c.before.loop-at.at < whole_lines (text c.before)
+in_whole c = omega (arith, c.loop-at-test.true, c.before.before.before.lines_end-whole.ensures)
 
-past_whole : (c : tie.After-loop invariant-loop decreases-loop) → whole_lines (text c.before) ≤ c.before.loop.at
-past_whole c = omega (arith, c.loop-test.false, c.before.before.before.lines_end.ensures)
+past_whole : (c : tie.After-loop-at invariant-loop decreases-loop) → whole_lines (text c.before) ≤ c.before.loop-at.at
+past_whole c = omega (arith, c.loop-at-test.false, c.before.before.before.lines_end-whole.ensures)
 
-loop-holds : tie.Need-loop-init invariant-loop decreases-loop
+loop-holds : tie.Need-loop-at-init invariant-loop decreases-loop
 loop-holds c =
     let z = c.before.before.before.before.before.before.before.before.before.before in (
-      asking_start z.args.house z.args.text.now c.empty.result (lent z) c.empty.ensures,
-      rw c.empty.ensures (record {
+      asking_start z.args.house z.args.text.now c.empty-s.result (lent z) c.empty-s.ensures,
+      rw c.empty-s.ensures (record {
         few_slots = omega arith;
         few_units = omega arith;
         in_numbers = z.requires.1.in_loader;
@@ -91,69 +91,69 @@ loop-holds c =
       }),
     )
 
-line_at_requires : tie.Need-line-at-requires invariant-loop decreases-loop
+line_at_requires : tie.Need-line_at-found-requires invariant-loop decreases-loop
 line_at_requires c κs = (in_whole c, (start c.before).pre.0)
 
-line_step_requires : tie.Need-line-step-requires invariant-loop decreases-loop
+line_step_requires : tie.Need-line_step-step-requires invariant-loop decreases-loop
 line_step_requires c κs =
     let h = at_head c.before.before.before.before.before.before.before.before.before in
-    (h.loop.inv.1, still_holds max_units max_rules (held h) (lent (start h)) (sizes h) (start h).pre.1)
+    (h.loop-at.inv.1, still_holds max_units max_rules (held h) (lent (start h)) (sizes h) (start h).pre.1)
 
 -- what the line's step means, where it was made
-refuses : (c : tie.After-nexts2 invariant-loop decreases-loop) (q : ℕ) → (stepped c).line_step.result ≡ No q →
+refuses : (c : tie.After-nexts-in-loop-at-1 invariant-loop decreases-loop) (q : ℕ) → (stepped c).line_step-step.result ≡ No q →
     let h = at_head (found (stepped c)) in
-    refused q h.loop.n ≡ pass_reply (start h).args.house (text h)
+    refused q h.loop-at.n ≡ pass_reply (start h).args.house (text h)
 refuses c q e =
     let r = stepped c in
     let f = found r in
     let h = at_head f in
-    asking_no _ _ _ _ _ _ _ h.loop.inv.0 (start h).pre.1.in_loader f.line_at_lem.result.next (in_whole (in_turn_lem f)) f.line_at_lem.ensures.1
-    f.line_at_lem.result.line f.line_at_lem.ensures.0 q (sym r.line_step.ensures.0 ∙ e)
+    asking_no _ _ _ _ _ _ _ h.loop-at.inv.0 (start h).pre.1.in_loader f.line_at_lem.result.next (in_whole (in_turn_lem f)) f.line_at_lem.ensures.1
+    f.line_at_lem.result.line f.line_at_lem.ensures.0 q (sym r.line_step-step.ensures.0 ∙ e)
 
-goes_on_lem : (c : tie.After-nexts2 invariant-loop decreases-loop) (more : Sheet) → (stepped c).line_step.result ≡ On more →
+goes_on_lem : (c : tie.After-nexts-in-loop-at-1 invariant-loop decreases-loop) (more : Sheet) → (stepped c).line_step-step.result ≡ On more →
     let f = found (stepped c) in
     let h = at_head f in
-    let k = (stepped c).line_step.new.1.1.1 in
-    Asking (start h).args.house (text h) f.line_at_lem.result.next (h.loop.n + 1) more (lent (start h)) (after (stepped c))
+    let k = (stepped c).line_step-step.new.1.1.1 in
+    Asking (start h).args.house (text h) f.line_at_lem.result.next (h.loop-at.n + 1) more (lent (start h)) (after (stepped c))
     × Chained more k.0 k.1.1.1.1.1.1.1.0 k.1.1.1.1.1.1.1.1.0
 goes_on_lem c more e =
-    let r = (stepped c).line_step in
+    let r = (stepped c).line_step-step in
     let f = found (stepped c) in
     let h = at_head f in
     let x = f.line_at_lem.result.line in
     let k = r.last.1.1.1 in (
-      asking_on _ _ _ _ _ _ _ h.loop.inv.0 (start h).pre.1.in_loader f.line_at_lem.result.next (in_whole (in_turn_lem f)) f.line_at_lem.ensures.1
+      asking_on _ _ _ _ _ _ _ h.loop-at.inv.0 (start h).pre.1.in_loader f.line_at_lem.result.next (in_whole (in_turn_lem f)) f.line_at_lem.ensures.1
           x f.line_at_lem.ensures.0 more (after (stepped c)) (sym r.ensures.0 ∙ e)
-          (r.ensures.1.1 ∙ ap (λ (o : Step). kept_by o (held h) h.loop.s x) e),
+          (r.ensures.1.1 ∙ ap (λ (o : Step). kept_by o (held h) h.loop-at.s x) e),
       subst (λ (o : Step). ChainedBy o k.0 k.1.1.1.1.1.1.1.0 k.1.1.1.1.1.1.1.1.0) e r.ensures.1.0,
     )
 
-add_n : tie.Need-overflow-add-n invariant-loop decreases-loop
+add_n : tie.Need-overflow_add-n invariant-loop decreases-loop
 add_n c =
     let f = found (stepped c.before.before.before) in
-    let i = (at_head f).loop.inv.0 in
+    let i = (at_head f).loop-at.inv.0 in
     omega (arith, i.number, in_whole (in_turn_lem f), whole_within (text (at_head f)), (start (at_head f)).good.1.0.1)
 
-loop-less : tie.Need-loop-smaller invariant-loop decreases-loop
-loop-less c = let f = found (stepped c.before.before.before) in omega (arith, f.line_at_lem.ensures.1, (in_turn_lem f).loop-test.taken)
+loop-less : tie.Need-loop-at-smaller invariant-loop decreases-loop
+loop-less c = let f = found (stepped c.before.before.before) in omega (arith, f.line_at_lem.ensures.1, (in_turn_lem f).loop-at-test.taken)
 
-last_line_requires : tie.Need-last-line-requires invariant-loop decreases-loop
+last_line_requires : tie.Need-last_line-q-requires invariant-loop decreases-loop
 last_line_requires c κs =
-    (past_whole c.before, omega (arith, c.if1.true), (start c.before.before).pre.0)
+    (past_whole c.before, omega (arith, c.if-at-text.true), (start c.before.before).pre.0)
 
-returns-2 : tie.Need-returns-2 invariant-loop decreases-loop
+returns-2 : tie.Need-returns-then-at-text invariant-loop decreases-loop
 returns-2 c =
     let l = c.before in
     let h = l.before.before in
     let q = c.last_Line in
-    (asking_last _ _ _ _ _ _ _ h.loop.invariant.0 (start h).requires.1.in_loader (past_whole l.before) l.if1.true q.result q.ensures, tt)
+    (asking_last _ _ _ _ _ _ _ h.loop-at.invariant.0 (start h).requires.1.in_loader (past_whole l.before) l.if-at-text.true q.result q.ensures, tt)
 
-returns-4 : tie.Need-returns-4 invariant-loop decreases-loop
+returns-4 : tie.Need-returns invariant-loop decreases-loop
 returns-4 c =
     let l = c.before.before in
-    let i = l.before.before.loop.invariant.0 in
-    let none = l.if1.false in (
-      asking_sheet _ _ _ _ _ _ _ i none c.if2.false,
+    let i = l.before.before.loop-at.invariant.0 in
+    let none = l.if-at-text.false in (
+      asking_sheet _ _ _ _ _ _ _ i none c.if-s-eq0.false,
       record {
         few_units = i.counts.few_units;
         few_rules = i.counts.few_rules;
@@ -163,18 +163,18 @@ returns-4 c =
 
 pub pass_spec : {M : Type 1} → statement M
 pass_spec = tie.close (tie.spec invariant-loop decreases-loop (λ c κs. tt) (λ c κs. tt) loop-holds line_at_requires
-    (λ c. sym (at_head c.before.before.before.before.before.before.before.before).loop.inv.1.linked.wide)
-    (λ c. sym (at_head c.before.before.before.before.before.before.before.before.before).loop.inv.1.in_nexts) line_step_requires
-    (λ c. c.match.keys1)
-    (λ c. let r = stepped c.before.before.before in r.line_step.kept.1.1.1.0 ∙ (sizes (at_head (found r))).loader)
-    (λ c. let r = stepped c.before.before.before in r.line_step.kept.1.1.1.1.0 ∙ (sizes (at_head (found r))).first)
-    (λ c. let r = stepped c.before.before.before in r.line_step.kept.1.1.1.1.1.0 ∙ (sizes (at_head (found r))).last)
-    (λ c. let r = stepped c.before.before.before in r.line_step.kept.1.1.1.1.1.1.0 ∙ (sizes (at_head (found r))).from)
-    (λ c. let r = stepped c.before.before.before in r.line_step.kept.1.1.1.1.1.1.1.0 ∙ (sizes (at_head (found r))).to)
-    (λ c. let r = stepped c.before.before.before in r.line_step.kept.1.1.1.1.1.1.1.1.0 ∙ (sizes (at_head (found r))).low)
-    (λ c. let r = stepped c.before.before.before in r.line_step.kept.1.1.1.1.1.1.1.1.1.0 ∙ (sizes (at_head (found r))).high)
-    (λ c. (refuses c.before.before.before _ c.before.step.given.1, tt))
-    (λ c. c.match.keys2) add_n loop-less (λ c. goes_on_lem c.before.before.before _ c.before.step2.given.1) last_line_requires
+    (λ c. sym (at_head c.before.before.before.before.before.before.before.before).loop-at.inv.1.linked.wide)
+    (λ c. sym (at_head c.before.before.before.before.before.before.before.before.before).loop-at.inv.1.in_nexts) line_step_requires
+    (λ c. c.in-No.keys1)
+    (λ c. let r = stepped c.before.before.before in r.line_step-step.kept.1.1.1.0 ∙ (sizes (at_head (found r))).loader)
+    (λ c. let r = stepped c.before.before.before in r.line_step-step.kept.1.1.1.1.0 ∙ (sizes (at_head (found r))).first)
+    (λ c. let r = stepped c.before.before.before in r.line_step-step.kept.1.1.1.1.1.0 ∙ (sizes (at_head (found r))).last)
+    (λ c. let r = stepped c.before.before.before in r.line_step-step.kept.1.1.1.1.1.1.0 ∙ (sizes (at_head (found r))).from)
+    (λ c. let r = stepped c.before.before.before in r.line_step-step.kept.1.1.1.1.1.1.1.0 ∙ (sizes (at_head (found r))).to)
+    (λ c. let r = stepped c.before.before.before in r.line_step-step.kept.1.1.1.1.1.1.1.1.0 ∙ (sizes (at_head (found r))).low)
+    (λ c. let r = stepped c.before.before.before in r.line_step-step.kept.1.1.1.1.1.1.1.1.1.0 ∙ (sizes (at_head (found r))).high)
+    (λ c. (refuses c.before.before.before _ c.before.step-1.given.1, tt))
+    (λ c. c.in-On.keys2) add_n loop-less (λ c. goes_on_lem c.before.before.before _ c.before.step-in-On-1.given.1) last_line_requires
     (λ c. (sizes c.before.before.before).loader) (λ c. (sizes c.before.before.before).first) (λ c. (sizes c.before.before.before).last)
     (λ c. (sizes c.before.before.before).from)
     (λ c. (sizes c.before.before.before).to) (λ c. (sizes c.before.before.before).low) (λ c. (sizes c.before.before.before).high)
@@ -183,7 +183,7 @@ pass_spec = tie.close (tie.spec invariant-loop decreases-loop (λ c κs. tt) (λ
     (λ c. (sizes c.before.before.before.before).last) (λ c. (sizes c.before.before.before.before).from)
     (λ c. (sizes c.before.before.before.before).to) (λ c. (sizes c.before.before.before.before).low)
     (λ c. (sizes c.before.before.before.before).high)
-    (λ c. (asking_none _ _ _ _ _ _ _ c.before.before.before.before.loop.invariant.0 c.before.before.if1.false c.if2.true, tt))
+    (λ c. (asking_none _ _ _ _ _ _ _ c.before.before.before.before.loop-at.invariant.0 c.before.before.if-at-text.false c.if-s-eq0.true, tt))
     (λ c. (sizes c.before.before.before.before).loader) (λ c. (sizes c.before.before.before.before).first)
     (λ c. (sizes c.before.before.before.before).last) (λ c. (sizes c.before.before.before.before).from)
     (λ c. (sizes c.before.before.before.before).to) (λ c. (sizes c.before.before.before.before).low)

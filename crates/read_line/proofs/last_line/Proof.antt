@@ -17,19 +17,19 @@ use borrow.Author.Rules.{rules}
 use Rattle.read_line.proofs.last_line.Statement.{statement}
 use Rattle.read_line.proofs.last_line.Tie as tie
 
-module _ (c : tie.After-kind-of-code) where
+module _ (c : tie.After-kind_of_code-kind) where
   abbrev begun : tie.Start
   begun = c.before.before.before.before
 
-  kind_is : let a = begun.args in c.kind-of-code.result ≡ kind_of a.house (drop a.at a.text.now)
+  kind_is : let a = begun.args in c.kind_of_code-kind.result ≡ kind_of a.house (drop a.at a.text.now)
   kind_is =
       let a = begun.args in
       let h = a.house in
       let t = begun.pre.2 in
       let l = drop a.at a.text.now in
       let line = rest_line a.text.now a.at begun.pre.0 in
-      let end = c.before.next_state.ensures ∙ ap₂ (λ g q. entry_of g q (class_of line_feed)) t.is_grid (c.before.before.run.ensures.1 h t) in
-      c.kind-of-code.ensures ∙ ap kind_of_code (end ∙ grid_reads h l (ap feedless (sym line) ∙ first_feedless l)) ∙ kind_back (kind_of h l)
+      let end = c.before.next_state-end.ensures ∙ ap₂ (λ g q. entry_of g q (class_of line_feed)) t.is_grid (c.before.before.run-state.ensures.1 h t) in
+      c.kind_of_code-kind.ensures ∙ ap kind_of_code (end ∙ grid_reads h l (ap feedless (sym line) ∙ first_feedless l)) ∙ kind_back (kind_of h l)
 
   whole : let a = begun.args in take (length a.text.now - a.at) (drop a.at a.text.now) ≡ drop a.at a.text.now
   whole = let a = begun.args in take_all (length a.text.now - a.at) (drop a.at a.text.now) (omega (arith, length-drop a.at a.text.now))

@@ -10,20 +10,20 @@ use Rattle.read_line.proofs.LineLaws.{note_bytes, line_said_lem, zeros_small}
 use Rattle.read_line.proofs.line_at.Statement.{statement}
 use Rattle.read_line.proofs.line_at.Tie as tie
 
-module _ (c : tie.After-scan) where
+module _ (c : tie.After-scan-found) where
   abbrev begun : tie.Start
   begun = c.before.before.before
 
-  scanned : ScannedAs begun.args.house begun.args.text.now begun.args.at c.scan.result.end c.scan.result.kind c.scan.result.plain
-      (replicate 8 0) c.scan.new.1.1.1.1.0
-  scanned = c.scan.ensures.0 begun.args.house begun.pre.1
+  scanned : ScannedAs begun.args.house begun.args.text.now begun.args.at c.scan-found.result.end c.scan-found.result.kind c.scan-found.result.plain
+      (replicate 8 0) c.scan-found.new.1.1.1.1.0
+  scanned = c.scan-found.ensures.0 begun.args.house begun.pre.1
 
-  end_inside : c.scan.result.end + 1 ≤ length begun.args.text.now
+  end_inside : c.scan-found.result.end + 1 ≤ length begun.args.text.now
   end_inside =
       let a = begun.args in
       omega (arith, scanned.is_end, whole_next a.text.now a.at begun.pre.0, whole_within a.text.now)
 
-  start_inside : begun.args.at ≤ c.scan.result.end
+  start_inside : begun.args.at ≤ c.scan-found.result.end
   start_inside = omega (arith, scanned.is_end)
 
 pub line_at_spec : {M : Type 1} → statement M
@@ -32,7 +32,7 @@ line_at_spec = tie.close (tie.spec
     (λ c. start_inside c.before) (λ c. start_inside c.before) (λ c. omega (arith, end_inside c.before))
     (λ c κs. let s = c.before.before in
     let a = (begun s).args in (
-      s.scan.ensures.1,
+      s.scan-found.ensures.1,
       λ e. omega (
         arith,
         ap length (line_part a.text.now a.at _ (scanned s).is_end),
@@ -42,8 +42,8 @@ line_at_spec = tie.close (tie.spec
     (λ c. omega (arith, end_inside c.before.before.before))
     (λ c. let s = c.before.before.before in
     let a = (begun s).args in (
-      c.read-line.ensures
-          ∙ ap (line_said a.house s.scan.result.kind s.scan.result.plain _) (line_part a.text.now a.at _ (scanned s).is_end)
-          ∙ line_said_lem a.house _ (replicate 8 0) _ s.scan.result.plain refl (scanned s).are_values s.scan.result.kind (scanned s).is_kind,
+      c.read_line.ensures
+          ∙ ap (line_said a.house s.scan-found.result.kind s.scan-found.result.plain _) (line_part a.text.now a.at _ (scanned s).is_end)
+          ∙ line_said_lem a.house _ (replicate 8 0) _ s.scan-found.result.plain refl (scanned s).are_values s.scan-found.result.kind (scanned s).is_kind,
       ap (λ n. n + 1) (scanned s).is_end,
     )))

@@ -10,30 +10,30 @@ use Rattle.forms.specs.LinesLaws.{whole_feed, whole_other}
 use Rattle.read_line.proofs.lines_end.Statement.{statement}
 use Rattle.read_line.proofs.lines_end.Tie as tie
 
-abbrev invariant-loop : tie.invariant-loop
+abbrev invariant-loop : tie.invariant-loop-n
 invariant-loop text n₀ n = (n ≤ length text) × (whole_lines (take n text) ≡ whole_lines text)
 
-abbrev decreases-loop : tie.decreases-loop
+abbrev decreases-loop : tie.decreases-loop-n
 decreases-loop text n₀ n = n
 
-loop-again : tie.Need-loop-preserved invariant-loop decreases-loop
+loop-again : tie.Need-loop-n-preserved invariant-loop decreases-loop
 loop-again c =
-    let l = c.before.before.before.loop in
+    let l = c.before.before.before.loop-n in
     let t = c.before.before.before.before.args.text.now in
     let e : suc (l.n - 1) ≡ l.n = omega arith in
-    (omega arith, sym (whole_other t (l.n - 1) (omega arith) (ne_eqb _ _ c.if1.false)) ∙ ap (λ n. whole_lines (take n t)) e ∙ l.invariant.1)
+    (omega arith, sym (whole_other t (l.n - 1) (omega arith) (ne_eqb _ _ c.if-text-n-eq10.false)) ∙ ap (λ n. whole_lines (take n t)) e ∙ l.invariant.1)
 
-returns-2 : tie.Need-returns-2 invariant-loop decreases-loop
+returns-2 : tie.Need-returns-then-text-n-eq10 invariant-loop decreases-loop
 returns-2 c =
-    let l = c.before.before.before.loop in
+    let l = c.before.before.before.loop-n in
     let t = c.before.before.before.before.args.text.now in
     let e : suc (l.n - 1) ≡ l.n = omega arith in
-    sym e ∙ sym (whole_feed t (l.n - 1) (omega arith) (eq-eqb _ _ c.if1.true)) ∙ ap (λ n. whole_lines (take n t)) e ∙ l.invariant.1
+    sym e ∙ sym (whole_feed t (l.n - 1) (omega arith) (eq-eqb _ _ c.if-text-n-eq10.true)) ∙ ap (λ n. whole_lines (take n t)) e ∙ l.invariant.1
 
-returns : tie.Need-returns invariant-loop decreases-loop
+returns : tie.Need-returns-after-loop-n invariant-loop decreases-loop
 unfolding whole_lines
 returns c =
-    let l = c.before.loop in
+    let l = c.before.loop-n in
     let t = c.before.before.args.text.now in
     let e : l.n ≡ 0 = omega arith in
     e ∙ ap (λ n. whole_lines (take n t)) (sym e) ∙ l.invariant.1

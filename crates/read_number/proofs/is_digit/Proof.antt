@@ -4,4 +4,4 @@ use Rattle.read_number.proofs.is_digit.Statement.{statement}
 use Rattle.read_number.proofs.is_digit.Tie as tie
 
 pub is_digit_spec : {M : Type 1} → statement M
-is_digit_spec = tie.close (tie.spec (λ c. simp (lt-leb _ _ c.if1.true)) (λ c. simp (le-leb _ _ c.if1.false)))
+is_digit_spec = tie.close (tie.spec (λ c. simp (lt-leb _ _ c.if-b-lt-ZERO.true)) (λ c. simp (le-leb _ _ c.if-b-lt-ZERO.false)))

@@ -14,11 +14,11 @@ number_is : (k : Kind) (text : List ℕ) (j : ℕ) → number_in (sought k text 
 unfolding sought
 number_is k text j = sought_number (spots k text) j
 
-returns : tie.Need-returns
-returns c = ap number_in (sym c.before.found.given.1 ∙ c.before.before.before.seek.ensures) ∙ number_is _ _ _
+returns : tie.Need-returns-in-At
+returns c = ap number_in (sym c.before.found-1.given.1 ∙ c.before.before.before.seek-found.ensures) ∙ number_is _ _ _
 
-returns-2 : tie.Need-returns-2
-returns-2 c = ap number_in (sym c.enum_told.given.1 ∙ c.before.before.seek.ensures) ∙ number_is _ _ _
+returns-2 : tie.Need-returns-in-Past
+returns-2 c = ap number_in (sym c.enum_told-1.given.1 ∙ c.before.before.seek-found.ensures) ∙ number_is _ _ _
 
 pub line_number_spec : {M : Type 1} → statement M
 line_number_spec = tie.close (tie.spec (λ c κs. tt) (λ c. search rules) (λ c. search rules) returns returns-2)

@@ -16,25 +16,25 @@ use Rattle.read_places.proofs.SearchLaws.{Searching, search_start, search_found,
 use Rattle.read_places.proofs.search.Statement.{statement}
 use Rattle.read_places.proofs.search.Tie as tie
 
-abbrev invariant-loop : tie.invariant-loop
+abbrev invariant-loop : tie.invariant-loop-at
 invariant-loop text j grid table whole wanted at₀ n₀ left₀ at n left = (k : Kind) → wanted ≡ code k → Searching k text j at n left
 
-abbrev decreases-loop : tie.decreases-loop
+abbrev decreases-loop : tie.decreases-loop-at
 decreases-loop text j grid table whole wanted at₀ n₀ left₀ at n left = whole - at
 
 -- the function's start, and the kind with its code
-abbrev start : tie.At-loop invariant-loop decreases-loop → tie.Start invariant-loop decreases-loop
+abbrev start : tie.At-loop-at invariant-loop decreases-loop → tie.Start invariant-loop decreases-loop
 start h = h.before.before.before.before
 
-abbrev text : tie.At-loop invariant-loop decreases-loop → List ℕ
+abbrev text : tie.At-loop-at invariant-loop decreases-loop → List ℕ
 text h = (start h).args.text.now
 
-searching : (h : tie.At-loop invariant-loop decreases-loop) → Searching (start h).args.kind (text h) (start h).args.j h.loop.at h.loop.n h.loop.left
-searching h = h.loop.invariant (start h).args.kind h.before.code_of_lem.ensures
+searching : (h : tie.At-loop-at invariant-loop decreases-loop) → Searching (start h).args.kind (text h) (start h).args.j h.loop-at.at h.loop-at.n h.loop-at.left
+searching h = h.loop-at.invariant (start h).args.kind h.before.code_of_lem.ensures
 
 -- a line starts before the last line feed
-in_whole : (c : tie.In-loop invariant-loop decreases-loop) → c.before.loop.at < whole_lines (text c.before)
-in_whole c = omega (arith, c.loop-test.true, c.before.before.before.lines_end.ensures)
+in_whole : (c : tie.In-loop-at invariant-loop decreases-loop) → c.before.loop-at.at < whole_lines (text c.before)
+in_whole c = omega (arith, c.loop-at-test.true, c.before.before.before.lines_end-whole.ensures)
 
 -- the test of the code is that of the kind
 same : (k : Kind) (state wanted : ℕ) → wanted ≡ code k → state ≡ wanted → eqb state (code k) ≡ true
@@ -43,44 +43,44 @@ same k state wanted e t = eq-eqb state (code k) (t ∙ e)
 other : (k : Kind) (state wanted : ℕ) → wanted ≡ code k → (state ≡ wanted → ⊥) → eqb state (code k) ≡ false
 other k state wanted e n = ne_eqb state (code k) (λ t. n (t ∙ sym e))
 
-found : tie.Need-returns invariant-loop decreases-loop
+found : tie.Need-returns-then-left-eq0 invariant-loop decreases-loop
 found c =
     let f = c.before.before.before in
     let h = f.before.before in
     let e = h.before.code_of_lem.ensures in
-    search_found _ _ _ _ _ _ (searching h) _ (in_whole f.before) f.to-end.ensures.0 _ f.to-end.ensures.1
-    (same (start h).args.kind _ _ e c.before.if1.true) c.if2.true
+    search_found _ _ _ _ _ _ (searching h) _ (in_whole f.before) f.to_end-line.ensures.0 _ f.to_end-line.ensures.1
+    (same (start h).args.kind _ _ e c.before.if-line-wanted.true) c.if-left-eq0.true
 
-add_at : tie.Need-overflow-add-at invariant-loop decreases-loop
+add_at : tie.Need-overflow_add-at invariant-loop decreases-loop
 add_at c =
     let f = c.before.before.before in
     let h = f.before.before in
-    omega (arith, f.to-end.ensures.0, whole_next (text h) h.loop.at (in_whole f.before), whole_within (text h), (start h).well-formed.0.1)
+    omega (arith, f.to_end-line.ensures.0, whole_next (text h) h.loop-at.at (in_whole f.before), whole_within (text h), (start h).well-formed.0.1)
 
-add_n : tie.Need-overflow-add-n invariant-loop decreases-loop
+add_n : tie.Need-overflow_add-n invariant-loop decreases-loop
 add_n c =
     let f = c.before.before.before in
     let h = f.before.before in
     omega (arith, (searching h).number, in_whole f.before, whole_within (text h), (start h).well-formed.0.1)
 
-loop-less : tie.Need-loop-smaller invariant-loop decreases-loop
-loop-less c = let f = c.before.before.before in omega (arith, f.to-end.ensures.0, f.before.loop-test.true)
+loop-less : tie.Need-loop-at-smaller invariant-loop decreases-loop
+loop-less c = let f = c.before.before.before in omega (arith, f.to_end-line.ensures.0, f.before.loop-at-test.true)
 
-loop-again : tie.Need-loop-preserved invariant-loop decreases-loop
+loop-again : tie.Need-loop-at-preserved invariant-loop decreases-loop
 loop-again c k e =
     let f = c.before.before.before in
     let h = f.before.before in
-    let r = f.to-end in
-    let on : ℕ → Type 0 = λ m. Searching k (text h) (start h).args.j (r.result.place + 1) (h.loop.n + 1) m in
-    let i = h.loop.invariant k e in
+    let r = f.to_end-line in
+    let on : ℕ → Type 0 = λ m. Searching k (text h) (start h).args.j (r.result.place + 1) (h.loop-at.n + 1) m in
+    let i = h.loop-at.invariant k e in
     ⊎_elim
     (λ p. subst on (sym p.2) (search_counted _ _ _ _ _ _ i _ (in_whole f.before) r.ensures.0 _ r.ensures.1 (same k _ _ e p.0.taken)
     p.1.left))
     (λ p. subst on (sym p.1) (search_passed _ _ _ _ _ _ i _ (in_whole f.before) r.ensures.0 _ r.ensures.1 (other k _ _ e p.0.left)))
-    c.before.if1.branch
+    c.before.if-line-wanted.branch
 
 pub search_spec : {M : Type 1} → statement M
 search_spec = tie.close (tie.spec invariant-loop decreases-loop (λ c κs. tt) (λ c κs. tt) (λ c k e. search_start k _ _)
-    (λ c κs. (in_whole c, (start c.before).pre)) found (λ c. omega (arith, c.if2.false)) add_at add_n loop-less loop-again
+    (λ c κs. (in_whole c, (start c.before).pre)) found (λ c. omega (arith, c.if-left-eq0.false)) add_at add_n loop-less loop-again
     (λ c. let h = c.before in
-    search_none _ _ _ _ _ _ (searching h) (omega (arith, c.loop-test.false, h.before.before.lines_end.ensures))))
+    search_none _ _ _ _ _ _ (searching h) (omega (arith, c.loop-at-test.false, h.before.before.lines_end-whole.ensures))))

@@ -5,25 +5,25 @@ use Rattle.read_rooms.proofs.fill.Statement.{statement}
 use Rattle.read_rooms.proofs.fill.Tie as tie
 
 -- back from the first call, and from each call to the one before it
-abbrev start : tie.After-copy-front-arg → tie.Start
+abbrev start : tie.After-copy_front-arg-1 → tie.Start
 start c = c.before.before.before.before.before.before.before.before.before.before.before.before.before.before.before
 
-abbrev call_1 : tie.After-copy-front-arg2 → tie.After-copy-front-arg
+abbrev call_1 : tie.After-copy_front-arg-2-1 → tie.After-copy_front-arg-1
 call_1 c = c.before.before.before.before
 
-abbrev call_2 : tie.After-copy-front-arg3 → tie.After-copy-front-arg2
+abbrev call_2 : tie.After-copy_front-arg-3-1 → tie.After-copy_front-arg-2-1
 call_2 c = c.before.before.before.before
 
-abbrev call_3 : tie.After-copy-front-arg4 → tie.After-copy-front-arg3
+abbrev call_3 : tie.After-copy_front-arg-4-1 → tie.After-copy_front-arg-3-1
 call_3 c = c.before.before.before.before
 
-abbrev call_4 : tie.After-copy-front-arg5 → tie.After-copy-front-arg4
+abbrev call_4 : tie.After-copy_front-arg-5-1 → tie.After-copy_front-arg-4-1
 call_4 c = c.before.before.before.before
 
-abbrev call_5 : tie.After-copy-front-arg6 → tie.After-copy-front-arg5
+abbrev call_5 : tie.After-copy_front-arg-6-1 → tie.After-copy_front-arg-5-1
 call_5 c = c.before.before.before.before
 
-abbrev call_6 : tie.After-copy-front-arg7 → tie.After-copy-front-arg6
+abbrev call_6 : tie.After-copy_front-arg-7-1 → tie.After-copy_front-arg-6-1
 call_6 c = c.before.before.before.before
 
 returns : tie.Need-returns
@@ -35,8 +35,8 @@ returns c =
     let s₂ = s₃.before.before.before.before in
     let s₁ = s₂.before.before.before.before in
     let s₀ = s₁.before.before.before.before in
-    rooms_same s₀.copy-front.ensures s₁.copy-front2.ensures s₂.copy-front3.ensures s₃.copy-front4.ensures s₄.copy-front5.ensures
-    s₅.copy-front6.ensures s₆.copy-front7.ensures
+    rooms_same s₀.copy_front.ensures s₁.copy_front-2.ensures s₂.copy_front-3.ensures s₃.copy_front-4.ensures s₄.copy_front-5.ensures
+    s₅.copy_front-6.ensures s₆.copy_front-7.ensures
 
 pub fill_spec : {M : Type 1} → statement M
 fill_spec = tie.close (tie.spec

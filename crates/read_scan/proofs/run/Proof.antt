@@ -10,36 +10,36 @@ use Rattle.read_scan.specs.ScanLaws.{run_byte, run_done}
 use Rattle.read_scan.proofs.run.Statement.{statement}
 use Rattle.read_scan.proofs.run.Tie as tie
 
-abbrev invariant-loop : tie.invariant-loop
+abbrev invariant-loop : tie.invariant-loop-i
 invariant-loop text at grid table state₀ i₀ state i =
     (i ≤ length text) × (state < state_count) × ((h : House) → Tables h grid table → run_of h state (drop i text) ≡ run_of h start (drop at text))
 
-abbrev decreases-loop : tie.decreases-loop
+abbrev decreases-loop : tie.decreases-loop-i
 decreases-loop text at grid table state₀ i₀ state i = length text - i
 
 -- the state that follows is the grid's
-next : (c : tie.After-next-state invariant-loop decreases-loop) → let l = c.before.before.before in
+next : (c : tie.After-next_state-state invariant-loop decreases-loop) → let l = c.before.before.before in
     let a = l.before.before.args in
-    (h : House) → Tables h a.grid.now a.table.now → c.next_state.result ≡ next_of h l.loop.state (class_of (get_or a.text.now l.loop.i 0))
+    (h : House) → Tables h a.grid.now a.table.now → c.next_state-state.result ≡ next_of h l.loop-i.state (class_of (get_or a.text.now l.loop-i.i 0))
 next c h t =
     let l = c.before.before.before in
-    c.next_state.ensures ∙ ap (λ g. entry_of g l.loop.state (class_of (get_or l.before.before.args.text.now l.loop.i 0))) t.is_grid
+    c.next_state-state.ensures ∙ ap (λ g. entry_of g l.loop-i.state (class_of (get_or l.before.before.args.text.now l.loop-i.i 0))) t.is_grid
 
-again : tie.Need-loop-preserved invariant-loop decreases-loop
+again : tie.Need-loop-i-preserved invariant-loop decreases-loop
 again c =
     let l = c.before.before.before in
     let z = l.before.before in
-    let s = c.before.before.loop-test.true in
+    let s = c.before.before.loop-i-test.true in
     let p = z.requires.1 in (
       omega arith,
       subst (λ q. q < state_count) (sym (next c p.0 p.1))
-          (next_inside p.0 l.loop.state l.loop.invariant.1 (get_or z.args.text.now l.loop.i 0)),
-      λ h t. run_byte h z.args.text.now l.loop.i l.loop.state _ s (next c h t) ∙ l.loop.invariant.2 h t,
+          (next_inside p.0 l.loop-i.state l.loop-i.invariant.1 (get_or z.args.text.now l.loop-i.i 0)),
+      λ h t. run_byte h z.args.text.now l.loop-i.i l.loop-i.state _ s (next c h t) ∙ l.loop-i.invariant.2 h t,
     )
 
 pub run_spec : {M : Type 1} → statement M
 run_spec = tie.close (tie.spec invariant-loop decreases-loop (λ c. (c.before.requires.0, start_inside.1, λ h t. refl))
-    (λ c. omega arith) (λ c κs. (c.before.before.before.before.requires.1, c.before.before.loop.invariant.1))
+    (λ c. omega arith) (λ c κs. (c.before.before.before.before.requires.1, c.before.before.loop-i.invariant.1))
     (λ c. omega arith) (λ c. omega arith) again
     (λ c. let l = c.before in
-    (l.loop.invariant.1, λ h t. sym (run_done h _ _ _ c.loop-test.false) ∙ l.loop.invariant.2 h t)))
+    (l.loop-i.invariant.1, λ h t. sym (run_done h _ _ _ c.loop-i-test.false) ∙ l.loop-i.invariant.2 h t)))

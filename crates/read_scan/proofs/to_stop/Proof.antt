@@ -10,10 +10,10 @@ use Rattle.read_scan.specs.ScanLaws.{feed_here, Scanning, Past, scanning_start, 
 use Rattle.read_scan.proofs.to_stop.Statement.{statement}
 use Rattle.read_scan.proofs.to_stop.Tie as tie
 
-abbrev invariant-loop : tie.invariant-loop
+abbrev invariant-loop : tie.invariant-loop-state
 invariant-loop text at from grid table state₀ i₀ state i = (1 ≤ i) × ((h : House) → Tables h grid table → Past h text at from i state)
 
-abbrev decreases-loop : tie.decreases-loop
+abbrev decreases-loop : tie.decreases-loop-state
 decreases-loop text at from grid table state₀ i₀ state i = length text - i
 
 -- the state that follows is the grid's, whose tables they are
@@ -21,11 +21,11 @@ follows : (g : List (List ℕ)) (k : List ℕ) (q b r : ℕ) → r ≡ entry_of 
 follows g k q b r e h t = e ∙ ap (λ f. entry_of f q (class_of b)) t.is_grid
 
 -- one of the houses
-on : (c : tie.In-loop invariant-loop decreases-loop) → let z = c.before.before.before.before.before in
-    Scanning z.requires.1.0 z.args.text.now z.args.at z.args.from c.before.loop.i c.before.loop.state
-on c = let p = c.before.before.before.before.before.requires.1 in (c.before.loop.invariant.1 p.0 p.1).on c.loop-test.true
+on : (c : tie.In-loop-state invariant-loop decreases-loop) → let z = c.before.before.before.before.before in
+    Scanning z.requires.1.0 z.args.text.now z.args.at z.args.from c.before.loop-state.i c.before.loop-state.state
+on c = let p = c.before.before.before.before.before.requires.1 in (c.before.loop-state.invariant.1 p.0 p.1).on c.loop-state-test.true
 
-inside : (c : tie.In-loop invariant-loop decreases-loop) → c.before.loop.i < length c.before.before.before.before.before.args.text.now
+inside : (c : tie.In-loop-state invariant-loop decreases-loop) → c.before.loop-state.i < length c.before.before.before.before.before.args.text.now
 inside c = feed_here _ _ (on c).resumes.feed
 
 begins : (c : tie.Start invariant-loop decreases-loop) → c.args.at < length c.args.text.now
@@ -36,12 +36,12 @@ to_stop_spec = tie.close (tie.spec invariant-loop decreases-loop (λ c. begins c
     (λ c. omega (arith, begins c.before.before.before))
     (λ c. let z = c.before.before.before in (
       omega arith,
-      λ h t. past_byte h _ _ _ _ _ _ (scanning_start h _ _ _ z.requires.0) (follows _ _ _ _ _ c.next_state.ensures h t),
+      λ h t. past_byte h _ _ _ _ _ _ (scanning_start h _ _ _ z.requires.0) (follows _ _ _ _ _ c.next_state-state.ensures h t),
     ))
     (λ c. inside c.before) (λ c κs. (c.before.before.before.before.before.before.requires.1, (on c.before).resumes.known))
     (λ c. omega (arith, inside c.before.before)) (λ c. omega (arith, inside c.before.before))
     (λ c. let l = c.before.before.before in (
       omega arith,
-      λ h t. past_byte h _ _ _ _ _ _ ((l.loop.invariant.1 h t).on c.before.before.loop-test.true) (follows _ _ _ _ _ c.next-state2.ensures h t),
+      λ h t. past_byte h _ _ _ _ _ _ ((l.loop-state.invariant.1 h t).on c.before.before.loop-state-test.true) (follows _ _ _ _ _ c.next_state-state-in-loop-state.ensures h t),
     ))
-    (λ c. omega (arith, c.before.loop.invariant.0)) (λ c h t. (c.before.loop.invariant.1 h t).stopped c.loop-test.false))
+    (λ c. omega (arith, c.before.loop-state.invariant.0)) (λ c h t. (c.before.loop-state.invariant.1 h t).stopped c.loop-state-test.false))

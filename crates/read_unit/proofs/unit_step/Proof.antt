@@ -14,52 +14,52 @@ use Rattle.read_unit.proofs.unit_step.Statement.{statement}
 use Rattle.read_unit.proofs.unit_step.Tie as tie
 
 -- back from each test's yes to the one before it, and to the function's start
-abbrev start : tie.Else1 → tie.Start
+abbrev start : tie.Else-not-is_window → tie.Start
 start c = c.before.before.before.before.before.before.before
 
-abbrev fitted : tie.Else2 → tie.Else1
+abbrev fitted : tie.Else-not-is_new → tie.Else-not-is_window
 fitted c = c.before.before.before.before.before
 
 -- what they say
-window : (c : tie.Else1) → let a = (start c).args in rising 1 a.s.span (last_place a.house a.s.span) a.first a.last ≡ true
-window c = sym c.before.is_window_lem.ensures ∙ not-false _ c.if1.false
+window : (c : tie.Else-not-is_window) → let a = (start c).args in rising 1 a.s.span (last_place a.house a.s.span) a.first a.last ≡ true
+window c = sym c.before.is_window_lem.ensures ∙ not-false _ c.if-not-is_window.false
 
-order : (c : tie.Else1) → eqb (start c).args.s.span 0 ≡ false
+order : (c : tie.Else-not-is_window) → eqb (start c).args.s.span 0 ≡ false
 order c = let a = (start c).args in window_span a.s.span (last_place a.house a.s.span) a.first a.last (window c)
 
-new : (c : tie.Else2) → let a = (start (fitted c)).args in is_new (take a.s.units a.numbers.now) a.loader ≡ true
-new c = sym c.before.is-new.ensures ∙ not-false _ c.if2.false
+new : (c : tie.Else-not-is_new) → let a = (start (fitted c)).args in is_new (take a.s.units a.numbers.now) a.loader ≡ true
+new c = sym c.before.is_new.ensures ∙ not-false _ c.if-not-is_new.false
 
-returns : tie.Need-returns
+returns : tie.Need-returns-then-not-is_window
 returns c =
     let t = c.before in
     let a = t.before.before.before.before.before.before.before.args in
-    let no = sym t.before.is_window_lem.ensures ∙ not-true _ t.if1.true in
-    (ap No c.window-fault.ensures ∙ no_window_lem a.house a.s.span a.first a.last _ no, (tt, (refl, (refl, refl))))
+    let no = sym t.before.is_window_lem.ensures ∙ not-true _ t.if-not-is_window.true in
+    (ap No c.window_fault.ensures ∙ no_window_lem a.house a.s.span a.first a.last _ no, (tt, (refl, (refl, refl))))
 
-returns-2 : tie.Need-returns-2
+returns-2 : tie.Need-returns-then-not-is_new
 returns-2 c =
     let d = c.before.before.before.before.before in
-    (simp (order d, window d, sym c.before.is-new.ensures ∙ not-true _ c.if2.true), (tt, (refl, (refl, refl))))
+    (simp (order d, window d, sym c.before.is_new.ensures ∙ not-true _ c.if-not-is_new.true), (tt, (refl, (refl, refl))))
 
-returns-3 : tie.Need-returns-3
+returns-3 : tie.Need-returns-then-n-lt-MAX_UNITS
 returns-3 c =
     let k = c.before.before.before.before.link.ensures in
     let t = c.before.before.before.before.before.before.before in
     let d = fitted t.before in
     let z = start d in
     let a = z.args in (
-      simp (order d, window d, new t.before, lt-ltb _ _ t.if3.true),
+      simp (order d, window d, new t.before, lt-ltb _ _ t.if-n-lt-MAX_UNITS.true),
       (
-        unit_chained a.s a.numbers.now a.heads.now a.nexts.now _ _ a.loader z.pre.0 t.if3.true k.0 k.1,
+        unit_chained a.s a.numbers.now a.heads-1.now a.nexts-1.now _ _ a.loader z.pre.0 t.if-n-lt-MAX_UNITS.true k.0 k.1,
         (refl, (refl, refl)),
       ),
     )
 
-returns-4 : tie.Need-returns-4
+returns-4 : tie.Need-returns
 returns-4 c =
     let d = fitted c.before in
-    (simp (order d, window d, new c.before, le-ltb _ _ c.if3.false), (tt, (refl, (refl, refl))))
+    (simp (order d, window d, new c.before, le-ltb _ _ c.if-n-lt-MAX_UNITS.false), (tt, (refl, (refl, refl))))
 
 pub unit_step_spec : {M : Type 1} → statement M
 unit_step_spec = tie.close (tie.spec (λ c κs. search rules) (λ c κs. search rules) returns (λ c κs. search rules) (λ c. search rules) (λ c. search rules)

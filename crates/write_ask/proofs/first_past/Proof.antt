@@ -11,35 +11,35 @@ use Rattle.write_ask.specs.HouseQuestionsLaws.{fault_next, fault_found, fault_no
 use Rattle.write_ask.proofs.first_past.Statement.{statement}
 use Rattle.write_ask.proofs.first_past.Tie as tie
 
-abbrev invariant-loop : tie.invariant-loop
+abbrev invariant-loop : tie.invariant-loop-j
 invariant-loop xs most j₀ j = (j ≤ length xs) × (first_at_fault (λ x. leb x most) xs ≡ fault_from (λ x. leb x most) (suc j) (drop j xs))
 
-abbrev decreases-loop : tie.decreases-loop
+abbrev decreases-loop : tie.decreases-loop-j
 decreases-loop xs most j₀ j = length xs - j
 
 -- the test of an entry
 abbrev passes : tie.Start invariant-loop decreases-loop → ℕ → Bool
 passes c = (λ x. leb x c.args.most)
 
-loop-again : tie.Need-loop-preserved invariant-loop decreases-loop
+loop-again : tie.Need-loop-j-preserved invariant-loop decreases-loop
 loop-again c =
     let s = c.before.before.before.before in
-    let l = c.before.before.before.loop in
-    (omega arith, l.invariant.1 ∙ fault_next (passes s) 0 s.args.xs.now l.j (omega arith) (le-leb _ _ c.if1.true))
+    let l = c.before.before.before.loop-j in
+    (omega arith, l.invariant.1 ∙ fault_next (passes s) 0 s.args.xs.now l.j (omega arith) (le-leb _ _ c.if-xs-j.true))
 
-returns : tie.Need-returns invariant-loop decreases-loop
+returns : tie.Need-returns-else-xs-j invariant-loop decreases-loop
 returns c =
     let s = c.before.before.before.before in
-    let l = c.before.before.before.loop in
-    sym (l.invariant.1 ∙ fault_found (passes s) 0 s.args.xs.now l.j (omega arith) (lt-leb _ _ c.if1.false))
+    let l = c.before.before.before.loop-j in
+    sym (l.invariant.1 ∙ fault_found (passes s) 0 s.args.xs.now l.j (omega arith) (lt-leb _ _ c.if-xs-j.false))
 
-returns-2 : tie.Need-returns-2 invariant-loop decreases-loop
+returns-2 : tie.Need-returns invariant-loop decreases-loop
 returns-2 c =
     let s = c.before.before in
-    let l = c.before.loop in
+    let l = c.before.loop-j in
     sym (l.invariant.1 ∙ fault_none (passes s) 0 s.args.xs.now l.j (omega arith))
 
 pub first_past_spec : {M : Type 1} → statement M
 first_past_spec = tie.close (tie.spec invariant-loop decreases-loop (λ c. (omega arith, refl)) (λ c. omega arith) (λ c. omega arith)
-    (λ c. omega (arith, c.shared-slice-known.given c.before.before.loop.j)) (λ c. omega arith) (λ c. omega arith)
+    (λ c. omega (arith, c.shared_slice_known-1.given c.before.before.loop-j.j)) (λ c. omega arith) (λ c. omega arith)
     loop-again (λ c. omega arith) returns returns-2)

@@ -14,34 +14,34 @@ use Rattle.write_entries.proofs.put_span.Tie as tie
 abbrev line : tie.Start → House → List ℕ
 line c house = let a = c.args in span_text house a.span
 
-put_one_number_requires : tie.Need-put-one-number-requires
+put_one_number_requires : tie.Need-put_one_number-requires
 unfolding span_text text
 put_one_number_requires c κs =
     let s = c.before.before.before.before.before.before in
-    subst (λ house. Room s.args.page.now s.args.at (line s house)) c.before.before.before.enum_told.given.1 s.requires
+    subst (λ house. Room s.args.page.now s.args.at (line s house)) c.before.before.before.enum_told-1.given.1 s.requires
 
-put_one_number_requires_2 : tie.Need-put-one-number-requires-2
+put_one_number_requires_2 : tie.Need-put_one_number-requires-in-Partner
 unfolding span_text text
 put_one_number_requires_2 c κs =
     let s = c.before.before.before.before.before.before in
-    subst (λ house. Room s.args.page.now s.args.at (line s house)) c.before.before.before.enum-told2.given.1 s.requires
+    subst (λ house. Room s.args.page.now s.args.at (line s house)) c.before.before.before.enum_told-in-Partner-1.given.1 s.requires
 
-returns : tie.Need-returns
+returns : tie.Need-returns-in-Ours
 unfolding span_text text
 returns c =
     let s = c.before.before.before.before.before.before.before.before.before in
-    let put = c.before.before.put-one-number in
+    let put = c.before.before.put_one_number in
     subst (λ house. Written s.args.page.now s.args.at (line s house) put.new.0 put.result)
-    (sym c.before.before.before.before.before.before.enum_told.given.1)
+    (sym c.before.before.before.before.before.before.enum_told-1.given.1)
     put.ensures
 
-returns-2 : tie.Need-returns-2
+returns-2 : tie.Need-returns-in-Partner
 unfolding span_text text
 returns-2 c =
     let s = c.before.before.before.before.before.before.before.before.before in
-    let put = c.before.before.put-one-number2 in
+    let put = c.before.before.put_one_number-in-Partner in
     subst (λ house. Written s.args.page.now s.args.at (line s house) put.new.0 put.result)
-    (sym c.before.before.before.before.before.before.enum-told2.given.1)
+    (sym c.before.before.before.before.before.before.enum_told-in-Partner-1.given.1)
     put.ensures
 
 pub put_span_spec : {M : Type 1} → statement M

@@ -14,35 +14,35 @@ use Rattle.write_entries.proofs.put_unit.Tie as tie
 abbrev line : tie.Start → House → List ℕ
 line c house = let a = c.args in unit_text house (unit_with a.loader a.first a.last)
 
-put_own_unit_requires : tie.Need-put-own-unit-requires
+put_own_unit_requires : tie.Need-put_own_unit-requires
 unfolding unit_text
 put_own_unit_requires c κs =
     let s = c.before.before.before.before in
-    subst (λ house. Room s.args.page.now s.args.at (line s house)) c.before.enum_told.given.1 s.requires.1
+    subst (λ house. Room s.args.page.now s.args.at (line s house)) c.before.enum_told-1.given.1 s.requires.1
 
-put_job_requires : tie.Need-put-job-requires
+put_job_requires : tie.Need-put_job-requires
 unfolding unit_text
 put_job_requires c κs =
     let s = c.before.before.before.before.before in
     rw c.hours.ensures
-    (subst (λ house. Room s.args.page.now s.args.at (line s house)) c.before.before.enum-told2.given.1 s.requires.1)
+    (subst (λ house. Room s.args.page.now s.args.at (line s house)) c.before.before.enum_told-in-Partner-1.given.1 s.requires.1)
 
-returns : tie.Need-returns
+returns : tie.Need-returns-in-Ours
 unfolding unit_text
 returns c =
     let s = c.before.before.before.before.before.before.before in
-    let put = c.before.before.put-own-unit in
+    let put = c.before.before.put_own_unit in
     subst (λ house. Written s.args.page.now s.args.at (line s house) put.new.0 put.result)
-    (sym c.before.before.before.before.enum_told.given.1)
+    (sym c.before.before.before.before.enum_told-1.given.1)
     put.ensures
 
-returns-2 : tie.Need-returns-2
+returns-2 : tie.Need-returns-in-Partner
 unfolding unit_text
 returns-2 c =
     let s = c.before.before.before.before.before.before.before.before in
-    let put = c.before.before.put-job in
+    let put = c.before.before.put_job in
     subst (λ house. Written s.args.page.now s.args.at (line s house) put.new.0 put.result)
-    (sym c.before.before.before.before.before.enum-told2.given.1)
+    (sym c.before.before.before.before.before.enum_told-in-Partner-1.given.1)
     (rw c.before.before.before.hours.ensures at put.ensures)
 
 pub put_unit_spec : {M : Type 1} → statement M

@@ -15,21 +15,21 @@ use Rattle.write_lines.specs.LinesLaws.{texts_next, texts_end}
 use Rattle.write_lines.proofs.put_rules.Statement.{statement}
 use Rattle.write_lines.proofs.put_rules.Tie as tie
 
-abbrev invariant-loop : tie.invariant-loop
+abbrev invariant-loop : tie.invariant-loop-j
 invariant-loop house page₀ at from to low high next₀ j₀ page next j =
     let rules = rules_of from to low high in
     (j ≤ length from) × Pending page₀ at (rule_texts house rules) page next (map (rule_text house) (drop j rules))
 
-abbrev decreases-loop : tie.decreases-loop
+abbrev decreases-loop : tie.decreases-loop-j
 decreases-loop house page₀ at from to low high next₀ j₀ page next j = length from - j
 
-loop-holds : tie.Need-loop-init invariant-loop decreases-loop
+loop-holds : tie.Need-loop-j-init invariant-loop decreases-loop
 loop-holds c =
     let s : tie.Start invariant-loop decreases-loop = c.before.before.before.before.before in
     (omega arith, pending_whole _ refl s.requires.1)
 
 -- back to the start, from a turn of the loop
-abbrev start : tie.At-loop invariant-loop decreases-loop → tie.Start invariant-loop decreases-loop
+abbrev start : tie.At-loop-j invariant-loop decreases-loop → tie.Start invariant-loop decreases-loop
 start c = c.before.before.before.before.before.before
 
 abbrev rules : tie.Start invariant-loop decreases-loop → List Rule
@@ -41,33 +41,33 @@ rules_length s =
     rules_of_length a.from.now a.to.now a.low.now a.high.now s.requires.0.0.paired s.requires.0.1 s.requires.0.2
 
 -- the next line is that of rule j
-next : (c : tie.In-loop invariant-loop decreases-loop)
-    → (let s = start c.before in let a = s.args in let l = c.before.loop in
+next : (c : tie.In-loop-j invariant-loop decreases-loop)
+    → (let s = start c.before in let a = s.args in let l = c.before.loop-j in
     Pending a.page.now a.at (rule_texts a.house (rules s)) l.page l.next
     (rule_text a.house (rule_with (get_or a.from.now l.j 0) (get_or a.to.now l.j 0) (get_or a.low.now l.j 0) (get_or a.high.now l.j 0))
     ∷ map (rule_text a.house) (drop (l.j + 1) (rules s))))
 next c =
     let s = start c.before in
     let a = s.args in
-    let l = c.before.loop in
+    let l = c.before.loop-j in
     texts_next (rule_text a.house) no_rule (rules s) l.j _
     (rules_of_at a.from.now a.to.now a.low.now a.high.now s.pre.0.0.paired s.pre.0.1 s.pre.0.2 l.j
-    c.loop-test.true)
-    (omega (arith, rules_length s, c.loop-test.true)) l.invariant.1
+    c.loop-j-test.true)
+    (omega (arith, rules_length s, c.loop-j-test.true)) l.invariant.1
 
-put_rule_requires : tie.Need-put-rule-requires invariant-loop decreases-loop
+put_rule_requires : tie.Need-put_rule-next-requires invariant-loop decreases-loop
 put_rule_requires c κs =
-    let turn : tie.In-loop invariant-loop decreases-loop = c.before.before.before.before.before in
-    ((start turn.before).pre.0.0.each turn.before.loop.j turn.loop-test.true, pending_room (next turn))
+    let turn : tie.In-loop-j invariant-loop decreases-loop = c.before.before.before.before.before in
+    ((start turn.before).pre.0.0.each turn.before.loop-j.j turn.loop-j-test.true, pending_room (next turn))
 
-loop-again : tie.Need-loop-preserved invariant-loop decreases-loop
+loop-again : tie.Need-loop-j-preserved invariant-loop decreases-loop
 loop-again c =
-    (omega arith, pending_after (next c.before.before.before.before.before.before.before.before) c.before.before.put-rule.ensures)
+    (omega arith, pending_after (next c.before.before.before.before.before.before.before.before) c.before.before.put_rule-next.ensures)
 
 returns : tie.Need-returns invariant-loop decreases-loop
 returns c =
     let s = start c.before in
-    texts_end (rule_text s.args.house) no_rule (rules s) c.before.loop.j (omega (arith, rules_length s, c.loop-test.false)) c.before.loop.invariant.1
+    texts_end (rule_text s.args.house) no_rule (rules s) c.before.loop-j.j (omega (arith, rules_length s, c.loop-j-test.false)) c.before.loop-j.invariant.1
 
 pub put_rules_spec : {M : Type 1} → statement M
 put_rules_spec = tie.close (tie.spec invariant-loop decreases-loop loop-holds (λ c. omega arith) (λ c. omega arith) (λ c. omega arith) (λ c. omega arith)

@@ -18,40 +18,40 @@ lists c =
     written_lists a.span a.loader.now a.first.now a.last.now a.from.now a.to.now a.low.now a.high.now
 
 begun : (c : tie.Start) → let a = c.args in
-    Pending a.page.now a.at (sheet_text a.house (written_by (lists c))) a.page.now a.at
+    Pending a.page-1.now a.at (sheet_text a.house (written_by (lists c))) a.page-1.now a.at
     (span_text a.house a.span ∷ unit_texts a.house (units_of a.loader.now (windows_of a.first.now a.last.now))
     ∷ rule_texts a.house (rules_of a.from.now a.to.now a.low.now a.high.now) ∷ [])
 begun c = pending_whole _ (text_parts c.args.house (lists c)) c.requires.1
 
 -- back to the start, from where the span's line is written
-abbrev start : tie.After-put-span → tie.Start
+abbrev start : tie.After-put_span-next → tie.Start
 start c = c.before.before.before.before.before.before.before.before.before.before
 
-cast_put_span : tie.Need-overflow-cast-put-span
+cast_put_span : tie.Need-overflow_cast-span
 cast_put_span c =
     let s : tie.Start = c.before.before.before.before.before.before.before.before.before in
     omega (arith, span_bound (lists s).constraints s.requires.0.sheet)
 
-put_units_requires : tie.Need-put-units-requires
+put_units_requires : tie.Need-put_units-next2-requires
 put_units_requires c κs =
-    let k : tie.After-put-span = c.before.before.before in
+    let k : tie.After-put_span-next = c.before.before.before in
     let s = start k in
-    ((s.pre.0.as_many, listed_units (lists s) s.pre.0), pending_room (pending_after (begun s) k.put-span.ensures))
+    ((s.pre.0.as_many, listed_units (lists s) s.pre.0), pending_room (pending_after (begun s) k.put_span-next.ensures))
 
-put_rules_requires : tie.Need-put-rules-requires
+put_rules_requires : tie.Need-put_rules-requires
 put_rules_requires c κs =
-    let k : tie.After-put-span = c.before.before.before.before.before.before.before in
+    let k : tie.After-put_span-next = c.before.before.before.before.before.before.before in
     let s = start k in
     let a = listed_agree (lists s) s.pre.0 in (
       (listed_rules (lists s) s.pre.0, a.lows, a.highs),
-      pending_room (pending_after (pending_after (begun s) k.put-span.ensures) c.before.before.before.put-units.ensures),
+      pending_room (pending_after (pending_after (begun s) k.put_span-next.ensures) c.before.before.before.put_units-next2.ensures),
     )
 
 returns : tie.Need-returns
 returns c =
-    let k : tie.After-put-span = c.before.before.before.before.before.before.before.before.before.before in
-    pending_nothing (pending_after (pending_after (pending_after (begun (start k)) k.put-span.ensures)
-    c.before.before.before.before.before.before.put-units.ensures) c.before.before.put-rules.ensures)
+    let k : tie.After-put_span-next = c.before.before.before.before.before.before.before.before.before.before in
+    pending_nothing (pending_after (pending_after (pending_after (begun (start k)) k.put_span-next.ensures)
+    c.before.before.before.before.before.before.put_units-next2.ensures) c.before.before.put_rules.ensures)
 
 pub put_sheet_spec : {M : Type 1} → statement M
 put_sheet_spec = tie.close (tie.spec cast_put_span (λ c κs. pending_room (begun c.before.before.before.before.before.before.before.before.before))

@@ -16,21 +16,21 @@ use Rattle.write_lines.specs.LinesLaws.{texts_next, texts_end}
 use Rattle.write_lines.proofs.put_units.Statement.{statement}
 use Rattle.write_lines.proofs.put_units.Tie as tie
 
-abbrev invariant-loop : tie.invariant-loop
+abbrev invariant-loop : tie.invariant-loop-j
 invariant-loop house page₀ at loader first last next₀ j₀ page next j =
     let units = units_of loader (windows_of first last) in
     (j ≤ length first) × Pending page₀ at (unit_texts house units) page next (map (unit_text house) (drop j units))
 
-abbrev decreases-loop : tie.decreases-loop
+abbrev decreases-loop : tie.decreases-loop-j
 decreases-loop house page₀ at loader first last next₀ j₀ page next j = length first - j
 
-loop-holds : tie.Need-loop-init invariant-loop decreases-loop
+loop-holds : tie.Need-loop-j-init invariant-loop decreases-loop
 loop-holds c =
     let s : tie.Start invariant-loop decreases-loop = c.before.before.before.before in
     (omega arith, pending_whole _ refl s.requires.1)
 
 -- back to the start, from a turn of the loop
-abbrev start : tie.At-loop invariant-loop decreases-loop → tie.Start invariant-loop decreases-loop
+abbrev start : tie.At-loop-j invariant-loop decreases-loop → tie.Start invariant-loop decreases-loop
 start c = c.before.before.before.before.before
 
 abbrev units : tie.Start invariant-loop decreases-loop → List SheetUnit
@@ -43,32 +43,32 @@ units_length s =
     units_of_length a.loader.now (windows_of a.first.now a.last.now) (s.requires.0.0 ∙ sym n) ∙ n
 
 -- the next line is that of unit j
-next : (c : tie.In-loop invariant-loop decreases-loop)
-    → (let s = start c.before in let a = s.args in let l = c.before.loop in
+next : (c : tie.In-loop-j invariant-loop decreases-loop)
+    → (let s = start c.before in let a = s.args in let l = c.before.loop-j in
     Pending a.page.now a.at (unit_texts a.house (units s)) l.page l.next
     (unit_text a.house (unit_with (get_or a.loader.now l.j 0) (get_or a.first.now l.j 0) (get_or a.last.now l.j 0))
     ∷ map (unit_text a.house) (drop (l.j + 1) (units s))))
 next c =
     let s = start c.before in
     let a = s.args in
-    let l = c.before.loop in
+    let l = c.before.loop-j in
     texts_next (unit_text a.house) no_unit (units s) l.j _
-    (units_of_at a.loader.now a.first.now a.last.now s.pre.0.0 s.pre.0.1.paired l.j c.loop-test.true)
-    (omega (arith, units_length s, c.loop-test.true)) l.invariant.1
+    (units_of_at a.loader.now a.first.now a.last.now s.pre.0.0 s.pre.0.1.paired l.j c.loop-j-test.true)
+    (omega (arith, units_length s, c.loop-j-test.true)) l.invariant.1
 
-put_unit_requires : tie.Need-put-unit-requires invariant-loop decreases-loop
+put_unit_requires : tie.Need-put_unit-next-requires invariant-loop decreases-loop
 put_unit_requires c κs =
-    let turn : tie.In-loop invariant-loop decreases-loop = c.before.before.before.before in
-    ((start turn.before).pre.0.1.each turn.before.loop.j turn.loop-test.true, pending_room (next turn))
+    let turn : tie.In-loop-j invariant-loop decreases-loop = c.before.before.before.before in
+    ((start turn.before).pre.0.1.each turn.before.loop-j.j turn.loop-j-test.true, pending_room (next turn))
 
-loop-again : tie.Need-loop-preserved invariant-loop decreases-loop
+loop-again : tie.Need-loop-j-preserved invariant-loop decreases-loop
 loop-again c =
-    (omega arith, pending_after (next c.before.before.before.before.before.before.before) c.before.before.put-unit.ensures)
+    (omega arith, pending_after (next c.before.before.before.before.before.before.before) c.before.before.put_unit-next.ensures)
 
 returns : tie.Need-returns invariant-loop decreases-loop
 returns c =
     let s = start c.before in
-    texts_end (unit_text s.args.house) no_unit (units s) c.before.loop.j (omega (arith, units_length s, c.loop-test.false)) c.before.loop.invariant.1
+    texts_end (unit_text s.args.house) no_unit (units s) c.before.loop-j.j (omega (arith, units_length s, c.loop-j-test.false)) c.before.loop-j.invariant.1
 
 pub put_units_spec : {M : Type 1} → statement M
 put_units_spec = tie.close (tie.spec invariant-loop decreases-loop loop-holds (λ c. omega arith) (λ c. omega arith) (λ c. omega arith) (λ c. omega arith)

@@ -18,37 +18,37 @@ use Rattle.limits.proofs.Forward.{Put, put_first, put_more, put_row}
 use Rattle.limits.proofs.fill.fill_forward.Statement.{statement}
 use Rattle.limits.proofs.fill.fill_forward.Tie as tie
 
-abbrev invariant-loop2 : tie.invariant-loop2
+abbrev invariant-loop2 : tie.invariant-loop-b
 invariant-loop2 n w t₀ most a row b₀ t b =
     (length t ≡ length t₀) × (b ≤ w) × (a + 1 ≤ b) × ((T : List ℤ) → w * w ≤ length T → Put n w T a w t₀ → Put n w T a b t)
 
-abbrev decreases-loop2 : tie.decreases-loop2
+abbrev decreases-loop2 : tie.decreases-loop-b
 decreases-loop2 n w t₀ most a row b₀ t b = b
 
-abbrev invariant-loop : tie.invariant-loop
+abbrev invariant-loop : tie.invariant-loop-a
 invariant-loop n w t₀ most a₀ t a = Put n w t₀ a w t
 
-abbrev decreases-loop : tie.decreases-loop
+abbrev decreases-loop : tie.decreases-loop-a
 decreases-loop n w t₀ most a₀ t a = w - a
 
-mul_row : tie.Need-overflow-mul-row invariant-loop2 decreases-loop2 invariant-loop decreases-loop
+mul_row : tie.Need-overflow_mul-row invariant-loop2 decreases-loop2 invariant-loop decreases-loop
 mul_row c =
     let s = c.before.before.before in
-    omega (arith, row_inside c.before.loop.a s.args.w (omega arith), s.requires.1)
+    omega (arith, row_inside c.before.loop-a.a s.args.w (omega arith), s.requires.1)
 
-inside : (c : tie.In-loop2 invariant-loop2 decreases-loop2 invariant-loop decreases-loop)
-    → c.before.before.before.loop.a * c.before.before.before.before.before.args.w + (c.before.loop2.b - 1) < length c.before.loop2.t
+inside : (c : tie.In-loop-b invariant-loop2 decreases-loop2 invariant-loop decreases-loop)
+    → c.before.before.before.loop-a.a * c.before.before.before.before.before.args.w + (c.before.loop-b.b - 1) < length c.before.loop-b.t
 inside c =
     let w = c.before.before.before.before.before.args.w in
-    let r = c.before.before.before.loop in
-    omega (arith, place_inside w r.a (c.before.loop2.b - 1) (omega arith) (omega arith), r.invariant.long)
+    let r = c.before.before.before.loop-a in
+    omega (arith, place_inside w r.a (c.before.loop-b.b - 1) (omega arith) (omega arith), r.invariant.long)
 
-loop2_again : tie.Need-loop2-preserved invariant-loop2 decreases-loop2 invariant-loop decreases-loop
+loop2_again : tie.Need-loop-b-preserved invariant-loop2 decreases-loop2 invariant-loop decreases-loop
 loop2_again c =
     let s = c.before.before.before.before.before in
-    let l = c.before.loop2 in
-    let a = c.before.before.before.loop.a in
-    let most = c.before.before.before.before.signed in
+    let l = c.before.loop-b in
+    let a = c.before.before.before.loop-a.a in
+    let most = c.before.before.before.before.signed-most in
     let f : SFits w16 most.result = search rules in
     let e : to_z w16 (of_z w16 most.result) ≡ pos s.args.n = to_z-of_z f ∙ most.ensures in
     let long = length-set l.t (a * s.args.w + (l.b - 1)) (to_z w16 (of_z w16 most.result)) in (
@@ -59,30 +59,30 @@ loop2_again c =
           (put_more s.args.n s.args.w T l.t a l.b h (omega arith) (omega arith) (omega arith) (l.invariant.3 T h p)),
     )
 
-loop-again : tie.Need-loop-preserved invariant-loop2 decreases-loop2 invariant-loop decreases-loop
+loop-again : tie.Need-loop-a-preserved invariant-loop2 decreases-loop2 invariant-loop decreases-loop
 loop-again c =
     let s = c.before.before.before.before.before in
-    let l = c.before.loop2 in
-    let r = c.before.before.before.loop in
+    let l = c.before.loop-b in
+    let r = c.before.before.before.loop-a in
     put_row s.args.n s.args.w s.args.t.now l.t r.a l.b (omega arith) (l.invariant.3 s.args.t.now s.requires.1 r.invariant)
 
-whole : (c : tie.After-loop invariant-loop2 decreases-loop2 invariant-loop decreases-loop)
-    → let a = c.before.before.before.args in TableFilled a.w (with_forward a.n (entry a.w a.t.now)) a.t.now c.before.loop.t
+whole : (c : tie.After-loop-a invariant-loop2 decreases-loop2 invariant-loop decreases-loop)
+    → let a = c.before.before.before.args in TableFilled a.w (with_forward a.n (entry a.w a.t.now)) a.t.now c.before.loop-a.t
 whole c =
     let a = c.before.before.before.args in
     let f = entry a.w a.t.now in
-    let l = c.before.loop in
+    let l = c.before.loop-a in
     swept_last a.w f (with_forward a.n f) a.t.now l.t l.a a.w (omega arith) l.invariant
 
 returns : tie.Need-returns invariant-loop2 decreases-loop2 invariant-loop decreases-loop
 returns c =
     let s = c.before.before.before in
     let a = s.args in
-    filled_is a.w (with_forward a.n (entry a.w a.t.now)) a.t.now c.before.loop.t s.requires.1 (whole c)
+    filled_is a.w (with_forward a.n (entry a.w a.t.now)) a.t.now c.before.loop-a.t s.requires.1 (whole c)
 
 pub fill_forward_spec : {M : Type 1} → statement M
 fill_forward_spec = tie.close (tie.spec invariant-loop2 decreases-loop2 invariant-loop decreases-loop (λ c. omega arith) (λ c κs. c.requires.0)
     (λ c. put_first c.before.args.n c.before.args.w c.before.args.t.now) mul_row (λ c. (refl, omega arith, omega arith, λ T h s. s))
-    (λ c. omega arith) (λ c. omega arith) (λ c. omega (arith, inside c, c.before.before.before.loop.invariant.long))
-    (λ c. omega (arith, inside c, c.before.before.before.loop.invariant.long)) (λ c. inside c) (λ c. omega arith) loop2_again (λ c. omega arith)
+    (λ c. omega arith) (λ c. omega arith) (λ c. omega (arith, inside c, c.before.before.before.loop-a.invariant.long))
+    (λ c. omega (arith, inside c, c.before.before.before.loop-a.invariant.long)) (λ c. inside c) (λ c. omega arith) loop2_again (λ c. omega arith)
     (λ c. omega arith) loop-again (λ c. (whole c).long) returns)
