@@ -52,18 +52,18 @@ loop-holds c =
 back_place_requires : tie.Need-back_place-at-requires invariant-loop decreases-loop
 back_place_requires c κs =
     let s = start c.before.before.before in
-    let e = s.pre.1.each (c.before.before.before.loop-j.j - 1) (omega arith) in
+    let e = s.requires.1.each (c.before.before.before.loop-j.j - 1) (omega arith) in
     (omega arith, omega arith, omega arith, omega arith)
 
 one : (c : tie.After-back_place-at invariant-loop decreases-loop)
     → let s = start c.before.before.before.before in
     let l = c.before.before.before.before.loop-j in
-    Taken s.args.w s.args.first.now s.args.last.now s.pre.1 c.before.before.before.before.before.before.clear.new.1.0
+    Taken s.args.w s.args.first.now s.args.last.now s.requires.1 c.before.before.before.before.before.before.clear.new.1.0
     l.j c.back_place-at.result l.t
 one c =
     let s = start c.before.before.before.before in
     let l = c.before.before.before.before.loop-j in
-    taken s.args.w s.args.first.now s.args.last.now s.pre.1 c.before.before.before.before.before.before.clear.new.1.0
+    taken s.args.w s.args.first.now s.args.last.now s.requires.1 c.before.before.before.before.before.before.clear.new.1.0
     l.j c.back_place-at.result l.t l.invariant.1 (omega arith) l.invariant.0 c.back_place-at.ensures l.invariant.2
 
 -- the entry as the code reads it

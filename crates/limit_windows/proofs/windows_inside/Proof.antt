@@ -91,7 +91,7 @@ one c =
     let a = s.args in
     let r = c.before.before.before.loop-a in
     let l = c.before.loop-b in
-    let fit = s.pre.1 in
+    let fit = s.requires.1 in
     turn a.w (windows_of a.first.now a.last.now) r.t l.t r.a l.b (to_z w16 l.sum) l.invariant.0
     (omega (arith, windows_of_length a.first.now a.last.now fit.paired, fit.few))
     l.invariant.1 l.invariant.2 (omega arith) l.invariant.3 l.invariant.4 l.invariant.5
@@ -140,7 +140,7 @@ loop-again c =
     let done : Summed a.w ws r.t r.a 0 l.t = subst (λ (b : ℕ). Summed a.w ws r.t r.a b l.t) e l.invariant.5 in (
       omega arith,
       r.invariant.1,
-      next_row a.w ws (fit_ordered a.w a.first.now a.last.now s.pre.1) t₀ l.t r.a
+      next_row a.w ws (fit_ordered a.w a.first.now a.last.now s.requires.1) t₀ l.t r.a
           (rebase a.w (exact_weights ws) (inside_weights ws) r.t l.t t₀ r.a r.a r.a 0 r.invariant.2 done),
     )
 

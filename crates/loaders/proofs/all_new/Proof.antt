@@ -33,7 +33,7 @@ is_new_requires c κs =
 link_requires : tie.Need-link-requires invariant-loop decreases-loop
 link_requires c κs =
     let p = asked c.before.before in
-    (p.loop-j.inv.2.wide, omega (arith, (start p).pre), omega (arith, (start p).pre, p.loop-j.inv.1))
+    (p.loop-j.invariant.2.wide, omega (arith, (start p).pre), omega (arith, (start p).pre, p.loop-j.invariant.1))
 
 loop-again : tie.Need-loop-j-preserved invariant-loop decreases-loop
 loop-again c =
@@ -45,9 +45,9 @@ loop-again c =
     let h : l.j < length ks = then.before.before.before.before.before.loop-j-test.true in
     let new = sym then.before.is_new.ensures ∙ then.if-is_new.true in (
       omega arith,
-      k.auto.1.1.1.0 ∙ l.inv.1,
-      rw (k.ensures.0, k.ensures.1) (linked_more ks l.heads l.nexts l.j l.inv.2 (omega (arith, (start p).pre, l.inv.1))),
-      l.inv.3 ∙ new_next ks l.j h new,
+      k.auto.1.1.1.0 ∙ l.invariant.1,
+      rw (k.ensures.0, k.ensures.1) (linked_more ks l.heads l.nexts l.j l.invariant.2 (omega (arith, (start p).pre, l.invariant.1))),
+      l.invariant.3 ∙ new_next ks l.j h new,
     )
 
 returns : tie.Need-returns-else-is_new invariant-loop decreases-loop
@@ -59,5 +59,5 @@ returns c =
 pub all_new_spec : {M : Type 1} → statement M
 all_new_spec = tie.close (tie.spec invariant-loop decreases-loop (λ c. (omega arith, refl, linked_none _ _, refl)) (λ c. omega arith) (λ c. omega arith)
     (λ c. sym c.before.before.before.loop-j.invariant.2.wide) (λ c. sym c.before.before.before.before.loop-j.invariant.1) is_new_requires
-    (λ c. sym (asked c.before).loop-j.inv.2.wide) (λ c. sym (asked c.before.before).loop-j.inv.1) link_requires (λ c. omega arith) (λ c. omega arith)
+    (λ c. sym (asked c.before).loop-j.invariant.2.wide) (λ c. sym (asked c.before.before).loop-j.invariant.1) link_requires (λ c. omega arith) (λ c. omega arith)
     loop-again returns (λ c. sym (c.before.loop-j.invariant.3 ∙ new_end c.before.before.before.args.ks.now c.before.loop-j.j (omega arith))))

@@ -110,7 +110,7 @@ reads_both c =
     let d = second_call k in
     let z = start (first_told d) in
     both_read z.args.one.now (sheet_a d) (own z) (after_first (first_told d)) (long z) (first_kept d) z.args.two.now (sheet_b c) (after_second k)
-    (second_kept c) (first_is d) (second_is c) (room z) z.pre.in_from z.pre.in_to z.pre.in_low z.pre.in_high
+    (second_kept c) (first_is d) (second_is c) (room z) z.requires.in_from z.requires.in_to z.requires.in_low z.requires.in_high
 
 -- ---- the needs
 read_behind_requires : tie.Need-read_behind-first-requires
@@ -157,7 +157,7 @@ returns-3 c =
       (
         says.blame_is,
         joined_left z.args.one.now (sheet_a d) (own z) (after_first (first_told d)) (long z) (first_kept d) z.args.two.now
-            (sheet_b e) (after_second k) (second_kept e) (first_is d) (second_is e) q.ask_both.result (room z) (combined q) asks.left,
+            (sheet_b e) (after_second k) (second_kept e) (first_is d) (second_is e) q.ask_both.result (room z) (combined q) asks.false,
       ),
     )
 

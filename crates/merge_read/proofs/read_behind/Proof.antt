@@ -47,57 +47,57 @@ scaled : (i most n : ℕ) → i + most ≤ n → n * 2 < 2 ^ 63 → Fits w64 (i 
 scaled i most n h b = omega arith
 
 ask_text_requires : tie.Need-ask_text-requires
-ask_text_requires c κs = let z = start (short c) in parts_hold z.args.units z.args.rules (lent z) z.pre
+ask_text_requires c κs = let z = start (short c) in parts_hold z.args.units z.args.rules (lent z) z.requires
 
 returns-2 : tie.Need-returns
 returns-2 c =
     let k = (call c).ask_text in
     let e = short (call c).before in
     let z = start e in (
-      k.ensures.0 ∙ answer_short Ours z.args.text.now e.if-text-gt-MAX_BYTES.left,
-      kept_behind z.args.units z.args.rules (lent z) z.pre z.args.text.now k.result (after (call c)) k.ensures.0 k.ensures.1,
+      k.ensures.0 ∙ answer_short Ours z.args.text.now e.if-text-gt-MAX_BYTES.false,
+      kept_behind z.args.units z.args.rules (lent z) z.requires z.args.text.now k.result (after (call c)) k.ensures.0 k.ensures.1,
     )
 
 pub read_behind_spec : {M : Type 1} → statement M
 read_behind_spec = tie.close (tie.spec
     (λ c. (answer_long Ours c.before.before.before.before.before.before.before.before.before.args.text.now c.if-text-gt-MAX_BYTES.true, tt))
-    (λ c. let z = start c in scaled z.args.units max_units (length z.args.numbers.now) z.pre.in_loader z.good.1.1.1.0.1)
-    (λ c. let z = start c in within z.args.units max_units (length z.args.numbers.now) z.pre.in_loader)
-    (λ c. let z = start c in within z.args.units max_units (length z.args.numbers.now) z.pre.in_loader)
+    (λ c. let z = start c in scaled z.args.units max_units (length z.args.numbers.now) z.requires.in_loader z.good.1.1.1.0.1)
+    (λ c. let z = start c in within z.args.units max_units (length z.args.numbers.now) z.requires.in_loader)
+    (λ c. let z = start c in within z.args.units max_units (length z.args.numbers.now) z.requires.in_loader)
     (λ c. le_refl (length (start c).args.numbers.now))
     (λ c. let z = start c.before in
-    scaled z.args.units max_units (length z.args.firsts.now) z.pre.in_first z.good.1.1.1.1.0.1)
-    (λ c. let z = start c.before in within z.args.units max_units (length z.args.firsts.now) z.pre.in_first)
-    (λ c. let z = start c.before in within z.args.units max_units (length z.args.firsts.now) z.pre.in_first)
+    scaled z.args.units max_units (length z.args.firsts.now) z.requires.in_first z.good.1.1.1.1.0.1)
+    (λ c. let z = start c.before in within z.args.units max_units (length z.args.firsts.now) z.requires.in_first)
+    (λ c. let z = start c.before in within z.args.units max_units (length z.args.firsts.now) z.requires.in_first)
     (λ c. le_refl (length (start c.before).args.firsts.now))
     (λ c. let z = start c.before.before in
-    scaled z.args.units max_units (length z.args.lasts.now) z.pre.in_last z.good.1.1.1.1.1.0.1)
-    (λ c. let z = start c.before.before in within z.args.units max_units (length z.args.lasts.now) z.pre.in_last)
-    (λ c. let z = start c.before.before in within z.args.units max_units (length z.args.lasts.now) z.pre.in_last)
+    scaled z.args.units max_units (length z.args.lasts.now) z.requires.in_last z.good.1.1.1.1.1.0.1)
+    (λ c. let z = start c.before.before in within z.args.units max_units (length z.args.lasts.now) z.requires.in_last)
+    (λ c. let z = start c.before.before in within z.args.units max_units (length z.args.lasts.now) z.requires.in_last)
     (λ c. le_refl (length (start c.before.before).args.lasts.now))
     (λ c. let z = start c.before.before.before in
-    scaled z.args.rules max_rules (length z.args.froms.now) z.pre.in_from z.good.1.1.1.1.1.1.0.1)
-    (λ c. let z = start c.before.before.before in within z.args.rules max_rules (length z.args.froms.now) z.pre.in_from)
-    (λ c. let z = start c.before.before.before in within z.args.rules max_rules (length z.args.froms.now) z.pre.in_from)
+    scaled z.args.rules max_rules (length z.args.froms.now) z.requires.in_from z.good.1.1.1.1.1.1.0.1)
+    (λ c. let z = start c.before.before.before in within z.args.rules max_rules (length z.args.froms.now) z.requires.in_from)
+    (λ c. let z = start c.before.before.before in within z.args.rules max_rules (length z.args.froms.now) z.requires.in_from)
     (λ c. le_refl (length (start c.before.before.before).args.froms.now))
     (λ c. let z = start c.before.before.before.before in
-    scaled z.args.rules max_rules (length z.args.tos.now) z.pre.in_to z.good.1.1.1.1.1.1.1.0.1)
-    (λ c. let z = start c.before.before.before.before in within z.args.rules max_rules (length z.args.tos.now) z.pre.in_to)
-    (λ c. let z = start c.before.before.before.before in within z.args.rules max_rules (length z.args.tos.now) z.pre.in_to)
+    scaled z.args.rules max_rules (length z.args.tos.now) z.requires.in_to z.good.1.1.1.1.1.1.1.0.1)
+    (λ c. let z = start c.before.before.before.before in within z.args.rules max_rules (length z.args.tos.now) z.requires.in_to)
+    (λ c. let z = start c.before.before.before.before in within z.args.rules max_rules (length z.args.tos.now) z.requires.in_to)
     (λ c. le_refl (length (start c.before.before.before.before).args.tos.now))
     (λ c. let z = start c.before.before.before.before.before in
-    scaled z.args.rules max_rules (length z.args.lows.now) z.pre.in_low z.good.1.1.1.1.1.1.1.1.0.1)
+    scaled z.args.rules max_rules (length z.args.lows.now) z.requires.in_low z.good.1.1.1.1.1.1.1.1.0.1)
     (λ c. let z = start c.before.before.before.before.before in
-    within z.args.rules max_rules (length z.args.lows.now) z.pre.in_low)
+    within z.args.rules max_rules (length z.args.lows.now) z.requires.in_low)
     (λ c. let z = start c.before.before.before.before.before in
-    within z.args.rules max_rules (length z.args.lows.now) z.pre.in_low)
+    within z.args.rules max_rules (length z.args.lows.now) z.requires.in_low)
     (λ c. le_refl (length (start c.before.before.before.before.before).args.lows.now))
     (λ c. let z = start c.before.before.before.before.before.before in
-    scaled z.args.rules max_rules (length z.args.highs.now) z.pre.in_high z.good.1.1.1.1.1.1.1.1.1.0.1)
+    scaled z.args.rules max_rules (length z.args.highs.now) z.requires.in_high z.good.1.1.1.1.1.1.1.1.1.0.1)
     (λ c. let z = start c.before.before.before.before.before.before in
-    within z.args.rules max_rules (length z.args.highs.now) z.pre.in_high)
+    within z.args.rules max_rules (length z.args.highs.now) z.requires.in_high)
     (λ c. let z = start c.before.before.before.before.before.before in
-    within z.args.rules max_rules (length z.args.highs.now) z.pre.in_high)
+    within z.args.rules max_rules (length z.args.highs.now) z.requires.in_high)
     (λ c. le_refl (length (start c.before.before.before.before.before.before).args.highs.now))
     ask_text_requires
     (λ c. let z = begun c in

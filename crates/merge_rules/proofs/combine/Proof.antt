@@ -88,8 +88,8 @@ added c =
     let a = s.args in
     let i = p.loop-i.i in
     let h : i < length a.from.now = omega (arith, inside c, size s) in
-    let e = rules_of_at a.from.now a.to.now a.low.now a.high.now s.pre.0.0 s.pre.0.1 s.pre.0.2 i h in
-    rw e ((call c).add_rule-count.ensures (merged_rules (take i (rules s))) (rooms s) p.loop-i.inv.held)
+    let e = rules_of_at a.from.now a.to.now a.low.now a.high.now s.requires.0.0 s.requires.0.1 s.requires.0.2 i h in
+    rw e ((call c).add_rule-count.ensures (merged_rules (take i (rules s))) (rooms s) p.loop-i.invariant.held)
 
 loop-again : tie.Need-loop-i-preserved-then-count-le-MAX_RULES invariant-loop decreases-loop
 loop-again c =
@@ -97,7 +97,7 @@ loop-again c =
     let l = p.loop-i in
     let s = start p in
     let k = (call c.before).add_rule-count in
-    still_fit (rules s) (rooms s) l.i l.count l.past (held p) l.inv (inside c.before) k.result _ (added c.before) (omega arith)
+    still_fit (rules s) (rooms s) l.i l.count l.past (held p) l.invariant (inside c.before) k.result _ (added c.before) (omega arith)
 
 loop-again-2 : tie.Need-loop-i-preserved invariant-loop decreases-loop
 loop-again-2 c =
@@ -105,7 +105,7 @@ loop-again-2 c =
     let l = p.loop-i in
     let s = start p in
     let k = (call c.before).add_rule-count in
-    too_many_lem (rules s) (rooms s) l.i l.count l.past (held p) l.inv (inside c.before) k.result _ (added c.before) (omega arith)
+    too_many_lem (rules s) (rooms s) l.i l.count l.past (held p) l.invariant (inside c.before) k.result _ (added c.before) (omega arith)
 
 returns : tie.Need-returns invariant-loop decreases-loop
 returns c =

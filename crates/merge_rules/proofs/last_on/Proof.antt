@@ -32,8 +32,8 @@ loop-again c =
     let l = c.before.before.before in
     let a = l.before.args in
     let other =
-    ⊎_elim (λ w. same_from a.froms.now a.tos.now a.f a.t (l.loop-n.n - 1) w.0.taken ∙ w.2.left)
-    (λ w. other_from a.froms.now a.tos.now a.f a.t (l.loop-n.n - 1) w.left) c.if1.branch in
+    ⊎_elim (λ w. same_from a.froms.now a.tos.now a.f a.t (l.loop-n.n - 1) w.0.true ∙ w.2.false)
+    (λ w. other_from a.froms.now a.tos.now a.f a.t (l.loop-n.n - 1) w.false) c.else-froms-n.branch in
     (omega arith, last_failed (test l.before) (length a.froms.now) l.loop-n.n (omega arith) other ∙ l.loop-n.invariant.1)
 
 returns-2 : tie.Need-returns invariant-loop decreases-loop

@@ -31,7 +31,7 @@ returns c =
     ap (no 21) c.line_number.ensures
     ∙ ap (λ (j : ℕ). no 21 (line_number a.two.now Kind.Rule j)) (c.before.last_on-last.ensures
     ∙ ap (λ (p : ℕ). last_passing (length a.from.now) (stretch_at a.from.now a.to.now (get_or a.froms.now p 0) (get_or a.tos.now p 0))) e)
-    ∙ sym (no_21 a.two.now a.froms.now a.tos.now a.lows.now a.highs.now z.pre.1 z.pre.2 z.pre.3 (last z) a.past
+    ∙ sym (no_21 a.two.now a.froms.now a.tos.now a.lows.now a.highs.now z.requires.1 z.requires.2 z.requires.3 (last z) a.past
     (omega (arith, e, c.before.before.before.before.if-p-froms.true)))
 
 returns-2 : tie.Need-returns-then-froms-gt-MAX_RULES
@@ -40,7 +40,7 @@ returns-2 c =
     let z = start s in
     let a = z.args in
     ap (no 10) c.line_number-then-froms-gt-MAX_RULES.ensures
-    ∙ sym (no_10 a.two.now a.froms.now a.tos.now a.lows.now a.highs.now z.pre.1 z.pre.2 z.pre.3 (last z) a.past
+    ∙ sym (no_10 a.two.now a.froms.now a.tos.now a.lows.now a.highs.now z.requires.1 z.requires.2 z.requires.3 (last z) a.past
     (omega (arith, s.first_crossed-p.ensures, c.before.before.if-p-froms.false)) c.before.if-froms-gt-MAX_RULES.true)
 
 returns-3 : tie.Need-returns-then-p-froms
@@ -48,7 +48,7 @@ returns-3 c =
     let s = c.before.before in
     let z = start s in
     let a = z.args in
-    sym (all_yes_lem a.two.now a.froms.now a.tos.now a.lows.now a.highs.now z.pre.1 z.pre.2 z.pre.3 (last z) a.past
+    sym (all_yes_lem a.two.now a.froms.now a.tos.now a.lows.now a.highs.now z.requires.1 z.requires.2 z.requires.3 (last z) a.past
     (omega (arith, s.first_crossed-p.ensures, c.before.if-p-froms.false)) c.if-froms-gt-MAX_RULES.false)
 
 pub ask_combined_spec : {M : Type 1} → statement M

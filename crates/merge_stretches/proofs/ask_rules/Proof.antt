@@ -41,7 +41,7 @@ not_below : tie.Need-overflow_sub-all
 not_below c =
     let k = combined (come_back c) in
     let z = start k in
-    omega (arith, k.combine-all.ensures.1.0, past_first (rules z) z.args.n (few z) z.pre.1.1.1)
+    omega (arith, k.combine-all.ensures.1.0, past_first (rules z) z.args.n (few z) z.requires.1.1.1)
 
 -- the combined rules, and that each array holds a column of them
 abbrev merged : tie.After-combine-all → List Rule
@@ -72,7 +72,7 @@ ask_combined_requires c κs =
     let z = start k in
     let a = z.args in
     let n = k.combine-all.result.count in (
-      part_long a.to.now a.n ∙ ap (λ (m : ℕ). m - a.n) z.pre.0.0 ∙ sym (part_long a.from.now a.n),
+      part_long a.to.now a.n ∙ ap (λ (m : ℕ). m - a.n) z.requires.0.0 ∙ sym (part_long a.from.now a.n),
       same_many n _ _ (tos_hold k) (froms_hold k),
       same_many n _ _ (lows_hold k) (froms_hold k),
       same_many n _ _ (highs_hold k) (froms_hold k),
@@ -98,7 +98,7 @@ asked_both c =
     let e = k.combine-all.ensures in
     c.ask_combined-asked.ensures
     ∙ asked_is a.two.now (last z) (rules z) _ a.n k.combine-all.result.past
-    (last_past a.from.now a.to.now a.low.now a.high.now z.pre.0.0 z.pre.0.1 z.pre.0.2 a.n)
+    (last_past a.from.now a.to.now a.low.now a.high.now z.requires.0.0 z.requires.0.1 z.requires.0.2 a.n)
     (fronts_are (merged k) k.combine-all.result.count e.0 _ _ _ _ _ _ _ _ e.1.1.0 e.1.1.1.0 e.1.1.1.1.0 e.1.1.1.1.1)
     e.1.0 (few z)
 
@@ -119,7 +119,7 @@ ask_rules_spec = tie.close (tie.spec
     (λ c κs. let z = c.before.before.before.before.before.before.before.before.before.before.before.before.before in (z.requires.0, z.requires.1.0))
     (λ c. omega (arith, (start (combined c)).requires.1.1.1)) (λ c. (start (combined c)).requires.1.1.0) (λ c. search rules) (λ c. search rules)
     (λ c. omega (arith, (start (combined c.before)).requires.1.1.1))
-    (λ c. let z = start (combined c.before) in omega (arith, z.pre.0.0, z.pre.1.1.0)) (λ c. search rules) (λ c. search rules) not_below
+    (λ c. let z = start (combined c.before) in omega (arith, z.requires.0.0, z.requires.1.1.0)) (λ c. search rules) (λ c. search rules) not_below
     (λ c. froms_hold (combined (come_back c))) (λ c. so_many _ _ (froms_hold (combined (come_back c.before))))
     (λ c. tos_hold (combined (come_back c.before))) (λ c. so_many _ _ (tos_hold (combined (come_back c.before.before))))
     (λ c. lows_hold (combined (come_back c.before.before))) (λ c. so_many _ _ (lows_hold (combined (come_back c.before.before.before))))

@@ -41,7 +41,7 @@ returns-4 c =
     let z = start s.before in
     let a = z.args in
     sym (all_yes_lem a.two.now a.p a.q a.ones.now a.twos.now s.before.if-p-q.false
-    (omega (arith, s.first_shared-j.ensures, c.before.if-j-twos.false)) z.pre.0 c.if-left-twos.false)
+    (omega (arith, s.first_shared-j.ensures, c.before.if-j-twos.false)) z.requires.0 c.if-left-twos.false)
 
 pub ask_units_spec : {M : Type 1} → statement M
 ask_units_spec = tie.close (tie.spec (λ c κs. tt) returns (λ c κs. search rules) (λ c κs. tt) returns-2 (λ c. search rules) (λ c κs. tt)

@@ -48,13 +48,13 @@ returns : tie.Need-returns-then-is_among invariant-loop decreases-loop
 returns c =
     let d = c.before in
     let l = (at_loop d).loop-j in
-    sym (first_passed (shared_at (ones d) (twos d)) (length (twos d)) l.j (omega arith) (sym (says d) ∙ c.if-is_among.true)) ∙ l.inv.1
+    sym (first_passed (shared_at (ones d) (twos d)) (length (twos d)) l.j (omega arith) (sym (says d) ∙ c.if-is_among.true)) ∙ l.invariant.1
 
 loop-again : tie.Need-loop-j-preserved invariant-loop decreases-loop
 loop-again c =
     let d = c.before in
     let l = (at_loop d).loop-j in
-    (omega arith, first_failed (shared_at (ones d) (twos d)) (length (twos d)) l.j (omega arith) (sym (says d) ∙ c.if-is_among.false) ∙ l.inv.1)
+    (omega arith, first_failed (shared_at (ones d) (twos d)) (length (twos d)) l.j (omega arith) (sym (says d) ∙ c.if-is_among.false) ∙ l.invariant.1)
 
 returns-2 : tie.Need-returns invariant-loop decreases-loop
 returns-2 c =

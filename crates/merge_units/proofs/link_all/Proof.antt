@@ -39,7 +39,7 @@ loop-again c =
     let z = start p in (
       omega arith,
       k.auto.1.1.1.0 ∙ l.invariant.1,
-      rw (k.ensures.0, k.ensures.1) (linked_more z.args.ks.now l.heads l.nexts l.j l.invariant.2 (omega (arith, z.pre.0, l.invariant.1))),
+      rw (k.ensures.0, k.ensures.1) (linked_more z.args.ks.now l.heads l.nexts l.j l.invariant.2 (omega (arith, z.requires.0, l.invariant.1))),
     )
 
 -- the chains are as many as they were

@@ -32,11 +32,11 @@ next c =
     let h = c.before.before.loop-from-test.true in
     let decided : Bool → Type 0 = λ t. Decides t (AdmitsAt a.w a.d.now a.m.now a.f.0 l.middle a.l.0) in
     ⊎_elim (λ w. rw (w.1, w.2) (
-      search_yes s h (omega arith) (omega (arith, s.after)) (subst decided w.0.taken c.before.admits.ensures),
+      search_yes s h (omega arith) (omega (arith, s.after)) (subst decided w.0.true c.before.admits.ensures),
       omega (arith, s.after, s.before),
     ))
     (λ w. rw (w.1, w.2) (
-      search_no s h (omega arith) (omega (arith, s.before)) (subst decided w.0.left c.before.admits.ensures),
+      search_no s h (omega arith) (omega (arith, s.before)) (subst decided w.0.false c.before.admits.ensures),
       omega (arith, s.after, s.before),
     ))
     c.if-admits.branch

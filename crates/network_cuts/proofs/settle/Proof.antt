@@ -62,7 +62,7 @@ relax_row_requires c κs =
     let k = c.before.before.before.before.before in
     let st = start k in
     let f : SFits w16 (lowest k) = search rules in
-    simp (to_z-of_z f) (relax_asks st.pre.0 st.args.b.0 st.pre.1 (least k))
+    simp (to_z-of_z f) (relax_asks st.requires.0 st.args.b.0 st.requires.1 (least k))
 
 -- ---- once row b is carried
 abbrev summed : tie.After-relax_row → tie.After-least_sum-k
@@ -83,7 +83,7 @@ returns c =
     let r = c.before.before.before.before.before in
     let st = start (summed r) in
     let f : SFits w16 (lowest (summed r)) = search rules in
-    settled_lost st.pre.0 st.args.b.0 st.pre.1 (least (summed r)) (simp (to_z-of_z f) at r.relax_row.ensures)
+    settled_lost st.requires.0 st.args.b.0 st.requires.1 (least (summed r)) (simp (to_z-of_z f) at r.relax_row.ensures)
     (sym (before_window c.before) ∙ c.if-less-2.true)
 
 returns-2 : tie.Need-returns-then-less
@@ -94,7 +94,7 @@ returns-2 c =
     let fb : SFits w16 (get_or st.args.z.now st.args.b.0 (pos 0)) = search rules in
     let low : lt_z (lowest (summed r)) (value_at st.args.z.now st.args.b.0) ≡ true =
     simp (to_z-of_z f, to_z-of_z fb) at (sym r.before.before.before.before.less.ensures ∙ r.before.before.before.if-less.true) in
-    settled_lower st.pre.0 st.args.b.0 st.pre.1 (least (summed r)) (simp (to_z-of_z f) at r.relax_row.ensures) low
+    settled_lower st.requires.0 st.args.b.0 st.requires.1 (least (summed r)) (simp (to_z-of_z f) at r.relax_row.ensures) low
     (sym (before_window c.before) ∙ c.if-less-2.false)
 
 returns-3 : tie.Need-returns-then-less-2
@@ -105,7 +105,7 @@ returns-3 c =
     let fb : SFits w16 (get_or st.args.z.now st.args.b.0 (pos 0)) = search rules in
     let h : lt_z (lowest k) (value_at st.args.z.now st.args.b.0) ≡ false =
     simp (to_z-of_z f, to_z-of_z fb) at (sym c.before.less.ensures ∙ c.if-less.false) in
-    settled_still st.pre.0 st.args.b.0 st.pre.1 (least k) h
+    settled_still st.requires.0 st.args.b.0 st.requires.1 (least k) h
 
 pub settle_spec : {M : Type 1} → statement M
 settle_spec = tie.close (tie.spec (λ c. omega (arith, inside c)) (λ c. omega (arith, inside c)) (λ c κs. tt) (λ c κs. tt)

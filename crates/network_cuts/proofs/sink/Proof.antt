@@ -19,7 +19,7 @@ abbrev Swept : Type 0
 Swept = tie.After-sweep-s invariant-loop decreases-loop
 
 long : (s : Swept) → length s.sweep-s.last.1.1.1.1.1.1.0 ≡ length s.before.before.before.args.z.now
-long s = s.sweep-s.kept.1.1.1.1.1.1.0 ∙ s.before.before.loop.inv.long ∙ sym s.before.before.before.pre.long
+long s = s.sweep-s.kept.1.1.1.1.1.1.0 ∙ s.before.before.loop.invariant.long ∙ sym s.before.before.before.requires.long
 
 swept : (s : Swept) (r : Settled) → s.sweep-s.result ≡ r → let a = s.before.before.before.args in
     Settling a.w a.d.now a.m.now a.f.0 a.v.0 a.l.0 0 (slot_end a.f.0) s.before.before.loop.z

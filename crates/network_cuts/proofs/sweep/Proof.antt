@@ -48,7 +48,7 @@ loop-again c =
     let made = Settling a.w a.d.now a.m.now a.f.0 a.v.0 a.l.0 l.b (l.b + 1) l.z z' in
     ⊎_elim (λ w.
     let e : s.settle-s.result ≡ Still = w.1.given.1 in
-    let t : c.match.lower ≡ l.lower = w.2 in
+    let t : c.match-s.lower ≡ l.lower = w.2 in
     let n = subst made e s.settle-s.ensures in (
       omega arith,
       subst (Sinking a.w a.d.now a.m.now a.f.0 a.v.0 a.l.0) (sym n.0) i.1,
@@ -56,10 +56,10 @@ loop-again c =
     ))
     (λ w.
     let e : s.settle-s.result ≡ Lower = w.1.given.1 in
-    let t : c.match.lower ≡ true = w.2 in
+    let t : c.match-s.lower ≡ true = w.2 in
     let n = subst made e s.settle-s.ensures in
     (omega arith, n.0, rw t (swept_lower a.w a.f.0 a.v.0 a.l.0 a.d.now a.m.now a.z.now l.lower l.b l.z z' i.2 n)))
-    c.match.branch
+    c.match-s.branch
 
 -- ---- behind the loop every boundary before the window is settled
 abbrev Done : Type 0

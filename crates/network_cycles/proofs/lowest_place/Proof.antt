@@ -32,11 +32,11 @@ loop-again c =
     ⊎_elim
     (λ p.
     let e = ap (λ (n : ℕ). get_or xs n 0) p.1 in
-    let t = p.0.taken in
+    let t = p.0.true in
     (omega (arith, p.1), omega arith, refl, lowest_next xs l.low l.j c.if-c-j.low l.invariant.3 (omega (arith, e, t)) (omega (arith, e))))
     (λ p.
     let e = ap (λ (n : ℕ). get_or xs n 0) p.1 in
-    let t = p.0.left in
+    let t = p.0.false in
     (omega (arith, p.1), omega arith, refl, lowest_next xs l.low l.j c.if-c-j.low l.invariant.3 (omega (arith, e)) (omega (arith, e, t))))
     c.if-c-j.branch
 

@@ -35,7 +35,7 @@ abbrev Sourced : Type 0
 Sourced = tie.After-source_of-u invariant-loop decreases-loop
 
 abbrev weights : (s : Sourced) → Weighed s.before.before.before.args.w s.before.before.before.args.d.now
-weights s = s.before.before.before.pre.0.weights
+weights s = s.before.before.before.requires.0.weights
 
 pub walk_back_spec : {M : Type 1} → statement M
 walk_back_spec = tie.close (tie.spec invariant-loop decreases-loop (λ c. omega (arith, few c.before)) (λ c. omega (arith, few c.before))

@@ -25,7 +25,7 @@ copied c =
     let k = st.args.k in
     let h = inside st in
     row_copied w k (k * w + w - k * w) st.args.d.now st.args.levels.now c.copy_row.new.1.0 _
-    (omega arith) (omega arith) (omega arith) c.copy_row.ensures st.pre.3
+    (omega arith) (omega arith) (omega arith) c.copy_row.ensures st.requires.3
 
 make_level_requires : tie.Need-make_level-requires
 make_level_requires c κs =
@@ -33,9 +33,9 @@ make_level_requires c κs =
     let st = start row in
     let w = st.args.w in
     let to = st.args.k * w + w in
-    let q = st.pre.0 in
+    let q = st.requires.0 in
     let e = part_length to (to + w - to) st.args.levels.now (omega (arith, inside st)) in
-    (q.few, q.room, (copied row).long, e ∙ (omega arith), copied_sums (copied row) q st.pre.2)
+    (q.few, q.room, (copied row).long, e ∙ (omega arith), copied_sums (copied row) q st.requires.2)
 
 returns : tie.Need-returns
 returns c =
@@ -43,7 +43,7 @@ returns c =
     let st = start row in
     let w = st.args.w in
     let to = st.args.k * w + w in
-    rows_next (copied row) (to + w - to) st.args.levels.now c.before.make_level.new.1.1.1.0 st.pre.3 (omega arith)
+    rows_next (copied row) (to + w - to) st.args.levels.now c.before.make_level.new.1.1.1.0 st.requires.3 (omega arith)
     (omega (arith, inside st)) c.before.make_level.ensures
 
 pub add_level_spec : {M : Type 1} → statement M

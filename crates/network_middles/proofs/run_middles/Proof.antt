@@ -109,7 +109,7 @@ row_room : (c : InRow) → (from c + width (middle_of c) ≤ length (table c)) �
 row_room c =
     let pre = (start (middle_of c)).pre in
     let inside = row_inside (row_at c) (width (middle_of c)) c.loop-a-test.true in
-    (omega (arith, (turn (middle_of c)).pass.inv.long, c.before.loop-a.invariant.long), omega arith, omega arith)
+    (omega (arith, (turn (middle_of c)).pass.invariant.long, c.before.loop-a.invariant.long), omega arith, omega arith)
 
 row_here : (c : InRow) → RowIs (width (middle_of c)) (row_at c) (started (middle_of c)) (part c)
 row_here c = row_is c.before.loop-a.invariant (size c) (row_room c).1 (omega (arith, row_room c))
@@ -121,7 +121,7 @@ put c row = back (from c) (size c) row (table c)
 put_long : (c : InRow) (row : List ℤ) → length row ≡ width (middle_of c) → length (put c row) ≡ length (start (middle_of c)).args.t.now
 put_long c row n =
     back_length (from c) (size c) row (table c) (omega (arith, row_room c)) (omega (arith, row_room c))
-    ∙ c.before.loop-a.invariant.long ∙ (turn (middle_of c)).pass.inv.long
+    ∙ c.before.loop-a.invariant.long ∙ (turn (middle_of c)).pass.invariant.long
 
 broken : (c : InRow) (row : List ℤ) → length row ≡ width (middle_of c)
     → ((next : Passed) → after_rows (width (middle_of c)) 0 (width (middle_of c)) (middle_at (middle_of c)) (started (middle_of c)) next ≡ stopped)
@@ -133,7 +133,7 @@ broken c row n e =
     let inside = row_inside (row_at c) (width m) c.loop-a-test.true in
     let fits : from c + size c ≤ length (table c) = omega (arith, row_room c) in
     let n' : length row ≡ size c = omega (arith, row_room c) in
-    pass_left (turn m).pass.inv (below m) (put c row) e
+    pass_left (turn m).pass.invariant (below m) (put c row) e
     (back_length (from c) (size c) row (table c) fits n' ∙ l.invariant.long)
     (back_past (from c) (size c) row (table c) fits n' (width m * width m) (omega (arith, row_room c)) ∙ rows_past l.invariant (omega arith))
 
@@ -151,7 +151,7 @@ over c =
     let r = over_row c in
     let m = middle_of r in
     let f : SFits w16 (get_or (part r) (middle_at m) (pos 0)) = search rules in
-    record { inside = r.loop-a-test.taken; middle = mid_here m; row = row_here r; over = to_z-of_z f ∙ (row_here r).at (middle_at m) (middle_below m) }
+    record { inside = r.loop-a-test.true; middle = mid_here m; row = row_here r; over = to_z-of_z f ∙ (row_here r).at (middle_at m) (middle_below m) }
 
 -- ---- in a turn of the loop over stretches
 abbrev InStretch : Type 0
@@ -228,7 +228,7 @@ loop2_holds c =
     let m = middle_of r in
     let o = r.before.loop-a in
     let e : 0 ≡ min (0 * stretch) (width m) = omega arith in
-    subst (λ (b : ℕ). ColsInv (am r) (copy m) (part r) (width m) (row_at r) o.outcome (part r) b) e (cols_start o.inv.none (row_here r).long)
+    subst (λ (b : ℕ). ColsInv (am r) (copy m) (part r) (width m) (row_at r) o.outcome (part r) b) e (cols_start o.invariant.none (row_here r).long)
 
 relax_row_requires : tie.Need-relax_row-requires invariant-loop2 decreases-loop2 invariant-loop decreases-loop invariant-pass decreases-pass
 relax_row_requires c κs =
@@ -260,8 +260,8 @@ loop-again c =
     let s = over f in
     let q = c.before.before.loop-k in
     let hb : width (middle_of r) ≤ min (q.k * stretch) (width (middle_of r)) = omega (arith, c.before.loop-k-test.false, f.stretches-n.ensures) in
-    rows_again r.before.loop-a.inv r.loop-a-test.taken (size r) q.invariant.none (row_room r).1 (omega (arith, row_room r))
-    (row_done s q.invariant hb) (row_low s false (q.invariant.fine (omega (arith, r.loop-a-test.taken, hb))))
+    rows_again r.before.loop-a.invariant r.loop-a-test.true (size r) q.invariant.none (row_room r).1 (omega (arith, row_room r))
+    (row_done s q.invariant hb) (row_low s false (q.invariant.fine (omega (arith, r.loop-a-test.true, hb))))
 
 pass_again : tie.Need-pass-preserved invariant-loop2 decreases-loop2 invariant-loop decreases-loop invariant-pass decreases-pass
 pass_again c =
@@ -275,11 +275,11 @@ returns-2 c =
     let r = stretch_row at in
     let s = stretch_here at in
     let low = cols_low (cols_here at) (stop at) s.0 s.1 x.relax_row.ensures c.before.before.falls.ensures c.before.if-falls.true in
-    broken r (stepped x) (stepped_long x) (rows_low r.before.loop-a.inv r.loop-a-test.taken (row_low (over (over_of at)) true low))
+    broken r (stepped x) (stepped_long x) (rows_low r.before.loop-a.invariant r.loop-a-test.true (row_low (over (over_of at)) true low))
 
 pub run_middles_spec : {M : Type 1} → statement M
 run_middles_spec = tie.close (tie.spec invariant-loop2 decreases-loop2 invariant-loop decreases-loop invariant-pass decreases-pass pass_holds
-    (λ c. sym c.before.before.before.pass.invariant.room) load_row_requires (λ c. rows_start (turn c.before).pass.inv.none)
+    (λ c. sym c.before.before.before.pass.invariant.room) load_row_requires (λ c. rows_start (turn c.before).pass.invariant.none)
     (λ c. omega (arith, row_room c)) (λ c. omega (arith, row_room c)) (λ c. omega (arith, row_room c)) (λ c. omega arith) (λ c. omega arith)
     (λ c. (row_room c).0) (λ c. omega (arith, middle_below (middle_of c.before), row_room c.before))
     (λ c. omega (arith, middle_below (middle_of c.before), (row_here c.before).long))
@@ -292,9 +292,9 @@ run_middles_spec = tie.close (tie.spec invariant-loop2 decreases-loop2 invariant
     (λ c. omega (arith, stretch_here c.before.before, copy_room (middle_of (stretch_row c.before.before)))) relax_row_requires
     (λ c κs. let x : Relaxed = c.before.before in omega (arith, stepped_long x, (relaxed_row x).loop-a-test.true))
     (λ c. omega (arith, stretch_here (stretch_of (relaxed_of c.before))))
-    (λ c. omega (arith, (stretch_of (relaxed_of c.before)).before.loop-k-test.taken)) loop2_again
-    (λ c. let r = over_row c.before.before.before in omega (arith, r.loop-a-test.taken, row_room r))
-    (λ c. let r = over_row c.before.before.before in omega (arith, r.loop-a-test.taken)) loop-again
+    (λ c. omega (arith, (stretch_of (relaxed_of c.before)).before.loop-k-test.true)) loop2_again
+    (λ c. let r = over_row c.before.before.before in omega (arith, r.loop-a-test.true, row_room r))
+    (λ c. let r = over_row c.before.before.before in omega (arith, r.loop-a-test.true)) loop-again
     (λ c. let m : InMiddle = c.before.before.before in omega (arith, below m, (start m).requires)) (λ c. omega (arith, below c.before.before.before))
     pass_again (λ c. c.before.pass.invariant.long) (λ c. pass_ended c.before.pass.invariant c.pass-test.false)
     (λ c. let x = relaxed_of c.before.before in put_long (relaxed_row x) (stepped x) (stepped_long x)) returns-2)

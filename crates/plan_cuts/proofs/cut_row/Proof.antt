@@ -55,10 +55,10 @@ least_cut_requires c κs =
     let r = i.rest l.l (omega arith) in
     let marked : 0 < get_or a.row.now l.l 0 = omega (arith, c.before.if-known-gt0.true) in
     let known = common_smaller a.w a.d.now a.m.now a.f.0 a.row.now l.l (get_or a.row.now l.l 0)
-    at.before.common_cut-common.result h marked (st.pre.1.0 l.l h marked) at.before.common_cut-common.ensures in
+    at.before.common_cut-common.result h marked (st.requires.1.0 l.l h marked) at.before.common_cut-common.ensures in
     let s : c.smaller.result ≡ min (get_or a.row.now l.l 0) at.before.common_cut-common.result = rw (sym r) c.smaller.ensures in
     let k = known.inside in (
-      (st.pre.0.0, st.pre.0.1, omega (arith, next_level i h, e), omega (arith, k, s), omega (arith, k, s), h),
+      (st.requires.0.0, st.requires.0.1, omega (arith, next_level i h, e), omega (arith, k, s), omega (arith, k, s), h),
       (rw s known.admitted, rw e (next_barred i h)),
     )
 
@@ -71,8 +71,8 @@ moved c =
     let at = c.before.before.before.before.before in
     let l = at.loop-l in
     let h = c.before.before.before.before.loop-l-test.true in
-    ⊎_elim (λ w. rw (w.3, w.4) (cutting_mark l.invariant.0 h w.2.result.0 w.0.taken w.2.ensures))
-    (λ w. rw (w.1, w.2, c.before.before.larger-low.ensures) (cutting_skip l.invariant.0 h (omega (arith, w.0.left))))
+    ⊎_elim (λ w. rw (w.3, w.4) (cutting_mark l.invariant.0 h w.2.result.0 w.0.true w.2.ensures))
+    (λ w. rw (w.1, w.2, c.before.before.larger-low.ensures) (cutting_skip l.invariant.0 h (omega (arith, w.0.false))))
     c.if-known-gt0.branch
 
 loop-again : tie.Need-loop-l-preserved invariant-loop decreases-loop

@@ -35,9 +35,9 @@ mark_place_requires : tie.Need-mark_place-at-requires invariant-loop decreases-l
 mark_place_requires c κs =
     let turn = c.before.before in
     let st = start turn in
-    let u = st.pre.0.inside turn.before.loop-j.j (omega arith) in
+    let u = st.requires.0.inside turn.before.loop-j.j (omega arith) in
     let b = below turn in
-    (b.0, b.1, omega arith, omega arith, st.pre.1.0)
+    (b.0, b.1, omega arith, omega arith, st.requires.1.0)
 
 -- its window's place is inside the room for the marks
 place : (c : tie.After-mark_place-at invariant-loop decreases-loop) → c.mark_place-at.result < length c.before.before.before.before.loop-j.marks
@@ -45,13 +45,13 @@ place c =
     let turn = c.before.before.before in
     let st = start turn in
     let l = turn.before.loop-j in
-    omega (arith, c.mark_place-at.ensures, place_inside st.pre.0 l.j (omega arith), st.pre.1.1, l.invariant.2)
+    omega (arith, c.mark_place-at.ensures, place_inside st.requires.0 l.j (omega arith), st.requires.1.1, l.invariant.2)
 
 cast_marks : tie.Need-overflow_cast-marks invariant-loop decreases-loop
 cast_marks c =
     let turn = c.before.before.before.before.before in
     let st = start turn in
-    omega (arith, c.Slot-seen.ensures, st.pre.0.inside turn.before.loop-j.j (omega arith), st.pre.1.0)
+    omega (arith, c.Slot-seen.ensures, st.requires.0.inside turn.before.loop-j.j (omega arith), st.requires.1.0)
 
 loop-again : tie.Need-loop-j-preserved invariant-loop decreases-loop
 loop-again c =
@@ -62,7 +62,7 @@ loop-again c =
       omega arith,
       refl,
       length-set l.marks at.result c.Slot-seen.result ∙ l.invariant.2,
-      rw (at.ensures, c.Slot-seen.ensures) (marked_more st.pre.0 l.j l.marks (omega arith) (omega (arith, st.pre.1.1, l.invariant.2)) l.invariant.3),
+      rw (at.ensures, c.Slot-seen.ensures) (marked_more st.requires.0 l.j l.marks (omega arith) (omega (arith, st.requires.1.1, l.invariant.2)) l.invariant.3),
     )
 
 returns : tie.Need-returns invariant-loop decreases-loop

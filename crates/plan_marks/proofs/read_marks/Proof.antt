@@ -46,7 +46,7 @@ place c =
       c.mark_place-at.ensures,
       row_inside (seen_at st.args.turned st.args.w st.args.opens.now turn.before.loop-j.j) st.args.w r.window.0,
       r.window.1,
-      st.pre.0.3,
+      st.requires.0.3,
     )
 
 mark_low : (c : tie.After-mark_place-at invariant-loop decreases-loop)
@@ -58,7 +58,7 @@ cast_out c =
     let at = c.before.before in
     let st = start at.before.before.before in
     let mark = get_or st.args.marks.now at.mark_place-at.result 0 in
-    omega (arith, c.Slot-seen.ensures, seen_most st.args.turned st.args.w mark (mark_low at), st.pre.0.2)
+    omega (arith, c.Slot-seen.ensures, seen_most st.args.turned st.args.w mark (mark_low at), st.requires.0.2)
 
 loop-again : tie.Need-loop-j-preserved invariant-loop decreases-loop
 loop-again c =

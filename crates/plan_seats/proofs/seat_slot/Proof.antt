@@ -35,10 +35,10 @@ module _ (c : tie.After-next_open-place invariant-loop decreases-loop) where
       let a = (start l).args in
       let left : a.count - l.loop.counter ≡ suc (a.count - (l.loop.counter + 1)) = omega arith in
       found (at a.first.now) a.slot a.order.now a.count a.plan.now l.loop.looked _ c.next_open-place.result l.loop.plan
-      l.loop.inv.1 c.next_open-place.ensures (rw (sym left) l.loop.inv.3)
+      l.loop.invariant.1 c.next_open-place.ensures (rw (sym left) l.loop.invariant.3)
 
   unit_inside : c.next_open-place.result < length (start l).args.order.now → at (start l).args.order.now c.next_open-place.result < length l.loop.plan
-  unit_inside h = omega (arith, l.loop.inv.2, (start l).pre.1 c.next_open-place.result h)
+  unit_inside h = omega (arith, l.loop.invariant.2, (start l).pre.1 c.next_open-place.result h)
 
 -- the place is not the end of the order
 here : (c : tie.Else-place-order invariant-loop decreases-loop) → c.before.next_open-place.result < length (start (l c.before)).args.order.now
@@ -75,7 +75,7 @@ loop-again c =
     let one : suc r ≡ r + 1 = omega arith in (
       omega arith,
       omega (arith, here e),
-      length-set plan u a.slot ∙ (l e.before).loop.inv.2,
+      length-set plan u a.slot ∙ (l e.before).loop.invariant.2,
       subst (λ (p : ℕ). Search (at a.first.now) a.slot a.order.now a.count a.plan.now p left (set plan u a.slot)) one
           (taken (at a.first.now) a.slot a.order.now a.count a.plan.now r left plan (here e) (n.1 (here e)) n.2),
     )
@@ -88,7 +88,7 @@ returns-2 c =
     slot_full (at a.first.now) a.slot a.order.now a.count a.plan.now l.loop.looked l.loop.plan (rw (sym none) l.loop.invariant.3)
 
 pub seat_slot_spec : {M : Type 1} → statement M
-seat_slot_spec = tie.close (tie.spec invariant-loop decreases-loop loop-holds next_open_requires (λ c. (l c.before).loop.inv.2) returns
+seat_slot_spec = tie.close (tie.spec invariant-loop decreases-loop loop-holds next_open_requires (λ c. (l c.before).loop.invariant.2) returns
     (λ c. omega (arith, here c)) (λ c. omega (arith, here c.before))
     (λ c. omega (arith, c.shared_slice_known-in-loop-1.given c.before.before.next_open-place.result))
     (λ c. omega (arith, unit_inside c.before.before (here c.before))) (λ c. omega (arith, unit_inside c.before.before (here c.before)))

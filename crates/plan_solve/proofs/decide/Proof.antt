@@ -42,7 +42,7 @@ find_ring_requires : tie.Need-find_ring-n-requires
 find_ring_requires c κs =
     let d = c.before.before.before.before.before in
     let st = start d in
-    ring_asked (lists st) _ st.pre (room st) (holds st).0 d.close_limits-outcome.result (table d) d.close_limits-outcome.ensures
+    ring_asked (lists st) _ st.requires (room st) (holds st).0 d.close_limits-outcome.result (table d) d.close_limits-outcome.ensures
     c.before.before.enum_told-1.given.1 (length (ring st)) (holds st).1
 
 returns : tie.Need-returns-in-Stopped
@@ -50,7 +50,7 @@ returns c =
     let f = c.before.before.before in
     let d = f.before.before.before.before.before.before in
     let st = start d in
-    ring_left_lem (lists st) _ st.pre (room st) (holds st).0 d.close_limits-outcome.result (table d) d.close_limits-outcome.ensures
+    ring_left_lem (lists st) _ st.requires (room st) (holds st).0 d.close_limits-outcome.result (table d) d.close_limits-outcome.ensures
     f.before.before.before.enum_told-1.given.1 (ring st)
     f.find_ring-n.result f.find_ring-n.new.1.1.1.1.1.1.1.0 f.find_ring-n.new.1.1.1.1.1.1.1.1.0 f.find_ring-n.ensures
 
@@ -58,7 +58,7 @@ returns-2 : tie.Need-returns-in-Finished
 returns-2 c =
     let d = c.before.before.before in
     let st = start d in
-    fits_left (lists st) _ st.pre (room st) (holds st).0 d.close_limits-outcome.result (table d) d.close_limits-outcome.ensures c.enum_told-in-Finished-1.given.1 (ring st)
+    fits_left (lists st) _ st.requires (room st) (holds st).0 d.close_limits-outcome.result (table d) d.close_limits-outcome.ensures c.enum_told-in-Finished-1.given.1 (ring st)
 
 pub decide_spec : {M : Type 1} → statement M
 decide_spec = tie.close (tie.spec close_limits_requires (λ c. c.in-Stopped.keys1) find_ring_requires (λ c. c.in-Finished.keys2)

@@ -52,7 +52,7 @@ front : (c : tie.In-Finished) → let st = start (closed c) in let s = given (li
 front c =
     let d = closed c in
     let st = start d in
-    closed_table (lists st) _ st.pre (room st) (holds st).0 d.close_limits-outcome.result (table d) d.close_limits-outcome.ensures c.enum_told-in-Finished-1.given.1
+    closed_table (lists st) _ st.requires (room st) (holds st).0 d.close_limits-outcome.result (table d) d.close_limits-outcome.ensures c.enum_told-in-Finished-1.given.1
 
 units_ready : (c : tie.After-boundaries-w) → let st = start (closed c.before) in
     Ready (given (lists st)) c.boundaries-w.result st.args.first.now st.args.last.now (table (closed c.before))
@@ -60,22 +60,22 @@ units_ready c =
     let d = closed c.before in
     let st = start d in
     let f = front c.before in
-    ready (lists st) _ st.pre (room st) (holds st).0 f.0 f.1 (table d) f.2 c.boundaries-w.result c.boundaries-w.ensures
+    ready (lists st) _ st.requires (room st) (holds st).0 f.0 f.1 (table d) f.2 c.boundaries-w.result c.boundaries-w.ensures
 
 fill_plan_requires : tie.Need-fill_plan-looked-requires
 fill_plan_requires c κs =
     let b = c.before.before.before.before in
     let st = start (closed b.before) in
-    ((given (lists st), units_ready b), seats_asked (lists st) _ st.pre (room st) (holds st).0 (seats st) (holds st).1)
+    ((given (lists st), units_ready b), seats_asked (lists st) _ st.requires (room st) (holds st).0 (seats st) (holds st).1)
 
 returns : tie.Need-returns-in-Stopped
 returns c =
     let d = c.before.before.before in
     let st = start d in
     let stopped = c.enum_told-1.given.1 in (
-      none_seated (lists st) _ st.pre (room st) (holds st).0 d.close_limits-outcome.result (table d) d.close_limits-outcome.ensures stopped
+      none_seated (lists st) _ st.requires (room st) (holds st).0 d.close_limits-outcome.result (table d) d.close_limits-outcome.ensures stopped
           st.args.plan.now st.args.earliest.now st.args.latest.now,
-      none_looked (lists st) _ st.pre (room st) (holds st).0 d.close_limits-outcome.result (table d) d.close_limits-outcome.ensures stopped,
+      none_looked (lists st) _ st.requires (room st) (holds st).0 d.close_limits-outcome.result (table d) d.close_limits-outcome.ensures stopped,
     )
 
 returns-2 : tie.Need-returns-in-Finished
@@ -86,13 +86,13 @@ returns-2 c =
     let st = start d in
     let f = front b.before in
     let filled = p.fill_plan-looked.ensures (given (lists st)) (units_ready b) in (
-      seats_left (lists st) _ st.pre (room st) (holds st).0 f.0 f.1 (table d) f.2 _ _ _ _ _ _ _ filled,
-      looks_left (lists st) _ st.pre (room st) (holds st).0 f.0 f.1 (table d) f.2 _ _ _ _ _ _ _ filled,
+      seats_left (lists st) _ st.requires (room st) (holds st).0 f.0 f.1 (table d) f.2 _ _ _ _ _ _ _ filled,
+      looks_left (lists st) _ st.requires (room st) (holds st).0 f.0 f.1 (table d) f.2 _ _ _ _ _ _ _ filled,
     )
 
 pub seat_spec : {M : Type 1} → statement M
 seat_spec = tie.close (tie.spec close_limits_requires (λ c. c.in-Stopped.keys1) (λ c. c.in-Finished.keys2)
-    (λ c κs. let st = start (closed c) in span_bound (lists st) st.pre.sheet) fill_plan_requires
+    (λ c κs. let st = start (closed c) in span_bound (lists st) st.requires.sheet) fill_plan_requires
     (λ c. c.before.before.before.close_limits-outcome.auto.1.1.1.1.1.1.1.0) returns
     (λ c. (closed c.before.before.before.before.before.before.before.before.before.before.before.before
     ).close_limits-outcome.auto.1.1.1.1.1.1.1.0)

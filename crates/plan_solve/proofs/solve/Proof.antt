@@ -80,13 +80,13 @@ units_ready c =
     let d = decided c.before in
     let st = start d in
     let f = front c.before in
-    ready (lists st) _ st.pre (room st) (holds st).0 f.0 f.1 (table d) f.2 c.boundaries-w.result c.boundaries-w.ensures
+    ready (lists st) _ st.requires (room st) (holds st).0 f.0 f.1 (table d) f.2 c.boundaries-w.result c.boundaries-w.ensures
 
 fill_plan_requires : tie.Need-fill_plan-requires
 fill_plan_requires c κs =
     let b = c.before.before.before.before in
     let st = start (decided b.before) in
-    ((given (lists st), units_ready b), seats_asked (lists st) _ st.pre (room st) (holds st).0 (seats st) (holds st).1)
+    ((given (lists st), units_ready b), seats_asked (lists st) _ st.requires (room st) (holds st).0 (seats st) (holds st).1)
 
 returns : tie.Need-returns-in-None
 returns c =
@@ -103,14 +103,14 @@ returns-2 c =
     let d = decided b.before in
     let st = start d in
     let f = front b.before in
-    plan_left (lists st) _ st.pre (room st) (holds st).0 f.0 f.1 (table d) f.2
+    plan_left (lists st) _ st.requires (room st) (holds st).0 f.0 f.1 (table d) f.2
     st.args.plan.now st.args.earliest.now st.args.latest.now p.fill_plan.result
     p.fill_plan.new.1.1.1.1.0 p.fill_plan.new.1.1.1.1.1.0 p.fill_plan.new.1.1.1.1.1.1.0
     (p.fill_plan.ensures (given (lists st)) (units_ready b)) (ring st) (ring_left d) f.3
 
 pub solve_spec : {M : Type 1} → statement M
 solve_spec = tie.close (tie.spec decide_requires (λ c. c.in-None.keys1) (λ c. c.in-Fits.keys2)
-    (λ c κs. let st = start (decided c) in span_bound (lists st) st.pre.sheet) fill_plan_requires
+    (λ c κs. let st = start (decided c) in span_bound (lists st) st.requires.sheet) fill_plan_requires
     (λ c. c.before.before.before.before.before.before.decide-fit.auto.1.1.1.1.1.1.1.0)
     (λ c. c.before.before.before.before.before.before.decide-fit.auto.1.1.1.1.1.1.1.1.0) returns
     (λ c. (decided c.before.before.before.before.before.before.before.before.before.before.before.before).decide-fit.auto.1.1.1.1.1.1.1.0)

@@ -22,9 +22,9 @@ lists c =
 pass_requires : tie.Need-pass-requires
 pass_requires c κs =
     let st = start (filled c) in
-    let n = boundaries_counted (lists st) st.pre.ok _ c.boundaries.ensures in
-    let room = filled_room (given (lists st)) st.args.table.now _ _ n.0 st.pre.fits (filled c).fill_limits.ensures in
-    let L = filled_limited (given (lists st)) st.pre.ok st.args.table.now _ _ n.0 (filled c).fill_limits.ensures in
+    let n = boundaries_counted (lists st) st.requires.ok _ c.boundaries.ensures in
+    let room = filled_room (given (lists st)) st.args.table.now _ _ n.0 st.requires.fits (filled c).fill_limits.ensures in
+    let L = filled_limited (given (lists st)) st.requires.ok st.args.table.now _ _ n.0 (filled c).fill_limits.ensures in
     (omega (arith, n.0), n.1, room, L)
 
 returns : tie.Need-returns
@@ -32,9 +32,9 @@ returns c =
     let b = c.before.before in
     let st = start (filled b) in
     limits_closed (given (lists st)) st.args.table.now _ c.before.pass.result c.before.pass.new.0 _
-    (boundaries_counted (lists st) st.pre.ok _ b.boundaries.ensures).0 (filled b).fill_limits.ensures c.before.pass.ensures
+    (boundaries_counted (lists st) st.requires.ok _ b.boundaries.ensures).0 (filled b).fill_limits.ensures c.before.pass.ensures
 
 pub close_limits_spec : {M : Type 1} → statement M
 close_limits_spec = tie.close (tie.spec (λ c κs. c.before.before.before.before.before.before.before.requires)
-    (λ c κs. let st = start c.before.before in span_bound (lists st) st.pre.ok)
+    (λ c κs. let st = start c.before.before in span_bound (lists st) st.requires.ok)
     pass_requires (λ c. c.before.pass.auto.0 ∙ (filled c.before.before).fill_limits.auto.1.1.1.1.1.1.1.0) returns)

@@ -32,12 +32,12 @@ negative_cycle_requires : tie.Need-negative_cycle-n-requires
 negative_cycle_requires c κs =
     let filled = c.before.before.before in
     let st = start (sized filled) in
-    let p = st.pre.0 in
+    let p = st.requires.0 in
     let n = (size (sized filled)).0 in
     let e = filled.fill_limits.ensures in (
       weighed (given (lists st)) p.ok st.args.table.now _ p.fits e _ n,
-      no_potential (given (lists st)) p.ok st.args.table.now _ p.fits e _ n st.pre.2,
-      omega (arith, st.pre.1, n),
+      no_potential (given (lists st)) p.ok st.args.table.now _ p.fits e _ n st.requires.2,
+      omega (arith, st.requires.1, n),
     )
 
 mul_clear : tie.Need-overflow_mul-w
@@ -50,7 +50,7 @@ clear_requires : tie.Need-clear-requires
 clear_requires c κs =
     let filled = c.before.before.before.before.before.before.before in
     let st = start (sized filled) in
-    let room = filled_room (given (lists st)) st.args.table.now _ _ (size (sized filled)).0 st.pre.0.fits filled.fill_limits.ensures in
+    let room = filled_room (given (lists st)) st.args.table.now _ _ (size (sized filled)).0 st.requires.0.fits filled.fill_limits.ensures in
     omega (arith, room)
 
 returns : tie.Need-returns
@@ -58,10 +58,10 @@ returns c =
     let filled = c.before.before.before.before.before.before.before.before.before in
     let b = sized filled in
     let st = start b in
-    let p = st.pre.0 in
+    let p = st.requires.0 in
     let n = c.before.before.before.before.before.negative_cycle-n in
     ring_found (given (lists st)) p.ok st.args.table.now _ p.fits filled.fill_limits.ensures _ (size b).0 st.args.ring.now
-    n.result n.new.1.1.0 c.before.clear.new.1.0 (omega (arith, n.auto, st.pre.1, (size b).0)) n.ensures c.before.clear.ensures
+    n.result n.new.1.1.0 c.before.clear.new.1.0 (omega (arith, n.auto, st.requires.1, (size b).0)) n.ensures c.before.clear.ensures
 
 pub find_ring_spec : {M : Type 1} → statement M
 find_ring_spec = tie.close (tie.spec

@@ -30,21 +30,21 @@ long c =
     let st = start c in
     let n : length (table c) ≡ max_cells = c.before.before.before.mirror.auto.1.1.0 in
     let n' : length (added c) ≡ max_cells = c.mirror-2.auto.1.1.0 in
-    omega (arith, square_most st.args.w st.pre.0.0.most)
+    omega (arith, square_most st.args.w st.requires.0.0.most)
 
 network : (c : tie.After-mirror-2) → CutNetwork (start c).args.w (table c) (added c)
 network c =
     let st = start c in
     let a = st.args in
-    network_mirrored a.w a.d.now a.m.now (table c) (added c) st.pre.0.0 (long c).0 (long c).1
+    network_mirrored a.w a.d.now a.m.now (table c) (added c) st.requires.0.0 (long c).0 (long c).1
     c.before.before.before.mirror.ensures c.mirror-2.ensures
 
 admitted : (c : tie.After-mirror-2) → let a = (start c).args in Admitted true a.w (table c) (added c) a.last.now a.first.now a.plan.now
 admitted c =
     let st = start c in
     let a = st.args in
-    late_turned a.w a.d.now a.m.now (table c) (added c) st.pre.0.0 (long c).0 (long c).1
-    c.before.before.before.mirror.ensures c.mirror-2.ensures a.first.now a.last.now a.plan.now st.pre.0.1 st.pre.1
+    late_turned a.w a.d.now a.m.now (table c) (added c) st.requires.0.0 (long c).0 (long c).1
+    c.before.before.before.mirror.ensures c.mirror-2.ensures a.first.now a.last.now a.plan.now st.requires.0.1 st.requires.1
 
 mirror_requires : tie.Need-mirror-requires
 mirror_requires c κs =
@@ -62,8 +62,8 @@ least_cuts_requires c κs =
     let r = c.before.before.before.before in
     let st = start r in
     let a = st.args in
-    let units = turned_units a.w a.first.now a.last.now a.plan.now st.pre.0.1 in
-    ((network r, units, omega (arith, st.pre.0.1.paired, st.pre.0.2)), admitted r)
+    let units = turned_units a.w a.first.now a.last.now a.plan.now st.requires.0.1 in
+    ((network r, units, omega (arith, st.requires.0.1.paired, st.requires.0.2)), admitted r)
 
 returns : tie.Need-returns
 returns c =
@@ -71,9 +71,9 @@ returns c =
     let l = c.before.before.least_cuts in
     let st = start r in
     let a = st.args in
-    turned_greatest a.w a.d.now a.m.now (table r) (added r) st.pre.0.0 (long r).0 (long r).1
+    turned_greatest a.w a.d.now a.m.now (table r) (added r) st.requires.0.0 (long r).0 (long r).1
     r.before.before.before.mirror.ensures r.mirror-2.ensures
-    a.first.now a.last.now a.plan.now st.pre.0.1 a.out-1.now l.new.1.1.1.1.1.1.1.0 l.ensures
+    a.first.now a.last.now a.plan.now st.requires.0.1 a.out-1.now l.new.1.1.1.1.1.1.1.0 l.ensures
 
 pub greatest_cuts_spec : {M : Type 1} → statement M
 greatest_cuts_spec = tie.close (tie.spec (λ c. search rules) mirror_requires (λ c. search rules) mirror_requires_2 (λ c. search rules)

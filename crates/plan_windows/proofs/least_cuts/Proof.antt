@@ -31,9 +31,9 @@ cut_windows_requires c κs =
     let st = start mk in
     let a = st.args in
     let n : length (marks mk) ≡ max_cells = mk.mark.auto.1.1.1.1.1.0 in (
-      st.pre.0.0,
-      omega (arith, square_most a.w st.pre.0.0.most),
-      marks_known st.pre.0.1 a.d.now a.m.now st.pre.1 mk.mark.ensures,
+      st.requires.0.0,
+      omega (arith, square_most a.w st.requires.0.0.most),
+      marks_known st.requires.0.1 a.d.now a.m.now st.requires.1 mk.mark.ensures,
     )
 
 read_marks_requires : tie.Need-read_marks-requires
@@ -43,8 +43,8 @@ read_marks_requires c κs =
     let st = start mk in
     let a = st.args in
     let n : length (cuts cut) ≡ max_cells = cut.cut_windows.auto.1.1.1.0 ∙ mk.mark.auto.1.1.1.1.1.0 in (
-      (st.pre.0.1.paired, st.pre.0.2, st.pre.0.0.most, omega (arith, square_most a.w st.pre.0.0.most)),
-      cuts_read st.pre.0.1 a.d.now a.m.now st.pre.1 mk.mark.ensures (cuts cut) cut.cut_windows.ensures,
+      (st.requires.0.1.paired, st.requires.0.2, st.requires.0.0.most, omega (arith, square_most a.w st.requires.0.0.most)),
+      cuts_read st.requires.0.1 a.d.now a.m.now st.requires.1 mk.mark.ensures (cuts cut) cut.cut_windows.ensures,
     )
 
 returns : tie.Need-returns
@@ -54,7 +54,7 @@ returns c =
     let mk = cut.before.before.before in
     let st = start mk in
     let a = st.args in
-    cuts_least st.pre.0.1 a.d.now a.m.now st.pre.1 mk.mark.ensures (cuts cut) cut.cut_windows.ensures a.out-1.now
+    cuts_least st.requires.0.1 a.d.now a.m.now st.requires.1 mk.mark.ensures (cuts cut) cut.cut_windows.ensures a.out-1.now
     rd.read_marks.new.1.1.1.1.1.0 rd.read_marks.ensures
 
 pub least_cuts_spec : {M : Type 1} → statement M

@@ -26,7 +26,7 @@ long : (c : tie.After-cut_arcs) → let w = (start c).args.w in w * w ≤ length
 long c =
     let st = start c in
     let n : length (added c) ≡ max_cells = c.cut_arcs.auto.1.1.1.0 in
-    omega (arith, square_most st.args.w st.pre.0.1.most)
+    omega (arith, square_most st.args.w st.requires.0.1.most)
 
 network : (c : tie.After-cut_arcs) → let a = (start c).args in CutNetwork a.w a.table.now (added c)
 network c = network_of (start c).requires.0.1 (added c) (long c) c.cut_arcs.ensures
@@ -47,14 +47,14 @@ least_cuts_requires : tie.Need-least_cuts-requires
 least_cuts_requires c κs =
     let r = c.before.before.before in
     let st = start r in
-    ((network r, units_of_lem st.pre.0.1, st.pre.1.0), early r)
+    ((network r, units_of_lem st.requires.0.1, st.requires.1.0), early r)
 
 greatest_cuts_requires : tie.Need-greatest_cuts-requires
 greatest_cuts_requires c κs =
     let cut = c.before.before.before.before in
     let r = cut.before.before.before.before in
     let st = start r in
-    ((network r, units_of_lem st.pre.0.1, st.pre.1.1), late r)
+    ((network r, units_of_lem st.requires.0.1, st.requires.1.1), late r)
 
 returns : tie.Need-returns
 returns c =

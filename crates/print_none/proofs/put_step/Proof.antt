@@ -63,7 +63,7 @@ unfolding at_most_line text
 put_bound_requires c κs =
     let s = forward_start c in (
       (omega (arith, c.before.slot_after.ensures), omega (arith, c.slot_before.ensures)),
-      subst (Room s.args.page.now s.args.at) (sym (forward c)) s.pre.1,
+      subst (Room s.args.page.now s.args.at) (sym (forward c)) s.requires.1,
     )
 
 returns : tie.Need-returns-then-a-b
@@ -78,7 +78,7 @@ unfolding at_least_line text
 put_bound_requires_2 c κs =
     let s = backward_start c in (
       (omega (arith, c.before.slot_after-2.ensures), omega (arith, c.slot_before-2.ensures)),
-      subst (Room s.args.page.now s.args.at) (sym (backward c)) s.pre.1,
+      subst (Room s.args.page.now s.args.at) (sym (backward c)) s.requires.1,
     )
 
 returns-2 : tie.Need-returns

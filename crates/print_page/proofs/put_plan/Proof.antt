@@ -28,7 +28,7 @@ begun c =
     let a = s.args in
     let w = boundaries_of a.span in
     pending_whole _ (page_counted a.span a.loader.now a.plan.now a.earliest.now a.latest.now c.count_slots.new.1.0
-    (least_from w a.table.now) (greatest_from w a.table.now) s.pre.0.slots c.count_slots.ensures) s.pre.1
+    (least_from w a.table.now) (greatest_from w a.table.now) s.requires.0.slots c.count_slots.ensures) s.requires.1
 
 put_one_number_requires : tie.Need-put_one_number-next-requires
 unfolding plan_head text

@@ -44,7 +44,7 @@ returns c =
     let a = (start o).args in
     let k = c.before.before.before.before.before.before.before.before.before.before.before.before.keep-plan.ensures in
     asked_yes a.page.now a.at (bytes (start o)) o.put-plan.result (size o) p.before.holds.result p.before.holds.ensures _ _ _ _ _ _
-    p.if1.taken c.before.before.write.result (rw (part o) at c.before.before.write.ensures) refl (rw (k.0, k.1, k.2, k.3) refl)
+    p.if1.true c.before.before.write.result (rw (part o) at c.before.before.write.ensures) refl (rw (k.0, k.1, k.2, k.3) refl)
 
 returns-2 : tie.Need-returns-2
 returns-2 c =

@@ -71,7 +71,7 @@ plan_found : (c : tie.After-enum-told) → let p = where_plan c in
 plan_found c =
     let p = where_plan c in
     let s = start p in
-    plan_own (lists s) (before s) s.pre.0 (plan_w c) (plan_w_is c) own_rooms (after p) (said p) (ends p) (ap fit_reply c.enum_told.given.1)
+    plan_own (lists s) (before s) s.requires.0 (plan_w c) (plan_w_is c) own_rooms (after p) (said p) (ends p) (ap fit_reply c.enum_told.given.1)
 
 -- ---- none, and a ring
 abbrev where_ring : tie.After-fit → tie.After-solve
@@ -92,7 +92,7 @@ ring_found : (c : tie.After-fit) → let p = where_ring c in
 ring_found c =
     let p = where_ring c in
     let s = start p in
-    none_own (lists s) (before s) s.pre.0 (ring_w c) (ring_w_is c) own_rooms (after p) (said p) (ends p) (steps c) (ap fit_reply c.fit.given.1)
+    none_own (lists s) (before s) s.requires.0 (ring_w c) (ring_w_is c) own_rooms (after p) (said p) (ends p) (steps c) (ap fit_reply c.fit.given.1)
 
 -- ---- the needs, in order
 
@@ -100,15 +100,15 @@ solve_requires : tie.Need-solve-requires
 solve_requires c κs =
     let s : tie.Start =
     c.before.before.before.before.before.before.before.before.before.before.before.before.before.before.before.before.before in
-    own_solvable (lists s) _ s.pre.0
+    own_solvable (lists s) _ s.requires.0
 
 boundaries_requires : tie.Need-boundaries-requires
-boundaries_requires c κs = let s = start c.before.before.before.before.before in span_bound (lists s) s.pre.0.sheet
+boundaries_requires c κs = let s = start c.before.before.before.before.before in span_bound (lists s) s.requires.0.sheet
 
 mul_cells : tie.Need-overflow-mul-cells
 mul_cells c =
     let s = start c.before.before.before.before.before.before in
-    omega (arith, cells_few (lists s) (before s) s.pre.0 c.boundaries.result c.boundaries.ensures)
+    omega (arith, cells_few (lists s) (before s) s.requires.0 c.boundaries.result c.boundaries.ensures)
 
 print_plan_requires : tie.Need-print-plan-requires
 print_plan_requires c κs =
@@ -116,7 +116,7 @@ print_plan_requires c κs =
     let p = where_plan told in
     let s = start p in
     let f = plan_found told in
-    plan_asked (lists s) (before s) s.pre.0 (plan_w told) (plan_w_is told) s.args.loader.now s.pre.1.0 s.pre.1.1 (after p)
+    plan_asked (lists s) (before s) s.requires.0 (plan_w told) (plan_w_is told) s.args.loader.now s.requires.1.0 s.requires.1.1 (after p)
     f.0 f.1 f.2
 
 fill_limits_requires : tie.Need-fill-limits-requires
@@ -125,7 +125,7 @@ fill_limits_requires c κs =
     let p = where_ring told in
     let s = start p in
     let f = ring_found told in
-    limits_fillable (lists s) (before s) s.pre.0 (ring_w told) (ring_w_is told) (after p) f.0 f.1 f.2 (steps told) f.3
+    limits_fillable (lists s) (before s) s.requires.0 (ring_w told) (ring_w_is told) (after p) f.0 f.1 f.2 (steps told) f.3
     (after p).table (own_cells p)
 
 print_ring_requires : tie.Need-print-ring-requires
@@ -135,7 +135,7 @@ print_ring_requires c κs =
     let s = start p in
     let f = ring_found told in
     let filled = c.before.before.before.before.before.before.fill-limits in
-    ring_asked (lists s) (before s) s.pre.0 (ring_w told) (ring_w_is told) (after p) f.0 f.1 f.2 (steps told) f.3 (after p).table (own_cells p)
+    ring_asked (lists s) (before s) s.requires.0 (ring_w told) (ring_w_is told) (after p) f.0 f.1 f.2 (steps told) f.3 (after p).table (own_cells p)
     filled.new.1.1.1.1.1.1.1.0 filled.ensures
 
 returns : tie.Need-returns
@@ -145,7 +145,7 @@ returns c =
     let p = where_plan told in
     let s = start p in
     let f = plan_found told in
-    plan_shown (lists s) (before s) s.pre.0 (plan_w told) (plan_w_is told) s.args.loader.now s.pre.1.0 s.pre.1.1 (after p)
+    plan_shown (lists s) (before s) s.requires.0 (plan_w told) (plan_w_is told) s.args.loader.now s.requires.1.0 s.requires.1.1 (after p)
     f.0 f.1 f.2 s.args.page.now s.args.at _ _ _ _ _ _
     printed.print-plan.ensures
 
@@ -156,7 +156,7 @@ returns-2 c =
     let s = start p in
     let f = ring_found told in
     let filled = c.before.before.before.before.before.before.before.before.before.before.before.before.fill-limits in
-    ring_shown (lists s) (before s) s.pre.0 (ring_w told) (ring_w_is told) (after p) f.0 f.1 f.2 (steps told) f.3 (after p).table (own_cells p)
+    ring_shown (lists s) (before s) s.requires.0 (ring_w told) (ring_w_is told) (after p) f.0 f.1 f.2 (steps told) f.3 (after p).table (own_cells p)
     s.args.loader.now filled.new.1.1.1.1.1.1.1.0 filled.ensures s.args.page.now s.args.at _ _ _ _
     c.before.before.before.before.before.print-ring.ensures
 

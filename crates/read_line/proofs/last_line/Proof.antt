@@ -25,9 +25,9 @@ module _ (c : tie.After-kind_of_code-kind) where
   kind_is =
       let a = begun.args in
       let h = a.house in
-      let t = begun.pre.2 in
+      let t = begun.requires.2 in
       let l = drop a.at a.text.now in
-      let line = rest_line a.text.now a.at begun.pre.0 in
+      let line = rest_line a.text.now a.at begun.requires.0 in
       let end = c.before.next_state-end.ensures ∙ ap₂ (λ g q. entry_of g q (class_of line_feed)) t.is_grid (c.before.before.run-state.ensures.1 h t) in
       c.kind_of_code-kind.ensures ∙ ap kind_of_code (end ∙ grid_reads h l (ap feedless (sym line) ∙ first_feedless l)) ∙ kind_back (kind_of h l)
 

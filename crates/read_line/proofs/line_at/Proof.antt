@@ -21,7 +21,7 @@ module _ (c : tie.After-scan-found) where
   end_inside : c.scan-found.result.end + 1 ≤ length begun.args.text.now
   end_inside =
       let a = begun.args in
-      omega (arith, scanned.is_end, whole_next a.text.now a.at begun.pre.0, whole_within a.text.now)
+      omega (arith, scanned.is_end, whole_next a.text.now a.at begun.requires.0, whole_within a.text.now)
 
   start_inside : begun.args.at ≤ c.scan-found.result.end
   start_inside = omega (arith, scanned.is_end)

@@ -29,7 +29,7 @@ start h = h.before.before.before.before
 abbrev text : tie.At-loop-at invariant-loop decreases-loop → List ℕ
 text h = (start h).args.text.now
 
-searching : (h : tie.At-loop-at invariant-loop decreases-loop) → Searching (start h).args.kind (text h) (start h).args.j h.loop-at.at h.loop-at.n h.loop-at.left
+searching : (h : tie.At-loop-at invariant-loop decreases-loop) → Searching (start h).args.kind (text h) (start h).args.j h.loop-at.at h.loop-at.n h.loop-at.false
 searching h = h.loop-at.invariant (start h).args.kind h.before.code_of_lem.ensures
 
 -- a line starts before the last line feed
@@ -74,9 +74,9 @@ loop-again c k e =
     let on : ℕ → Type 0 = λ m. Searching k (text h) (start h).args.j (r.result.place + 1) (h.loop-at.n + 1) m in
     let i = h.loop-at.invariant k e in
     ⊎_elim
-    (λ p. subst on (sym p.2) (search_counted _ _ _ _ _ _ i _ (in_whole f.before) r.ensures.0 _ r.ensures.1 (same k _ _ e p.0.taken)
-    p.1.left))
-    (λ p. subst on (sym p.1) (search_passed _ _ _ _ _ _ i _ (in_whole f.before) r.ensures.0 _ r.ensures.1 (other k _ _ e p.0.left)))
+    (λ p. subst on (sym p.2) (search_counted _ _ _ _ _ _ i _ (in_whole f.before) r.ensures.0 _ r.ensures.1 (same k _ _ e p.0.true)
+    p.1.false))
+    (λ p. subst on (sym p.1) (search_passed _ _ _ _ _ _ i _ (in_whole f.before) r.ensures.0 _ r.ensures.1 (other k _ _ e p.0.false)))
     c.before.if-line-wanted.branch
 
 pub search_spec : {M : Type 1} → statement M

@@ -73,9 +73,9 @@ module _ (c : tie.After-struct_known-in-loop-stop-2-1 invariant-loop decreases-l
       omega (
         arith,
         next_is,
-        next_past _ _ _ _ _ _ _ _ (at_head.loop-stop.inv.2 _ (begun at_head).pre.1.1) _ _ n,
+        next_past _ _ _ _ _ _ _ _ (at_head.loop-stop.invariant.2 _ (begun at_head).pre.1.1) _ _ n,
         n.here,
-        feed_here (begun at_head).args.text.now at_head.loop-stop.i at_head.loop-stop.inv.0.feed,
+        feed_here (begun at_head).args.text.now at_head.loop-stop.i at_head.loop-stop.invariant.0.feed,
       )
 
   -- with the number's value, and whether all are still plain
@@ -94,10 +94,10 @@ module _ (c : tie.After-struct_known-in-loop-stop-2-1 invariant-loop decreases-l
       let r = stopped.before.before.to_stop-stop.result.state in
       let place = stopped.before.before.to_stop-stop.result.place in
       let n = read.number_at-number.ensures in (
-        subst (λ i. Resumes t i r) (sym next_is) (next_resumes _ _ _ _ _ _ _ _ (l.inv.2 _ z.pre.1.1) _ _ (some_number stopped)),
-        small_set l.values (r - ends) _ l.inv.1 n.1,
+        subst (λ i. Resumes t i r) (sym next_is) (next_resumes _ _ _ _ _ _ _ _ (l.invariant.2 _ z.requires.1.1) _ _ (some_number stopped)),
+        small_set l.values (r - ends) _ l.invariant.1 n.1,
         λ h b. subst (λ i. Gathering h t z.args.at z.args.values.now i r p (set l.values (r - ends) read.number_at-number.result.value)) (sym next_is)
-            (gathered_more h t z.args.at _ l.i l.state l.plain l.values (l.inv.2 h b) place r (number stopped h b) _ p
+            (gathered_more h t z.args.at _ l.i l.state l.plain l.values (l.invariant.2 h b) place r (number stopped h b) _ p
             (ap (λ m. m.value) n.0) (e ∙ ap (λ m. l.plain && m.plain) n.0)),
       )
 
@@ -108,8 +108,8 @@ scan_spec = tie.close (tie.spec invariant-loop decreases-loop
     (λ c κs. (c.loop-stop.invariant.0, (begun c).requires.1)) (λ c κs. search rules)
     (λ c. let s = c.before.before.before in
     let l = (head s).loop-stop in (
-      λ h t. gathered_all h _ _ _ _ _ _ _ (l.inv.2 h t) _ _ _ ((s.to_stop-stop.ensures h t).at_feed c.before.if-stop-lt-ENDS.true) c.kind_of_code.ensures,
-      l.inv.1,
+      λ h t. gathered_all h _ _ _ _ _ _ _ (l.invariant.2 h t) _ _ _ ((s.to_stop-stop.ensures h t).at_feed c.before.if-stop-lt-ENDS.true) c.kind_of_code.ensures,
+      l.invariant.1,
     ))
     (λ c κs. let n = some_number c in (n.feed, n.first_digit))
     (λ c. omega (arith, number_place c.before.before)) (λ c. number_place c.before.before)

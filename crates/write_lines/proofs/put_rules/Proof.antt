@@ -51,7 +51,7 @@ next c =
     let a = s.args in
     let l = c.before.loop-j in
     texts_next (rule_text a.house) no_rule (rules s) l.j _
-    (rules_of_at a.from.now a.to.now a.low.now a.high.now s.pre.0.0.paired s.pre.0.1 s.pre.0.2 l.j
+    (rules_of_at a.from.now a.to.now a.low.now a.high.now s.requires.0.0.paired s.requires.0.1 s.requires.0.2 l.j
     c.loop-j-test.true)
     (omega (arith, rules_length s, c.loop-j-test.true)) l.invariant.1
 

@@ -36,14 +36,14 @@ put_units_requires : tie.Need-put_units-next2-requires
 put_units_requires c κs =
     let k : tie.After-put_span-next = c.before.before.before in
     let s = start k in
-    ((s.pre.0.as_many, listed_units (lists s) s.pre.0), pending_room (pending_after (begun s) k.put_span-next.ensures))
+    ((s.requires.0.as_many, listed_units (lists s) s.requires.0), pending_room (pending_after (begun s) k.put_span-next.ensures))
 
 put_rules_requires : tie.Need-put_rules-requires
 put_rules_requires c κs =
     let k : tie.After-put_span-next = c.before.before.before.before.before.before.before in
     let s = start k in
-    let a = listed_agree (lists s) s.pre.0 in (
-      (listed_rules (lists s) s.pre.0, a.lows, a.highs),
+    let a = listed_agree (lists s) s.requires.0 in (
+      (listed_rules (lists s) s.requires.0, a.lows, a.highs),
       pending_room (pending_after (pending_after (begun s) k.put_span-next.ensures) c.before.before.before.put_units-next2.ensures),
     )
 

@@ -53,7 +53,7 @@ next c =
     let a = s.args in
     let l = c.before.loop-j in
     texts_next (unit_text a.house) no_unit (units s) l.j _
-    (units_of_at a.loader.now a.first.now a.last.now s.pre.0.0 s.pre.0.1.paired l.j c.loop-j-test.true)
+    (units_of_at a.loader.now a.first.now a.last.now s.requires.0.0 s.requires.0.1.paired l.j c.loop-j-test.true)
     (omega (arith, units_length s, c.loop-j-test.true)) l.invariant.1
 
 put_unit_requires : tie.Need-put_unit-next-requires invariant-loop decreases-loop

@@ -71,7 +71,7 @@ fill_forward_requires : tie.Need-fill_forward-requires invariant-loop decreases-
 fill_forward_requires c κs =
     let sized = c.before.before.before.before in
     let s = opened sized in
-    ((fillable_windows s.pre).few, rw sized.boundaries-w.ensures (omega (arith, room s, (inside c.before.before).long)))
+    ((fillable_windows s.requires).few, rw sized.boundaries-w.ensures (omega (arith, room s, (inside c.before.before).long)))
 
 -- the limits without rules
 plain : (c : tie.After-fill_forward invariant-loop decreases-loop)
@@ -84,7 +84,7 @@ plain c =
     let w = boundaries_of a.span in
     let t = c.before.before.before.windows_inside.new.1.1.1.0 in
     let u = c.fill_forward.new.1.1.0 in
-    let fit = fillable_windows s.pre in
+    let fit = fillable_windows s.requires in
     let f = inside c.before.before.before in
     let g = is_filled w (with_forward (length a.first.now) (entry w t)) t u (omega (arith, room s, f.long))
     (rw sized.boundaries-w.ensures at c.fill_forward.ensures) in
@@ -122,7 +122,7 @@ apply_rule_requires c κs =
     let s = entry_of at in
     let a = s.args in
     let l = at.loop-k in
-    let fit = fillable_rule s.pre (l.k - 1) (omega (arith, l.invariant.0)) in
+    let fit = fillable_rule s.requires (l.k - 1) (omega (arith, l.invariant.0)) in
     rw (sized at).boundaries-w.ensures (fit.starts, fit.ordered, fit.ends, fit.low, fit.high, omega (arith, l.invariant.1, l.invariant.2.long))
 
 loop-again : tie.Need-loop-k-preserved invariant-loop decreases-loop
@@ -135,7 +135,7 @@ loop-again c =
     let u = at.before.before.fill_forward.new.1.1.0 in (
       omega (arith, l.invariant.0),
       l.invariant.1,
-      rule_line_lem s.pre u l.t c.before.apply_rule.new.1.1.1.1.1.0 l.k l.invariant.1 (omega arith) l.invariant.0 l.invariant.2
+      rule_line_lem s.requires u l.t c.before.apply_rule.new.1.1.1.1.1.0 l.k l.invariant.1 (omega arith) l.invariant.0 l.invariant.2
           (rw (sized at).boundaries-w.ensures at c.before.apply_rule.ensures),
     )
 
