@@ -5,7 +5,7 @@ use Rattle.answer.proofs.answer_fronts.Statement.{statement}
 use Rattle.answer.proofs.answer_fronts.Tie as tie
 
 -- from the first part that is lent on back to the start
-abbrev start : tie.After-shared-slice-known7 → tie.Start
+abbrev start : tie.After-shared_slice_known-7-1 → tie.Start
 start c = c.before.before.before.before.before.before.before
 
 pub answer_fronts_spec : {M : Type 1} → statement M
@@ -16,4 +16,4 @@ answer_fronts_spec = tie.close (tie.spec (λ c. sym (length-take-le _ _ (start c
     (λ c. sym (length-take-le _ _ (start c.before.before.before.before.before).requires.long.in_to))
     (λ c. sym (length-take-le _ _ (start c.before.before.before.before.before.before).requires.long.in_low))
     (λ c. sym (length-take-le _ _ (start c.before.before.before.before.before.before.before).requires.long.in_high))
-    (λ c κs. (start c.before.before.before.before.before.before.before.before).requires.passes) (λ c. c.answer-sheet.ensures))
+    (λ c κs. (start c.before.before.before.before.before.before.before.before).requires.passes) (λ c. c.answer_sheet.ensures))

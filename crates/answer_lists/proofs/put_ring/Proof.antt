@@ -5,10 +5,10 @@ use Rattle.answer_conditions.specs.SheetLaws.{ring_asked, ring_written}
 use Rattle.answer_lists.proofs.put_ring.Statement.{statement}
 use Rattle.answer_lists.proofs.put_ring.Tie as tie
 
-abbrev start : tie.After-fill-limits → tie.Start
+abbrev start : tie.After-fill_limits → tie.Start
 start c = c.before.before.before.before.before.before.before.before.before
 
-abbrev lists : tie.After-fill-limits → Lists
+abbrev lists : tie.After-fill_limits → Lists
 lists c =
     let a = (start c).args in
     listed a.span a.first.now a.last.now a.from.now a.to.now a.low.now a.high.now
@@ -16,19 +16,19 @@ lists c =
 boundaries_requires : tie.Need-boundaries-requires
 boundaries_requires c κs = let d = c.before.before.before in span_bound (lists d) (start d).requires.0.ok
 
-put_none_requires : tie.Need-put-none-requires
+put_none_requires : tie.Need-put_none-requires
 put_none_requires c κs =
     let d = c.before.before.before.before in
     let p = (start d).requires in
-    ring_asked (lists d) _ c.boundaries.ensures _ p.0 _ p.1 _ d.fill-limits.ensures _ c.before.before.put-none-arg.given.0.1
+    ring_asked (lists d) _ c.boundaries.ensures _ p.0 _ p.1 _ d.fill_limits.ensures _ c.before.before.put_none-arg-1.given.0.1
 
 returns : tie.Need-returns
 returns c =
     let d = c.before.before.before.before.before in
     let p = (start d).requires in
-    ring_written (lists d) _ c.before.boundaries.ensures _ p.0 _ p.1 _ d.fill-limits.ensures _ _ _ c.put-none.ensures
+    ring_written (lists d) _ c.before.boundaries.ensures _ p.0 _ p.1 _ d.fill_limits.ensures _ _ _ c.put_none.ensures
 
 pub put_ring_spec : {M : Type 1} → statement M
 put_ring_spec = tie.close
     (tie.spec (λ c κs. c.before.before.before.before.before.before.before.before.requires.0) boundaries_requires put_none_requires
-    (λ c. c.before.before.before.before.before.fill-limits.auto.1.1.1.1.1.1.1.0) returns)
+    (λ c. c.before.before.before.before.before.fill_limits.auto.1.1.1.1.1.1.1.0) returns)

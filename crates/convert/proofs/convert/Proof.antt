@@ -24,31 +24,31 @@ sizes : sizes_of empty ≡ rooms_for_all
 sizes = refl
 
 -- from what reading answered back to the call, and to the start
-abbrev refused_call : tie.After-reading → tie.After-read
+abbrev refused_call : tie.In-Refused-2 → tie.After-read-reading
 refused_call c = c.before.before.before.before.before.before.before.before.before
 
-abbrev sheet_call : tie.After-reading2 → tie.After-read
+abbrev sheet_call : tie.In-Sheet-2 → tie.After-read-reading
 sheet_call c = c.before.before.before.before.before.before.before.before.before
 
-abbrev start : tie.After-read → tie.Start
+abbrev start : tie.After-read-reading → tie.Start
 start c = c.before.before.before.before.before.before.before.before.before
 
 -- the lists as reading left them
-abbrev after : tie.After-read → ListRooms (List ℕ)
+abbrev after : tie.After-read-reading → ListRooms (List ℕ)
 after c =
-    let k = c.read.new.1.1 in
+    let k = c.read-reading.new.1.1 in
     rooms k.0 k.1.0 k.1.1.0 k.1.1.1.0 k.1.1.1.1.0 k.1.1.1.1.1.0 k.1.1.1.1.1.1.0
 
-abbrev input : tie.After-read → List ℕ
+abbrev input : tie.After-read-reading → List ℕ
 input c = (start c).args.text.now
 
-refused_told : (c : tie.After-reading) → let p = refused_call c in
-    refused c.reading.given.0.0.number c.reading.given.0.0.line ≡ reading (start p).args.from (input p) (sizes_of empty)
-refused_told c = sym (ap reply_of c.reading.given.1) ∙ (refused_call c).read.ensures.0
+refused_told : (c : tie.In-Refused-2) → let p = refused_call c in
+    refused c.reading-1.given.0.0.number c.reading-1.given.0.0.line ≡ reading (start p).args.from (input p) (sizes_of empty)
+refused_told c = sym (ap reply_of c.reading-1.given.1) ∙ (refused_call c).read-reading.ensures.0
 
-read_told : (c : tie.After-reading2) → let p = sheet_call c in let s = c.reading2.given.0.0 in
+read_told : (c : tie.In-Sheet-2) → let p = sheet_call c in let s = c.reading-in-Sheet-1.given.0.0 in
     read s.span s.units s.rules ≡ reading (start p).args.from (input p) (sizes_of empty)
-read_told c = sym (ap reply_of c.reading2.given.1) ∙ (sheet_call c).read.ensures.0
+read_told c = sym (ap reply_of c.reading-in-Sheet-1.given.1) ∙ (sheet_call c).read-reading.ensures.0
 
 refuse_requires : tie.Need-refuse-requires
 refuse_requires c κs =
@@ -57,13 +57,13 @@ refuse_requires c κs =
     let r = refused_small (start p).args.from (input p) empty sizes _ _ (refused_told d) in
     (omega (arith, r.0), omega (arith, r.1))
 
-convert_fronts_requires : tie.Need-convert-fronts-requires
+convert_fronts_requires : tie.Need-convert_fronts-requires
 convert_fronts_requires c κs =
     let d = c.before.before.before.before.before.before.before.before.before in
     let p = sheet_call d in
-    read_held (start p).args.from (input p) empty sizes d.reading2.given.0.0 (read_told d) (after p) p.read.ensures.1
+    read_held (start p).args.from (input p) empty sizes d.reading-in-Sheet-1.given.0.0 (read_told d) (after p) p.read-reading.ensures.1
 
-returns : tie.Need-returns
+returns : tie.Need-returns-in-Refused
 returns c =
     let d = c.before.before.before in
     let p = refused_call d in
@@ -71,22 +71,22 @@ returns c =
     let told = refused_converted a.from a.to (input p) empty sizes _ _ (refused_told d) in
     (c.refuse.ensures.0 ∙ told.0, c.refuse.ensures.1 ∙ ap (with_bytes a.page.now 0) told.1)
 
-returns-2 : tie.Need-returns-2
+returns-2 : tie.Need-returns-in-Sheet
 returns-2 c =
     let d = c.before.before.before.before.before.before.before.before.before.before in
     let p = sheet_call d in
     let a = (start p).args in
-    let told = read_converted a.from a.to (input p) empty sizes d.reading2.given.0.0 (read_told d) (after p) p.read.ensures.1 in
-    (c.convert-fronts.ensures.0 ∙ told.0, c.convert-fronts.ensures.1 ∙ ap (with_bytes a.page.now 0) told.1)
+    let told = read_converted a.from a.to (input p) empty sizes d.reading-in-Sheet-1.given.0.0 (read_told d) (after p) p.read-reading.ensures.1 in
+    (c.convert_fronts.ensures.0 ∙ told.0, c.convert_fronts.ensures.1 ∙ ap (with_bytes a.page.now 0) told.1)
 
 pub convert_spec : {M : Type 1} → statement M
 convert_spec = tie.close (tie.spec (λ c. refl) (λ c. refl) (λ c. refl) (λ c. refl) (λ c. refl) (λ c. refl) (λ c. refl) (λ c κs. tt)
-    (λ c. c.match.keys1) refuse_requires (λ c. c.match.keys2)
-    (λ c. sym (sheet_call c.before.before).read.auto.1.1.0)
-    (λ c. sym (sheet_call c.before.before.before).read.auto.1.1.1.0)
-    (λ c. sym (sheet_call c.before.before.before.before).read.auto.1.1.1.1.0)
-    (λ c. sym (sheet_call c.before.before.before.before.before).read.auto.1.1.1.1.1.0)
-    (λ c. sym (sheet_call c.before.before.before.before.before.before).read.auto.1.1.1.1.1.1.0)
-    (λ c. sym (sheet_call c.before.before.before.before.before.before.before).read.auto.1.1.1.1.1.1.1.0)
-    (λ c. sym (sheet_call c.before.before.before.before.before.before.before.before).read.auto.1.1.1.1.1.1.1.1.0)
+    (λ c. c.in-Refused.keys1) refuse_requires (λ c. c.in-Sheet.keys2)
+    (λ c. sym (sheet_call c.before.before).read-reading.auto.1.1.0)
+    (λ c. sym (sheet_call c.before.before.before).read-reading.auto.1.1.1.0)
+    (λ c. sym (sheet_call c.before.before.before.before).read-reading.auto.1.1.1.1.0)
+    (λ c. sym (sheet_call c.before.before.before.before.before).read-reading.auto.1.1.1.1.1.0)
+    (λ c. sym (sheet_call c.before.before.before.before.before.before).read-reading.auto.1.1.1.1.1.1.0)
+    (λ c. sym (sheet_call c.before.before.before.before.before.before.before).read-reading.auto.1.1.1.1.1.1.1.0)
+    (λ c. sym (sheet_call c.before.before.before.before.before.before.before.before).read-reading.auto.1.1.1.1.1.1.1.1.0)
     convert_fronts_requires returns returns-2)

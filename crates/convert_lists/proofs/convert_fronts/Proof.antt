@@ -28,34 +28,34 @@ text c = sheet_text c.args.house (written_by (lists c))
 abbrev lent : tie.After-ask-house-arg → tie.Start
 lent c = c.before.before.before.before.before.before.before.before
 
-abbrev start : tie.After-ask-house → tie.Start
+abbrev start : tie.After-ask_house-asked → tie.Start
 start c = lent c.before.before
 
 refuse_requires : tie.Need-refuse-requires
 refuse_requires c κs =
-    let d : tie.After-ask-house = c.before.before.before.before in
+    let d : tie.After-ask_house-asked = c.before.before.before.before in
     let s = start d in
-    house_small s.args.house (lists s) s.pre.passes _ d.ask-house.ensures _ _ (ap verdict_of c.before.before.asked.given.1)
+    house_small s.args.house (lists s) s.pre.passes _ d.ask_house-asked.ensures _ _ (ap verdict_of c.before.before.asked-1.given.1)
 
-returns : tie.Need-returns
+returns : tie.Need-returns-in-No
 returns c =
-    let d : tie.After-ask-house = c.before.before.before.before.before in
+    let d : tie.After-ask_house-asked = c.before.before.before.before.before in
     let s = start d in
-    let told = house_told s.args.house (lists s) s.pre.passes _ d.ask-house.ensures _ (ap verdict_of c.before.before.before.asked.given.1)
+    let told = house_told s.args.house (lists s) s.pre.passes _ d.ask_house-asked.ensures _ (ap verdict_of c.before.before.before.asked-1.given.1)
     (text s) in
     (c.refuse.ensures.0 ∙ told.0, c.refuse.ensures.1 ∙ ap (with_bytes s.args.page.now 0) told.1)
 
-returns-2 : tie.Need-returns-2
+returns-2 : tie.Need-returns-in-Yes
 returns-2 c =
-    let d : tie.After-ask-house = c.before.before.before.before in
+    let d : tie.After-ask_house-asked = c.before.before.before.before in
     let s = start d in
-    let told = house_told s.args.house (lists s) s.pre.passes _ d.ask-house.ensures _ (ap verdict_of c.before.before.enum_told.given.1)
+    let told = house_told s.args.house (lists s) s.pre.passes _ d.ask_house-asked.ensures _ (ap verdict_of c.before.before.enum_told-1.given.1)
     (text s) in
-    let w = c.put-fronts.ensures in
-    let past : c.put-fronts.result ≡ length (text s) = omega (arith, w.moved) in
+    let w = c.put_fronts-next.ensures in
+    let past : c.put_fronts-next.result ≡ length (text s) = omega (arith, w.moved) in
     (ap sheet past ∙ told.0, w.filled ∙ ap (with_bytes s.args.page.now 0) told.1)
 
 pub convert_fronts_spec : {M : Type 1} → statement M
 convert_fronts_spec = tie.close (tie.spec (λ c. sym (length-take-le _ _ (lent c).requires.long.in_last))
-    (λ c. sym (length-take-le _ _ (lent c.before).requires.long.in_low)) (λ c κs. tt) (λ c. c.match.keys1) refuse_requires (λ c. c.match.keys2)
+    (λ c. sym (length-take-le _ _ (lent c.before).requires.long.in_low)) (λ c κs. tt) (λ c. c.in-No.keys1) refuse_requires (λ c. c.in-Yes.keys2)
     (λ c κs. (start c.before.before.before).requires) returns returns-2)

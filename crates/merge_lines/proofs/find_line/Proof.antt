@@ -15,43 +15,43 @@ use Rattle.merge_lines.proofs.find_line.Statement.{statement}
 use Rattle.merge_lines.proofs.find_line.Tie as tie
 
 -- the places: the function's start, and both texts joined
-abbrev start : tie.After-join → tie.Start
+abbrev start : tie.After-join-joined → tie.Start
 start c = c.before.before.before.before.before.before.before.before.before.before
 
-abbrev joined : tie.After-highs2 → tie.After-join
+abbrev joined : tie.After-highs-2-1 → tie.After-join-joined
 joined c = c.before.before.before.before.before.before.before
 
-abbrev told : tie.After-known-told2 → tie.After-join
+abbrev told : tie.In-Sheet → tie.After-join-joined
 told c = joined c.before.before.before
 
 -- of a merged sheet: its numbers, and that its loader numbers stand at the front of their array
-abbrev sheet : tie.After-known-told2 → Sheet
-sheet c = c.before.joined2.given.0.0
+abbrev sheet : tie.In-Sheet → Sheet
+sheet c = c.before.joined-in-Sheet-1.given.0.0
 
-abbrev arrays : tie.After-join → ListRooms (List ℕ)
+abbrev arrays : tie.After-join-joined → ListRooms (List ℕ)
 arrays c =
-    let k = c.join.new.1.1 in
+    let k = c.join-joined.new.1.1 in
     rooms k.0 k.1.0 k.1.1.0 k.1.1.1.0 k.1.1.1.1.0 k.1.1.1.1.1.0 k.1.1.1.1.1.1.0
 
-left : (c : tie.After-known-told2) → let a = (start (told c)).args in MergedAtFront (sheet c) a.one.now a.two.now (arrays (told c))
-left c = left_of _ _ _ _ _ c.before.joined2.given.1 (told c).join.ensures.1.1
+left : (c : tie.In-Sheet) → let a = (start (told c)).args in MergedAtFront (sheet c) a.one.now a.two.now (arrays (told c))
+left c = left_of _ _ _ _ _ c.before.joined-in-Sheet-1.given.1 (told c).join-joined.ensures.1.1
 
-returns : tie.Need-returns
+returns : tie.Need-returns-in-Refused
 returns c =
     let j = joined c.before.before.before in
     let a = (start j).args in
-    let is = c.before.joined.given.1 in
-    found_refused a.one.now a.two.now a.loader _ _ (sym (ap joined_reply is) ∙ j.join.ensures.0)
-    (sym (ap joined_blame is) ∙ j.join.ensures.1.0)
+    let is = c.before.joined-1.given.1 in
+    found_refused a.one.now a.two.now a.loader _ _ (sym (ap joined_reply is) ∙ j.join-joined.ensures.0)
+    (sym (ap joined_blame is) ∙ j.join-joined.ensures.1.0)
 
-returns-2 : tie.Need-returns-2
+returns-2 : tie.Need-returns-in-Sheet
 returns-2 c =
     let p = c.before in
     let d = p.before.before in
     let j = told d in
     let a = (start j).args in
-    c.locate.ensures ∙ ap (located_at a.one.now a.two.now) p.place_of.ensures
-    ∙ found_located a.one.now a.two.now a.loader _ _ _ (sym (ap joined_reply d.before.joined2.given.1) ∙ j.join.ensures.0)
+    c.locate.ensures ∙ ap (located_at a.one.now a.two.now) p.place_of-i.ensures
+    ∙ found_located a.one.now a.two.now a.loader _ _ _ (sym (ap joined_reply d.before.joined-in-Sheet-1.given.1) ∙ j.join-joined.ensures.0)
     _ (ap (λ (m : ListRooms (List ℕ)). m.loader) (left d).fronts)
 
 pub find_line_spec : {M : Type 1} → statement M

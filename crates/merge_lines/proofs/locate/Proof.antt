@@ -5,24 +5,24 @@ use Rattle.merge_lines.specs.Lines.{in_second, in_either}
 use Rattle.merge_lines.proofs.locate.Statement.{statement}
 use Rattle.merge_lines.proofs.locate.Tie as tie
 
-returns : tie.Need-returns
+returns : tie.Need-returns-in-At
 returns c =
     let s = c.before.before.before in
-    ap (in_either s.before.before.before.args.two.now) (sym c.before.first.given.1 ∙ s.seek.ensures)
+    ap (in_either s.before.before.before.args.two.now) (sym c.before.first-1.given.1 ∙ s.seek-first.ensures)
 
-returns-2 : tie.Need-returns-2
+returns-2 : tie.Need-returns-in-At-second
 returns-2 c =
     let t = c.before.before.before in
     let s = t.before.before.before.before in
-    ap in_second (sym c.before.second.given.1 ∙ t.seek2.ensures)
-    ∙ ap (in_either s.before.before.before.args.two.now) (sym t.before.before.first2.given.1 ∙ s.seek.ensures)
+    ap in_second (sym c.before.second-1.given.1 ∙ t.seek-second.ensures)
+    ∙ ap (in_either s.before.before.before.args.two.now) (sym t.before.before.first-in-Past-1.given.1 ∙ s.seek-first.ensures)
 
-returns-3 : tie.Need-returns-3
+returns-3 : tie.Need-returns-in-Past-second
 returns-3 c =
     let t = c.before.before in
     let s = t.before.before.before.before in
-    ap in_second (sym c.enum_told.given.1 ∙ t.seek2.ensures)
-    ∙ ap (in_either s.before.before.before.args.two.now) (sym t.before.before.first2.given.1 ∙ s.seek.ensures)
+    ap in_second (sym c.enum_told-1.given.1 ∙ t.seek-second.ensures)
+    ∙ ap (in_either s.before.before.before.args.two.now) (sym t.before.before.first-in-Past-1.given.1 ∙ s.seek-first.ensures)
 
 pub locate_spec : {M : Type 1} → statement M
 locate_spec = tie.close (tie.spec (λ c κs. tt) (λ c. search rules) (λ c. search rules) (λ c κs. tt) (λ c. search rules) (λ c. search rules)

@@ -20,85 +20,85 @@ use Rattle.merge_text.proofs.merge_text.Statement.{statement}
 use Rattle.merge_text.proofs.merge_text.Tie as tie
 
 -- from what came of both texts back to the call, and to the start
-abbrev refused_call : tie.After-joined → tie.After-join
+abbrev refused_call : tie.In-Refused-2 → tie.After-join-joined
 refused_call c = c.before.before.before.before.before.before.before.before.before
 
-abbrev sheet_call : tie.After-joined2 → tie.After-join
+abbrev sheet_call : tie.In-Sheet-2 → tie.After-join-joined
 sheet_call c = c.before.before.before.before.before.before.before.before.before
 
-abbrev start : tie.After-join → tie.Start
+abbrev start : tie.After-join-joined → tie.Start
 start c = c.before.before.before.before.before.before.before.before.before.before
 
-abbrev one : tie.After-join → List ℕ
+abbrev one : tie.After-join-joined → List ℕ
 one c = (start c).args.one.now
 
-abbrev two : tie.After-join → List ℕ
+abbrev two : tie.After-join-joined → List ℕ
 two c = (start c).args.two.now
 
 -- the lists as the call left them
-abbrev after : tie.After-join → ListRooms (List ℕ)
+abbrev after : tie.After-join-joined → ListRooms (List ℕ)
 after c =
-    let k = c.join.new.1.1 in
+    let k = c.join-joined.new.1.1 in
     rooms k.0 k.1.0 k.1.1.0 k.1.1.1.0 k.1.1.1.1.0 k.1.1.1.1.1.0 k.1.1.1.1.1.1.0
 
-refused_told : (c : tie.After-joined) → let f = c.joined.given.0.0 in let p = refused_call c in
+refused_told : (c : tie.In-Refused-2) → let f = c.joined-1.given.0.0 in let p = refused_call c in
     refused f.number f.line ≡ join_reply (one p) (two p)
-refused_told c = sym (ap joined_reply c.joined.given.1) ∙ (refused_call c).join.ensures.0
+refused_told c = sym (ap joined_reply c.joined-1.given.1) ∙ (refused_call c).join-joined.ensures.0
 
-read_told : (c : tie.After-joined2) → let s = c.joined2.given.0.0 in let p = sheet_call c in
+read_told : (c : tie.In-Sheet-2) → let s = c.joined-in-Sheet-1.given.0.0 in let p = sheet_call c in
     read s.span s.units s.rules ≡ join_reply (one p) (two p)
-read_told c = sym (ap joined_reply c.joined2.given.1) ∙ (sheet_call c).join.ensures.0
+read_told c = sym (ap joined_reply c.joined-in-Sheet-1.given.1) ∙ (sheet_call c).join-joined.ensures.0
 
-at_front : (c : tie.After-joined2) → let p = sheet_call c in MergedAtFront c.joined2.given.0.0 (one p) (two p) (after p)
+at_front : (c : tie.In-Sheet-2) → let p = sheet_call c in MergedAtFront c.joined-in-Sheet-1.given.0.0 (one p) (two p) (after p)
 at_front c =
     let p = sheet_call c in
-    left_of _ _ _ _ _ c.joined2.given.1 p.join.ensures.1.1
+    left_of _ _ _ _ _ c.joined-in-Sheet-1.given.1 p.join-joined.ensures.1.1
 
-put_refused_requires : tie.Need-put-refused-requires
+put_refused_requires : tie.Need-put_refused-next-requires
 put_refused_requires c κs =
     let d = c.before.before in
     let p = refused_call d in
     let r = refusal_small (one p) (two p) _ _ (refused_told d) in
     (omega (arith, r.0), omega (arith, r.1))
 
-put_fronts_requires : tie.Need-put-fronts-requires
+put_fronts_requires : tie.Need-put_fronts-next-requires
 put_fronts_requires c κs =
     let d = c.before.before.before.before.before.before.before.before.before in
     let p = sheet_call d in
-    sheet_held (one p) (two p) d.joined2.given.0.0 (after p) (read_told d) (at_front d)
+    sheet_held (one p) (two p) d.joined-in-Sheet-1.given.0.0 (after p) (read_told d) (at_front d)
 
-returns : tie.Need-returns
+returns : tie.Need-returns-in-Refused
 returns c =
     let d = c.before.before.before in
     let p = refused_call d in
-    let f = d.joined.given.0.0 in
+    let f = d.joined-1.given.0.0 in
     let told = refusal_told (one p) (two p) f.number f.line (refused_told d) in
     let w = c.Put-refused.ensures in
     let past : c.Put-refused.result ≡ length (refused_line f.number f.line) = omega (arith, w.moved) in (
       ap (says.refused f.number f.line) past ∙ told.0,
-      (sym (ap joined_blame d.joined.given.1) ∙ p.join.ensures.1.0, w.filled ∙ ap (with_bytes (start p).args.page.now 0) told.1),
+      (sym (ap joined_blame d.joined-1.given.1) ∙ p.join-joined.ensures.1.0, w.filled ∙ ap (with_bytes (start p).args.page.now 0) told.1),
     )
 
-returns-2 : tie.Need-returns-2
+returns-2 : tie.Need-returns-in-Sheet
 returns-2 c =
     let d = c.before.before.before.before.before.before.before.before.before.before in
     let p = sheet_call d in
-    let s = d.joined2.given.0.0 in
+    let s = d.joined-in-Sheet-1.given.0.0 in
     let told = sheet_told (one p) (two p) s (after p) (read_told d) (at_front d) in
-    let w = c.put-fronts.ensures in
-    let past : c.put-fronts.result ≡ length (sheet_text Ours (written_by (fronts s (after p)))) = omega (arith, w.moved) in (
+    let w = c.put_fronts-next.ensures in
+    let past : c.put_fronts-next.result ≡ length (sheet_text Ours (written_by (fronts s (after p)))) = omega (arith, w.moved) in (
       ap says.sheet past ∙ told.0,
-      (sym (ap joined_blame d.joined2.given.1) ∙ p.join.ensures.1.0, w.filled ∙ ap (with_bytes (start p).args.page.now 0) told.1),
+      (sym (ap joined_blame d.joined-in-Sheet-1.given.1) ∙ p.join-joined.ensures.1.0, w.filled ∙ ap (with_bytes (start p).args.page.now 0) told.1),
     )
 
 pub merge_text_spec : {M : Type 1} → statement M
 merge_text_spec = tie.close (tie.spec (λ c. refl) (λ c. refl) (λ c. refl) (λ c. refl) (λ c. refl) (λ c. refl) (λ c. refl) (λ c κs. search rules)
-    (λ c. c.match.keys1) put_refused_requires (λ c. c.match.keys2)
-    (λ c. sym (sheet_call c.before.before).join.auto.1.1.0)
-    (λ c. sym (sheet_call c.before.before.before).join.auto.1.1.1.0)
-    (λ c. sym (sheet_call c.before.before.before.before).join.auto.1.1.1.1.0)
-    (λ c. sym (sheet_call c.before.before.before.before.before).join.auto.1.1.1.1.1.0)
-    (λ c. sym (sheet_call c.before.before.before.before.before.before).join.auto.1.1.1.1.1.1.0)
-    (λ c. sym (sheet_call c.before.before.before.before.before.before.before).join.auto.1.1.1.1.1.1.1.0)
-    (λ c. sym (sheet_call c.before.before.before.before.before.before.before.before).join.auto.1.1.1.1.1.1.1.1.0)
+    (λ c. c.in-Refused.keys1) put_refused_requires (λ c. c.in-Sheet.keys2)
+    (λ c. sym (sheet_call c.before.before).join-joined.auto.1.1.0)
+    (λ c. sym (sheet_call c.before.before.before).join-joined.auto.1.1.1.0)
+    (λ c. sym (sheet_call c.before.before.before.before).join-joined.auto.1.1.1.1.0)
+    (λ c. sym (sheet_call c.before.before.before.before.before).join-joined.auto.1.1.1.1.1.0)
+    (λ c. sym (sheet_call c.before.before.before.before.before.before).join-joined.auto.1.1.1.1.1.1.0)
+    (λ c. sym (sheet_call c.before.before.before.before.before.before.before).join-joined.auto.1.1.1.1.1.1.1.0)
+    (λ c. sym (sheet_call c.before.before.before.before.before.before.before.before).join-joined.auto.1.1.1.1.1.1.1.1.0)
     put_fronts_requires returns returns-2)

@@ -16,20 +16,20 @@ inside c = omega (arith, row_inside c.args.k c.args.w c.requires.2, c.requires.1
 
 -- ---- once row k is copied
 abbrev start : tie.After-copy_row → tie.Start
-start c = c.before.before.before.before
+start c = c.before.before.before
 
-copied : (c : tie.After-copy_row) → let a = (start c).args in Copied a.w a.k a.d.now (take a.w c.copy_row.new.1.0)
+copied : (c : tie.After-copy_row) → let a = (start c).args in Copied a.w a.k a.d.now (take a.w c.copy_row.new.out)
 copied c =
     let st = start c in
     let w = st.args.w in
     let k = st.args.k in
     let h = inside st in
-    row_copied w k (k * w + w - k * w) st.args.d.now st.args.levels.now c.copy_row.new.1.0 _
+    row_copied w k (k * w + w - k * w) st.args.d.now st.args.levels.now c.copy_row.new.out _
     (omega arith) (omega arith) (omega arith) c.copy_row.ensures st.requires.3
 
 make_level_requires : tie.Need-make_level-requires
 make_level_requires c κs =
-    let row : tie.After-copy_row = c.before.before.before in
+    let row : tie.After-copy_row = c.before.before in
     let st = start row in
     let w = st.args.w in
     let to = st.args.k * w + w in
@@ -39,15 +39,15 @@ make_level_requires c κs =
 
 returns : tie.Need-returns
 returns c =
-    let row : tie.After-copy_row = c.before.before.before.before.before in
+    let row : tie.After-copy_row = c.before.before.before.before in
     let st = start row in
     let w = st.args.w in
     let to = st.args.k * w + w in
-    rows_next (copied row) (to + w - to) st.args.levels.now c.before.make_level.new.1.1.1.0 st.requires.3 (omega arith)
-    (omega (arith, inside st)) c.before.make_level.ensures
+    rows_next (copied row) (to + w - to) st.args.levels.now c.make_level.new.row st.requires.3 (omega arith)
+    (omega (arith, inside st)) c.make_level.ensures
 
 pub add_level_spec : {M : Type 1} → statement M
 add_level_spec = tie.close (tie.spec (λ c. omega (arith, inside c)) (λ c. omega (arith, inside c)) (λ c. omega (arith, inside c)) (λ c. search rules)
-    (λ c. search rules) (λ c. omega (arith, inside c.before)) (λ c κs. search rules) (λ c. omega (arith, inside (start c.before))) (λ c. search rules)
-    (λ c. sym (copied c.before.before).long) (λ c. omega (arith, inside (start c.before.before))) (λ c. search rules) (λ c. search rules)
-    (λ c. omega (arith, inside (start c.before.before))) make_level_requires (λ c. search rules) (λ c. search rules) returns)
+    (λ c. search rules) (λ c. omega (arith, inside c)) (λ c κs. search rules) (λ c. omega (arith, inside (start c.before))) (λ c. search rules)
+    (λ c. sym (copied c.before).long) (λ c. omega (arith, inside (start c.before))) (λ c. search rules) (λ c. search rules)
+    (λ c. omega (arith, inside (start c.before))) make_level_requires (λ c. search rules) (λ c. search rules) returns)

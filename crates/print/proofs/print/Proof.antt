@@ -17,53 +17,53 @@ lists c =
 abbrev before : tie.Start → Rooms
 before c =
     let a = c.args in
-    lent a.table.now a.plan.now a.earliest.now a.latest.now a.ring.now
+    lent a.table-1.now a.plan-1.now a.earliest-1.now a.latest-1.now a.ring-1.now
 
 -- back to the start, from the questions' answer
-abbrev start : tie.After-ask → tie.Start
+abbrev start : tie.After-ask-asked → tie.Start
 start c =
     c.before.before.before.before.before.before.before.before.before.before.before.before.before.before.before.before.before.before.before
 
 -- which is that of the rooms' own lengths
-verdict : (c : tie.After-ask) (v : Verdict) → verdict_of c.ask.result ≡ v → refusal (lists (start c)) (before (start c)) ≡ v
-verdict c v = asked_of (lists (start c)) _ (plan_lent (before (start c))) _ v c.ask.ensures c.before.for-plan.ensures
+verdict : (c : tie.After-ask-asked) (v : Verdict) → verdict_of c.ask-asked.result ≡ v → refusal (lists (start c)) (before (start c)) ≡ v
+verdict c v = asked_of (lists (start c)) _ (plan_lent (before (start c))) _ v c.ask-asked.ensures c.before.for_plan-rooms.ensures
 
 -- where the answer was yes
-abbrev asked : tie.After-enum-told → tie.Start
+abbrev asked : tie.In-Yes → tie.Start
 asked c = start c.before.before
 
-yes : (c : tie.After-enum-told) → refusal (lists (asked c)) (before (asked c)) ≡ all_yes
-yes c = verdict c.before.before all_yes (ap verdict_of c.enum_told.given.1)
+yes : (c : tie.In-Yes) → refusal (lists (asked c)) (before (asked c)) ≡ all_yes
+yes c = verdict c.before.before all_yes (ap verdict_of c.enum_told-1.given.1)
 
-print_solved_requires : tie.Need-print-solved-requires
+print_solved_requires : tie.Need-print_solved-requires
 print_solved_requires c κs =
-    let p : tie.After-enum-told = c.before.before.before.before.before.before in
+    let p : tie.In-Yes = c.before.before.before.before.before.before in
     let s = asked p in
     let l = lists s in
     (asked_yes l _ (yes p), ((asked_lists l _ (yes p)).loaders, (asked_lists l _ (yes p)).as_many))
 
-returns : tie.Need-returns
+returns : tie.Need-returns-in-No
 returns c =
-    let d : tie.After-ask = c.before.before.before in
-    let f = c.before.asked.given in
+    let d : tie.After-ask-asked = c.before.before.before in
+    let f = c.before.asked-1.given in
     let s = start d in
     refused_printed (lists s) (before s) s.args.page.now s.args.at f.0.0.number f.0.0.line (verdict d _ (ap verdict_of f.1))
 
-returns-2 : tie.Need-returns-2
+returns-2 : tie.Need-returns-in-Yes
 returns-2 c =
     let printed = c.before.before.before.before.before.before.before.before.before.before.before in
-    let p : tie.After-enum-told = printed.before.before.before.before.before.before.before in
+    let p : tie.In-Yes = printed.before.before.before.before.before.before.before in
     let s = asked p in
-    solved_printed (lists s) (before s) s.args.page.now s.args.at (yes p) _ _ _ printed.print-solved.ensures
+    solved_printed (lists s) (before s) s.args.page.now s.args.at (yes p) _ _ _ printed.print_solved.ensures
 
 pub print_spec : {M : Type 1} → statement M
-print_spec = tie.close (tie.spec (λ c κs. tt) (λ c κs. tt) (λ c. c.match.keys1) (λ c. c.match.keys2) print_solved_requires
+print_spec = tie.close (tie.spec (λ c κs. tt) (λ c κs. tt) (λ c. c.in-No.keys1) (λ c. c.in-Yes.keys2) print_solved_requires
     (λ c. refl) (λ c. refl) (λ c. refl) (λ c. refl) (λ c. refl) returns
-    (λ c. c.before.before.before.before.before.before.before.before.before.before.before.print-solved.auto.1.1.1.1.1.1.1.1.0)
-    (λ c. c.before.before.before.before.before.before.before.before.before.before.before.print-solved.auto.1.1.1.1.1.1.1.1.1.0)
-    (λ c. c.before.before.before.before.before.before.before.before.before.before.before.print-solved.auto.1.1.1.1.1.1.1.1.1.1.0)
-    (λ c. c.before.before.before.before.before.before.before.before.before.before.before.print-solved.auto.1.1.1.1.1.1.1.1.1.1.1.0)
-    (λ c. c.before.before.before.before.before.before.before.before.before.before.before.print-solved.auto.1.1.1.1.1.1.1.1.1.1.1.1.0)
+    (λ c. c.before.before.before.before.before.before.before.before.before.before.before.print_solved.auto.1.1.1.1.1.1.1.1.0)
+    (λ c. c.before.before.before.before.before.before.before.before.before.before.before.print_solved.auto.1.1.1.1.1.1.1.1.1.0)
+    (λ c. c.before.before.before.before.before.before.before.before.before.before.before.print_solved.auto.1.1.1.1.1.1.1.1.1.1.0)
+    (λ c. c.before.before.before.before.before.before.before.before.before.before.before.print_solved.auto.1.1.1.1.1.1.1.1.1.1.1.0)
+    (λ c. c.before.before.before.before.before.before.before.before.before.before.before.print_solved.auto.1.1.1.1.1.1.1.1.1.1.1.1.0)
     (λ c.
-    c.before.before.before.before.before.before.before.before.before.before.before.print-solved.auto.1.1.1.1.1.1.1.1.1.1.1.1.1.0)
+    c.before.before.before.before.before.before.before.before.before.before.before.print_solved.auto.1.1.1.1.1.1.1.1.1.1.1.1.1.0)
     returns-2)

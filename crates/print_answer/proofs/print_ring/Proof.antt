@@ -16,46 +16,46 @@ abbrev bytes : tie.Start → List ℕ
 bytes c = none_page (entry c.args.w c.args.limits.now) c.args.found.now
 
 -- back to the start, from where the answer stands in the call's own array
-abbrev start : tie.After-put-none → tie.Start
+abbrev start : tie.After-put_none-length → tie.Start
 start c = c.before.before.before.before.before
 
 -- the front of that array is the answer
-module _ (c : tie.After-put-none) where
-  part : take c.put-none.result c.put-none.new.0 ≡ bytes (start c)
-  part = own_part max_ring_page (start c).requires.1.1 c.put-none.ensures
+module _ (c : tie.After-put_none-length) where
+  part : take c.put_none-length.result c.put_none-length.new.0 ≡ bytes (start c)
+  part = own_part max_ring_page (start c).requires.1.1 c.put_none-length.ensures
 
-  long : c.put-none.result ≤ length c.put-none.new.0
-  long = own_long max_ring_page (start c).requires.1.1 c.put-none.ensures
+  long : c.put_none-length.result ≤ length c.put_none-length.new.0
+  long = own_long max_ring_page (start c).requires.1.1 c.put_none-length.ensures
 
-  size : c.put-none.result ≡ length (bytes (start c))
-  size = own_size max_ring_page (start c).requires.1.1 c.put-none.ensures
+  size : c.put_none-length.result ≡ length (bytes (start c))
+  size = own_size max_ring_page (start c).requires.1.1 c.put_none-length.ensures
 
-write_requires : tie.Need-write-requires
+write_requires : tie.Need-write-next-requires
 write_requires c κs =
-    let p : tie.Then1 = c.before.before.before.before.before.before.before.before.before in
+    let p : tie.Then-holds = c.before.before.before.before.before.before.before.before.before in
     let o = c.before.before.before.before.before.before.before.before.before.before.before.before in
     let a = (start o).args in
-    rw (part o) (room a.page.now a.at (bytes (start o)) o.put-none.result (size o) p.before.holds.result p.before.holds.ensures
-    p.if1.true)
+    rw (part o) (room a.page-1.now a.at (bytes (start o)) o.put_none-length.result (size o) p.before.holds.result p.before.holds.ensures
+    p.if-holds.true)
 
-returns : tie.Need-returns
+returns : tie.Need-returns-then-holds
 returns c =
-    let p : tie.Then1 = c.before.before.before.before.before.before.before.before.before.before.before.before in
+    let p : tie.Then-holds = c.before.before.before.before.before.before.before.before.before.before.before.before in
     let o = c.before.before.before.before.before.before.before.before.before.before.before.before.before.before.before in
     let a = (start o).args in
-    asked_yes a.page.now a.at (bytes (start o)) o.put-none.result (size o) p.before.holds.result p.before.holds.ensures _ _ _ _ _ _
-    p.if1.true c.before.before.write.result (rw (part o) at c.before.before.write.ensures) refl
+    asked_yes a.page-1.now a.at (bytes (start o)) o.put_none-length.result (size o) p.before.holds.result p.before.holds.ensures _ _ _ _ _ _
+    p.if-holds.true c.before.before.write-next.result (rw (part o) at c.before.before.write-next.ensures) refl
     (rw (
       c.before.before.before.before.before.before.before.before.before.before.clear.ensures,
-      c.before.before.before.before.before.before.before.copy-list.ensures,
+      c.before.before.before.before.before.before.before.copy_list.ensures,
     ) refl)
 
-returns-2 : tie.Need-returns-2
+returns-2 : tie.Need-returns-else-holds
 returns-2 c =
     let o = c.before.before.before in
     let a = (start o).args in
-    asked_no a.page.now a.at (bytes (start o)) o.put-none.result (size o) c.before.holds.result c.before.holds.ensures _ _ _ _ _ _
-    c.if1.false refl refl refl
+    asked_no a.page-1.now a.at (bytes (start o)) o.put_none-length.result (size o) c.before.holds.result c.before.holds.ensures _ _ _ _ _ _
+    c.if-holds.false refl refl refl
 
 pub print_ring_spec : {M : Type 1} → statement M
 print_ring_spec = tie.close (tie.spec (λ c. refl)
@@ -65,4 +65,4 @@ print_ring_spec = tie.close (tie.spec (λ c. refl)
     (λ c. long c.before.before.before.before.before.before.before.before.before.before.before)
     (λ c. sym (length-take-le _ _ (long c.before.before.before.before.before.before.before.before.before.before.before.before))) write_requires
     (λ c. c.before.before.before.before.before.before.before.before.before.before.clear.auto.1.0)
-    (λ c. c.before.before.before.before.before.before.before.copy-list.auto.1.0) (λ c. c.before.before.write.auto.0) returns returns-2)
+    (λ c. c.before.before.before.before.before.before.before.copy_list.auto.1.0) (λ c. c.before.before.write-next.auto.0) returns returns-2)

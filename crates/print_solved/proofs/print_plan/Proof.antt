@@ -14,44 +14,44 @@ abbrev bytes : tie.Start → List ℕ
 bytes c = let a = c.args in table_page a.span a.loader.now a.seats.now a.firsts.now a.lasts.now a.closed.now
 
 -- back to the start, from where the answer stands in the call's own array
-abbrev start : tie.After-put-plan → tie.Start
+abbrev start : tie.After-put_plan-length → tie.Start
 start c = c.before.before.before.before.before.before.before.before.before.before
 
 -- the front of that array is the answer
-module _ (c : tie.After-put-plan) where
-  part : take c.put-plan.result c.put-plan.new.0 ≡ bytes (start c)
-  part = own_part max_page (start c).requires.1.1 c.put-plan.ensures
+module _ (c : tie.After-put_plan-length) where
+  part : take c.put_plan-length.result c.put_plan-length.new.0 ≡ bytes (start c)
+  part = own_part max_page (start c).requires.1.1 c.put_plan-length.ensures
 
-  long : c.put-plan.result ≤ length c.put-plan.new.0
-  long = own_long max_page (start c).requires.1.1 c.put-plan.ensures
+  long : c.put_plan-length.result ≤ length c.put_plan-length.new.0
+  long = own_long max_page (start c).requires.1.1 c.put_plan-length.ensures
 
-  size : c.put-plan.result ≡ length (bytes (start c))
-  size = own_size max_page (start c).requires.1.1 c.put-plan.ensures
+  size : c.put_plan-length.result ≡ length (bytes (start c))
+  size = own_size max_page (start c).requires.1.1 c.put_plan-length.ensures
 
-write_requires : tie.Need-write-requires
+write_requires : tie.Need-write-next-requires
 write_requires c κs =
-    let p : tie.Then1 = c.before.before.before.before.before.before.before.before.before.before.before.before.before.before in
+    let p : tie.Then-holds = c.before.before.before.before.before.before.before.before.before.before.before.before.before.before in
     let o = p.before.before.before in
     let a = (start o).args in
-    rw (part o) (room a.page.now a.at (bytes (start o)) o.put-plan.result (size o) p.before.holds.result p.before.holds.ensures
-    p.if1.true)
+    rw (part o) (room a.page-1.now a.at (bytes (start o)) o.put_plan-length.result (size o) p.before.holds.result p.before.holds.ensures
+    p.if-holds.true)
 
-returns : tie.Need-returns
+returns : tie.Need-returns-then-holds
 returns c =
-    let p : tie.Then1 =
+    let p : tie.Then-holds =
     c.before.before.before.before.before.before.before.before.before.before.before.before.before.before.before.before.before in
     let o = p.before.before.before in
     let a = (start o).args in
-    let k = c.before.before.before.before.before.before.before.before.before.before.before.before.keep-plan.ensures in
-    asked_yes a.page.now a.at (bytes (start o)) o.put-plan.result (size o) p.before.holds.result p.before.holds.ensures _ _ _ _ _ _
-    p.if1.true c.before.before.write.result (rw (part o) at c.before.before.write.ensures) refl (rw (k.0, k.1, k.2, k.3) refl)
+    let k = c.before.before.before.before.before.before.before.before.before.before.before.before.keep_plan.ensures in
+    asked_yes a.page-1.now a.at (bytes (start o)) o.put_plan-length.result (size o) p.before.holds.result p.before.holds.ensures _ _ _ _ _ _
+    p.if-holds.true c.before.before.write-next.result (rw (part o) at c.before.before.write-next.ensures) refl (rw (k.0, k.1, k.2, k.3) refl)
 
-returns-2 : tie.Need-returns-2
+returns-2 : tie.Need-returns-else-holds
 returns-2 c =
     let o = c.before.before.before in
     let a = (start o).args in
-    asked_no a.page.now a.at (bytes (start o)) o.put-plan.result (size o) c.before.holds.result c.before.holds.ensures _ _ _ _ _ _
-    c.if1.false refl refl refl
+    asked_no a.page-1.now a.at (bytes (start o)) o.put_plan-length.result (size o) c.before.holds.result c.before.holds.ensures _ _ _ _ _ _
+    c.if-holds.false refl refl refl
 
 pub print_plan_spec : {M : Type 1} → statement M
 print_plan_spec = tie.close (tie.spec (λ c. refl) (λ c κs. let s = c.before.before.before.before.before.before.before.before.before in
@@ -63,8 +63,8 @@ print_plan_spec = tie.close (tie.spec (λ c. refl) (λ c κs. let s = c.before.b
     (λ c. sym (length-take-le _ _ (long
     c.before.before.before.before.before.before.before.before.before.before.before.before.before.before.before.before.before)))
     write_requires
-    (λ c. c.before.before.before.before.before.before.before.before.before.before.before.before.keep-plan.auto.1.1.1.1.0)
-    (λ c. c.before.before.before.before.before.before.before.before.before.before.before.before.keep-plan.auto.1.1.1.1.1.0)
-    (λ c. c.before.before.before.before.before.before.before.before.before.before.before.before.keep-plan.auto.1.1.1.1.1.1.0)
-    (λ c. c.before.before.before.before.before.before.before.before.before.before.before.before.keep-plan.auto.1.1.1.1.1.1.1.0)
-    (λ c. c.before.before.write.auto.0) returns returns-2)
+    (λ c. c.before.before.before.before.before.before.before.before.before.before.before.before.keep_plan.auto.1.1.1.1.0)
+    (λ c. c.before.before.before.before.before.before.before.before.before.before.before.before.keep_plan.auto.1.1.1.1.1.0)
+    (λ c. c.before.before.before.before.before.before.before.before.before.before.before.before.keep_plan.auto.1.1.1.1.1.1.0)
+    (λ c. c.before.before.before.before.before.before.before.before.before.before.before.before.keep_plan.auto.1.1.1.1.1.1.1.0)
+    (λ c. c.before.before.write-next.auto.0) returns returns-2)

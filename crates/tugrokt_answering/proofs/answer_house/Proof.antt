@@ -15,48 +15,48 @@ use Rattle.tugrokt_answering.proofs.answer_house.Statement.{statement}
 use Rattle.tugrokt_answering.proofs.answer_house.Tie as tie
 
 -- back to the start, from where the answer stands in the call's own array
-abbrev start : tie.After-answer → tie.Start
+abbrev start : tie.After-answer-length → tie.Start
 start c = c.before.before.before.before
 
 -- the answer is the front of that array
-module _ (c : tie.After-answer) where
+module _ (c : tie.After-answer-length) where
   abbrev bytes : List ℕ
-  bytes = c.answer.ensures.bytes
+  bytes = c.answer-length.ensures.bytes
 
   short : length bytes ≤ max_page
-  short = omega (arith, c.answer.ensures.written.moved, answer_short _ _ _ _ _ _ c.answer.ensures (length-replicate {A = ℕ} max_page 0))
+  short = omega (arith, c.answer-length.ensures.written.moved, answer_short _ _ _ _ _ _ c.answer-length.ensures (length-replicate {A = ℕ} max_page 0))
 
-  part : take c.answer.result c.answer.new.1.1.1.0 ≡ bytes
-  part = own_part max_page short c.answer.ensures.written
+  part : take c.answer-length.result c.answer-length.new.1.1.1.0 ≡ bytes
+  part = own_part max_page short c.answer-length.ensures.written
 
-  long : c.answer.result ≤ length c.answer.new.1.1.1.0
-  long = own_long max_page short c.answer.ensures.written
+  long : c.answer-length.result ≤ length c.answer-length.new.1.1.1.0
+  long = own_long max_page short c.answer-length.ensures.written
 
-  size : c.answer.result ≡ length bytes
-  size = own_size max_page short c.answer.ensures.written
+  size : c.answer-length.result ≡ length bytes
+  size = own_size max_page short c.answer-length.ensures.written
 
-write_requires : tie.Need-write-requires
+write_requires : tie.Need-write-next-requires
 write_requires c κs =
-    let p : tie.Then1 = c.before.before in
-    let o : tie.After-answer = p.before.before in
+    let p : tie.Then-holds = c.before.before in
+    let o : tie.After-answer-length = p.before.before in
     let a = (start o).args in
-    rw (part o) (room a.page.now a.place (bytes o) _ (size o) _ p.before.holds.ensures p.if1.true)
+    rw (part o) (room a.page-1.now a.place (bytes o) _ (size o) _ p.before.holds.ensures p.if-holds.true)
 
-returns : tie.Need-returns
+returns : tie.Need-returns-then-holds
 returns c =
-    let p : tie.Then1 = c.before.before.before.before.before in
-    let o : tie.After-answer = p.before.before in
+    let p : tie.Then-holds = c.before.before.before.before.before in
+    let o : tie.After-answer-length = p.before.before in
     let a = (start o).args in
-    let h = held a.page.now a.place (bytes o) _ (size o) _ p.before.holds.ensures p.if1.true _ _
-    (rw (part o) at c.before.before.write.ensures) in
-    record { bytes = bytes o; answers = o.answer.ensures.answers; told = ap (writing_of a.place) h.0; page_left = h.1 }
+    let h = held a.page-1.now a.place (bytes o) _ (size o) _ p.before.holds.ensures p.if-holds.true _ _
+    (rw (part o) at c.before.before.write-next.ensures) in
+    record { bytes = bytes o; answers = o.answer-length.ensures.answers; told = ap (writing_of a.place) h.0; page_left = h.1 }
 
-returns-2 : tie.Need-returns-2
+returns-2 : tie.Need-returns-else-holds
 returns-2 c =
-    let o : tie.After-answer = c.before.before in
+    let o : tie.After-answer-length = c.before.before in
     let a = (start o).args in
-    let h = not_held a.page.now a.place (bytes o) _ (size o) _ c.before.holds.ensures c.if1.false in
-    record { bytes = bytes o; answers = o.answer.ensures.answers; told = ap (writing_of a.place) h.0; page_left = h.1 }
+    let h = not_held a.page-1.now a.place (bytes o) _ (size o) _ c.before.holds.ensures c.if-holds.false in
+    record { bytes = bytes o; answers = o.answer-length.ensures.answers; told = ap (writing_of a.place) h.0; page_left = h.1 }
 
 pub answer_house_spec : {M : Type 1} → statement M
 answer_house_spec = tie.close (tie.spec (λ c κs. search rules) (λ c κs. search rules)

@@ -19,5 +19,5 @@ found_rises : (one two : List ℕ) (k : ℕ) (found : LineFound) → found ≡ f
 found_rises one two k found e = subst Rises (sym e) (rises one two k (found_line one two k) (found_inside one two k))
 
 pub line_of_spec : {M : Type 1} → statement M
-line_of_spec = tie.close (tie.spec (λ c κs. tt) (λ c κs. found_rises _ _ _ _ c.find-line.ensures)
-    (λ c. record { told = c.Numbers-of.ensures ∙ ap line_of c.before.find-line.ensures }))
+line_of_spec = tie.close (tie.spec (λ c κs. tt) (λ c κs. found_rises _ _ _ _ c.find_line-found.ensures)
+    (λ c. record { told = c.Numbers-of.ensures ∙ ap line_of c.before.find_line-found.ensures }))

@@ -26,43 +26,43 @@ short : (c : tie.Start) → length (bytes c) ≤ max_text
 short c = listed_short (lists c) c.requires c.args.house
 
 -- back to the start, from where the text stands in the call's own array
-abbrev start : tie.After-put-sheet → tie.Start
+abbrev start : tie.After-put_sheet-length → tie.Start
 start c = c.before.before.before.before.before.before.before.before.before.before
 
 -- the front of that array is the text
-module _ (c : tie.After-put-sheet) where
-  part : take c.put-sheet.result c.put-sheet.new.1.0 ≡ bytes (start c)
-  part = own_part max_text (short (start c)) c.put-sheet.ensures
+module _ (c : tie.After-put_sheet-length) where
+  part : take c.put_sheet-length.result c.put_sheet-length.new.1.0 ≡ bytes (start c)
+  part = own_part max_text (short (start c)) c.put_sheet-length.ensures
 
-  long : c.put-sheet.result ≤ length c.put-sheet.new.1.0
-  long = own_long max_text (short (start c)) c.put-sheet.ensures
+  long : c.put_sheet-length.result ≤ length c.put_sheet-length.new.1.0
+  long = own_long max_text (short (start c)) c.put_sheet-length.ensures
 
-  size : c.put-sheet.result ≡ length (bytes (start c))
-  size = own_size max_text (short (start c)) c.put-sheet.ensures
+  size : c.put_sheet-length.result ≡ length (bytes (start c))
+  size = own_size max_text (short (start c)) c.put_sheet-length.ensures
 
-put_sheet_requires : tie.Need-put-sheet-requires
+put_sheet_requires : tie.Need-put_sheet-length-requires
 put_sheet_requires c κs = let s : tie.Start = c.before.before.before.before.before.before.before.before.before in (s.requires, own_room max_text (short s))
 
-write_requires : tie.Need-write-requires
+write_requires : tie.Need-write-next-requires
 write_requires c κs =
-    let p : tie.Then1 = c.before.before in
-    let o : tie.After-put-sheet = p.before.before.before in
+    let p : tie.Then-holds = c.before.before in
+    let o : tie.After-put_sheet-length = p.before.before.before in
     let a = (start o).args in
-    rw (part o) (room a.page.now a.at (bytes (start o)) _ (size o) _ p.before.holds.ensures p.if1.true)
+    rw (part o) (room a.page-1.now a.at (bytes (start o)) _ (size o) _ p.before.holds.ensures p.if-holds.true)
 
-returns : tie.Need-returns
+returns : tie.Need-returns-then-holds
 returns c =
-    let p : tie.Then1 = c.before.before.before.before.before in
-    let o : tie.After-put-sheet = p.before.before.before in
+    let p : tie.Then-holds = c.before.before.before.before.before in
+    let o : tie.After-put_sheet-length = p.before.before.before in
     let a = (start o).args in
-    held a.page.now a.at (bytes (start o)) _ (size o) _ p.before.holds.ensures p.if1.true _ _
-    (rw (part o) at c.before.before.write.ensures)
+    held a.page-1.now a.at (bytes (start o)) _ (size o) _ p.before.holds.ensures p.if-holds.true _ _
+    (rw (part o) at c.before.before.write-next.ensures)
 
-returns-2 : tie.Need-returns-2
+returns-2 : tie.Need-returns-else-holds
 returns-2 c =
-    let o : tie.After-put-sheet = c.before.before.before in
+    let o : tie.After-put_sheet-length = c.before.before.before in
     let a = (start o).args in
-    not_held a.page.now a.at (bytes (start o)) _ (size o) _ c.before.holds.ensures c.if1.false
+    not_held a.page-1.now a.at (bytes (start o)) _ (size o) _ c.before.holds.ensures c.if-holds.false
 
 pub write_copy_spec : {M : Type 1} → statement M
 write_copy_spec = tie.close (tie.spec (λ c. search rules) put_sheet_requires (λ c κs. search rules)

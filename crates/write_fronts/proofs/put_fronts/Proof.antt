@@ -7,14 +7,14 @@ use Rattle.write_fronts.proofs.put_fronts.Statement.{statement}
 use Rattle.write_fronts.proofs.put_fronts.Tie as tie
 
 -- from the page, the first that is lent on, back to the start
-abbrev start : tie.After-put-sheet-arg → tie.Start
+abbrev start : tie.After-put_sheet-arg-1 → tie.Start
 start c = c.before.before.before.before.before.before.before.before
 
-put_sheet_requires : tie.Need-put-sheet-requires
+put_sheet_requires : tie.Need-put_sheet-requires
 put_sheet_requires c κs =
-    let p : tie.After-put-sheet-arg = c.before.before.before.before.before.before.before in
+    let p : tie.After-put_sheet-arg-1 = c.before.before.before.before.before.before.before in
     let y = (start p).requires.passes in
-    (y, record { fits = omega (arith, listed_short _ y (start p).args.house, p.put-sheet-arg.given.0.1) })
+    (y, record { fits = omega (arith, listed_short _ y (start p).args.house, p.put_sheet-arg-1.given.0.1) })
 
 pub put_fronts_spec : {M : Type 1} → statement M
 put_fronts_spec = tie.close (tie.spec (λ c. sym (length-take-le _ _ (start c.before).requires.long.in_loader))
@@ -24,4 +24,4 @@ put_fronts_spec = tie.close (tie.spec (λ c. sym (length-take-le _ _ (start c.be
     (λ c. sym (length-take-le _ _ (start c.before.before.before.before.before).requires.long.in_to))
     (λ c. sym (length-take-le _ _ (start c.before.before.before.before.before.before).requires.long.in_low))
     (λ c. sym (length-take-le _ _ (start c.before.before.before.before.before.before.before).requires.long.in_high))
-    put_sheet_requires (λ c. c.put-sheet.ensures))
+    put_sheet_requires (λ c. c.put_sheet.ensures))

@@ -10,9 +10,9 @@ use Rattle.tugrokt_replies.proofs.deciding.numbers_of.Tie as tie
 same_numbers : {a b : Decision} → a ≡ b → planning_of (decision_reply b) ≡ planning_of (decision_reply a)
 same_numbers e = sym (ap (λ (a : Decision). planning_of (decision_reply a)) e)
 
-enum_told : tie.Need-enum-told
+enum_told : tie.Need-enum_told-1
 enum_told c = search rules
 
 pub numbers_of_spec : {M : Type 1} → statement M
-numbers_of_spec = tie.close (tie.spec (λ c. search rules) enum_told (λ c. search rules) (λ c. same_numbers c.before.decision.given.1)
-    (λ c. same_numbers c.enum_told.given.1) (λ c. same_numbers c.before.decision2.given.1))
+numbers_of_spec = tie.close (tie.spec (λ c. search rules) enum_told (λ c. search rules) (λ c. same_numbers c.before.decision-1.given.1)
+    (λ c. same_numbers c.enum_told-1.given.1) (λ c. same_numbers c.before.decision-in-None-1.given.1))

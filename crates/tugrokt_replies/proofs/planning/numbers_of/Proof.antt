@@ -10,9 +10,9 @@ use Rattle.tugrokt_replies.proofs.planning.numbers_of.Tie as tie
 same_numbers : {a b : Answer} → a ≡ b → planning_of (reply_of b) ≡ planning_of (reply_of a)
 same_numbers e = sym (ap (λ (a : Answer). planning_of (reply_of a)) e)
 
-enum_told : tie.Need-enum-told
+enum_told : tie.Need-enum_told-1
 enum_told c = search rules
 
 pub numbers_of_spec : {M : Type 1} → statement M
-numbers_of_spec = tie.close (tie.spec (λ c. search rules) enum_told (λ c. search rules) (λ c. same_numbers c.before.answer.given.1)
-    (λ c. same_numbers c.enum_told.given.1) (λ c. same_numbers c.before.answer2.given.1))
+numbers_of_spec = tie.close (tie.spec (λ c. search rules) enum_told (λ c. search rules) (λ c. same_numbers c.before.answer-1.given.1)
+    (λ c. same_numbers c.enum_told-1.given.1) (λ c. same_numbers c.before.answer-in-None-1.given.1))

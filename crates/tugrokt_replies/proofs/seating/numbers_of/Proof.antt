@@ -10,9 +10,9 @@ use Rattle.tugrokt_replies.proofs.seating.numbers_of.Tie as tie
 same_numbers : {a b : SeatAnswer} → a ≡ b → seating_of (looks_told b) (seat_reply b) ≡ seating_of (looks_told a) (seat_reply a)
 same_numbers e = sym (ap (λ (a : SeatAnswer). seating_of (looks_told a) (seat_reply a)) e)
 
-enum_told : tie.Need-enum-told
+enum_told : tie.Need-enum_told-1
 enum_told c = search rules
 
 pub numbers_of_spec : {M : Type 1} → statement M
-numbers_of_spec = tie.close (tie.spec (λ c. search rules) (λ c. search rules) enum_told (λ c. same_numbers c.before.answer.given.1)
-    (λ c. same_numbers c.before.answer2.given.1) (λ c. same_numbers c.enum_told.given.1))
+numbers_of_spec = tie.close (tie.spec (λ c. search rules) (λ c. search rules) enum_told (λ c. same_numbers c.before.answer-1.given.1)
+    (λ c. same_numbers c.before.answer-in-Plan-1.given.1) (λ c. same_numbers c.enum_told-1.given.1))
