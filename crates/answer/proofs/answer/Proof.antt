@@ -67,37 +67,37 @@ put_refusal_requires c κs =
     let d : tie.In-Refused-2 = c.before.before.before.before in
     let f = d.reading-1.given.0.0 in
     record {
-      fits = omega (arith, refused_short f.number f.line (small d).0 (omega (arith, (small d).1)), c.before.before.put_refusal-arg-1.given.0.1);
+      fits = omega (arith, refused_short f.number f.line (small d).0 (omega (arith, (small d).1)), c.put_refusal-arg-1.given.0.1);
     }
 
 answer_fronts_requires : tie.Need-answer_fronts-requires
 answer_fronts_requires c κs =
-    let d = c.before.before.before.before.before.before.before.before.before in
-    read_held (house (sheet_call d)) (input (sheet_call d)) empty sizes d.reading-in-Sheet-1.given.0.0 (read_told d) (after (sheet_call d))
-    (sheet_call d).read-reading.ensures.1
+    let d = c in
+    read_held (house (sheet_call d.before.before.before.before.before.before.before.before.before)) (input (sheet_call d.before.before.before.before.before.before.before.before.before)) empty sizes d.reading-in-Sheet-1.given.0.0 (read_told d.before.before.before.before.before.before.before.before.before) (after (sheet_call d.before.before.before.before.before.before.before.before.before))
+    (sheet_call d.before.before.before.before.before.before.before.before.before).read-reading.ensures.1
 
 returns : tie.Need-returns-in-Refused
 returns c =
-    let d = c.before.before.before.before.before in
-    let p = refused_call d in
-    record { bytes = _; answers = refused_answer (house p) (input p) empty sizes _ _ (refused_told d) (asked p); written = c.put_refusal.ensures }
+    let d = c in
+    let p = refused_call d.before.before.before.before.before in
+    record { bytes = _; answers = refused_answer (house p) (input p) empty sizes _ _ (refused_told d.before.before.before.before.before) (asked p); written = c.put_refusal.ensures }
 
 returns-2 : tie.Need-returns-in-Sheet
 returns-2 c =
-    let d = c.before.before.before.before.before.before.before.before.before.before in
-    read_answered (house (sheet_call d)) (input (sheet_call d)) empty sizes d.reading-in-Sheet-1.given.0.0 (read_told d) (after (sheet_call d))
-    (sheet_call d).read-reading.ensures.1
-    (asked (sheet_call d)) _ _ _ c.answer_fronts.ensures
+    let d = c in
+    read_answered (house (sheet_call d.before.before.before.before.before.before.before.before.before.before)) (input (sheet_call d.before.before.before.before.before.before.before.before.before.before)) empty sizes d.reading-in-Sheet-1.given.0.0 (read_told d.before.before.before.before.before.before.before.before.before.before) (after (sheet_call d.before.before.before.before.before.before.before.before.before.before))
+    (sheet_call d.before.before.before.before.before.before.before.before.before.before).read-reading.ensures.1
+    (asked (sheet_call d.before.before.before.before.before.before.before.before.before.before)) _ _ _ c.answer_fronts.ensures
 
 pub answer_spec : {M : Type 1} → statement M
 answer_spec = tie.close (tie.spec (λ c. refl) (λ c. refl) (λ c. refl) (λ c. refl) (λ c. refl) (λ c. refl) (λ c. refl) (λ c κs. tt)
     (λ c. c.in-Refused.keys1) (λ c. omega (arith, (small c.before.before.before).0))
     (λ c. omega (arith, (small c.before.before.before.before).1)) put_refusal_requires (λ c. c.in-Sheet.keys2)
-    (λ c. sym (sheet_call c.before.before).read-reading.auto.1.1.0)
-    (λ c. sym (sheet_call c.before.before.before).read-reading.auto.1.1.1.0)
-    (λ c. sym (sheet_call c.before.before.before.before).read-reading.auto.1.1.1.1.0)
-    (λ c. sym (sheet_call c.before.before.before.before.before).read-reading.auto.1.1.1.1.1.0)
-    (λ c. sym (sheet_call c.before.before.before.before.before.before).read-reading.auto.1.1.1.1.1.1.0)
-    (λ c. sym (sheet_call c.before.before.before.before.before.before.before).read-reading.auto.1.1.1.1.1.1.1.0)
-    (λ c. sym (sheet_call c.before.before.before.before.before.before.before.before).read-reading.auto.1.1.1.1.1.1.1.1.0)
+    (λ c. sym (sheet_call c.before.before).read-reading.auto.loader)
+    (λ c. sym (sheet_call c.before.before.before).read-reading.auto.first)
+    (λ c. sym (sheet_call c.before.before.before.before).read-reading.auto.last)
+    (λ c. sym (sheet_call c.before.before.before.before.before).read-reading.auto.from)
+    (λ c. sym (sheet_call c.before.before.before.before.before.before).read-reading.auto.to)
+    (λ c. sym (sheet_call c.before.before.before.before.before.before.before).read-reading.auto.low)
+    (λ c. sym (sheet_call c.before.before.before.before.before.before.before.before).read-reading.auto.high)
     answer_fronts_requires returns returns-2)

@@ -9,11 +9,11 @@ abbrev start : tie.After-shared_slice_known-7-1 → tie.Start
 start c = c.before.before.before.before.before.before.before
 
 pub answer_fronts_spec : {M : Type 1} → statement M
-answer_fronts_spec = tie.close (tie.spec (λ c. sym (length-take-le _ _ (start c.before).requires.long.in_loader))
-    (λ c. sym (length-take-le _ _ (start c.before.before).requires.long.in_first))
-    (λ c. sym (length-take-le _ _ (start c.before.before.before).requires.long.in_last))
-    (λ c. sym (length-take-le _ _ (start c.before.before.before.before).requires.long.in_from))
-    (λ c. sym (length-take-le _ _ (start c.before.before.before.before.before).requires.long.in_to))
-    (λ c. sym (length-take-le _ _ (start c.before.before.before.before.before.before).requires.long.in_low))
-    (λ c. sym (length-take-le _ _ (start c.before.before.before.before.before.before.before).requires.long.in_high))
-    (λ c κs. (start c.before.before.before.before.before.before.before.before).requires.passes) (λ c. c.answer_sheet.ensures))
+answer_fronts_spec = tie.close (tie.spec (λ c. sym (length-take-le _ _ (start c).requires.long.in_loader))
+    (λ c. sym (length-take-le _ _ (start c).requires.long.in_first))
+    (λ c. sym (length-take-le _ _ (start c).requires.long.in_last))
+    (λ c. sym (length-take-le _ _ (start c).requires.long.in_from))
+    (λ c. sym (length-take-le _ _ (start c).requires.long.in_to))
+    (λ c. sym (length-take-le _ _ (start c).requires.long.in_low))
+    (λ c. sym (length-take-le _ _ (start c).requires.long.in_high))
+    (λ c κs. (start c.before).requires.passes) (λ c. c.answer_sheet.ensures))

@@ -24,10 +24,10 @@ fits_sheet_requires c κs =
     record { lists = y.lists; sheet = y.sheet; rooms = tt }
 
 returns : tie.Need-returns-in-Plan
-returns c = subst (AnswersTo c.before.before.before.before _ _) (sym c.before.before.enum_told-1.given.1) c.plan_sheet.ensures
+returns c = subst (AnswersTo c.before.before.before.before _ _) (sym c.enum_told-1.given.1) c.plan_sheet.ensures
 
 returns-2 : tie.Need-returns-in-Fits
-returns-2 c = subst (AnswersTo c.before.before.before.before _ _) (sym c.before.before.enum_told-in-Fits-1.given.1) (c.fits_sheet.ensures _)
+returns-2 c = subst (AnswersTo c.before.before.before.before _ _) (sym c.enum_told-in-Fits-1.given.1) (c.fits_sheet.ensures _)
 
 pub answer_sheet_spec : {M : Type 1} → statement M
 answer_sheet_spec = tie.close (tie.spec (λ c. c.in-Plan.keys1) (λ c κs. (start c.before.before.before).requires)

@@ -35,13 +35,13 @@ lists c = lists_of (start c)
 
 -- the call's own arrays after deciding
 abbrev table : tie.After-decide-fit → List ℤ
-table c = c.decide-fit.new.1.1.1.1.1.1.1.0
+table c = c.decide-fit.new.table
 
 abbrev ring : tie.After-decide-fit → List ℕ
-ring c = c.decide-fit.new.1.1.1.1.1.1.1.1.0
+ring c = c.decide-fit.new.ring
 
 own_cells : (c : tie.After-decide-fit) → length (table c) ≡ max_cells
-own_cells c = c.decide-fit.auto.1.1.1.1.1.1.1.0 ∙ length-replicate max_cells (pos 0)
+own_cells c = c.decide-fit.auto.table ∙ length-replicate max_cells (pos 0)
 
 -- ---- it fits
 abbrev where_fits : tie.In-Fits → tie.After-decide-fit
@@ -49,10 +49,10 @@ where_fits c = c.before.before.before.before.before
 
 -- the number of boundaries, as the code has it
 abbrev fits_w : tie.In-Fits → ℕ
-fits_w c = c.before.before.boundaries-w.result
+fits_w c = c.boundaries-w.result
 
 fits_w_is : (c : tie.In-Fits) → fits_w c ≡ boundaries_of (start (where_fits c)).args.span
-fits_w_is c = c.before.before.boundaries-w.ensures
+fits_w_is c = c.boundaries-w.ensures
 
 fits_found : (c : tie.In-Fits) → let p = where_fits c in
     (t : List ℤ) × (passed (given (lists p)) ≡ finished t) × Front (fits_w c * fits_w c) t (table p)
@@ -72,7 +72,7 @@ ring_found : (c : tie.In-None-2) → let p = where_ring c in
     T (is_ring (given (lists p)) (take (steps c) (ring p))) × (passed (given (lists p)) ≡ stopped) × (steps c ≤ length (ring p))
 ring_found c =
     let p = where_ring c in
-    decide_none (lists p) _ c.before.before.boundaries-w.ensures (start p).pre (table p) (ring p) _ p.decide-fit.ensures
+    decide_none (lists p) _ c.boundaries-w.ensures (start p).pre (table p) (ring p) _ p.decide-fit.ensures
     (steps c) (ap fit_reply c.fit-1.given.1)
 
 -- ---- the needs, in order
@@ -83,25 +83,25 @@ decide_requires c κs =
     own_decides (lists_of s) _ refl s.requires
 
 boundaries_requires : tie.Need-boundaries-w-requires
-boundaries_requires c κs = let p = c.before.before in span_bound (lists p) (start p).requires.sheet
+boundaries_requires c κs = let p = c in span_bound (lists p.before.before) (start p.before.before).requires.sheet
 
 mul_cells : tie.Need-overflow_mul-cells
 mul_cells c =
-    let p = c.before.before.before in
-    omega (arith, cells_few (lists p) own_rooms (own_solvable (lists p) true (start p).requires) c.boundaries-w.result c.boundaries-w.ensures)
+    let p = c in
+    omega (arith, cells_few (lists p.before.before.before) own_rooms (own_solvable (lists p.before.before.before) true (start p.before.before.before).requires) c.boundaries-w.result c.boundaries-w.ensures)
 
 put_fits_requires : tie.Need-put_fits-requires
 put_fits_requires c κs =
     let told : tie.In-Fits = c.before.before in
     let p = where_fits told in
     let f = fits_found told in
-    fits_asks (lists p) (fits_w told) (fits_w_is told) (start p).pre (table p) f.0 f.1 f.2 _ c.before.put_fits-arg-1.given.0.1
+    fits_asks (lists p) (fits_w told) (fits_w_is told) (start p).pre (table p) f.0 f.1 f.2 _ c.put_fits-arg-1.given.0.1
 
 put_ring_requires : tie.Need-put_ring-requires
 put_ring_requires c κs =
     let told : tie.In-None-2 = c.before.before.before.before in
     let p = where_ring told in
-    (own_fillable (lists p) _ told.before.before.boundaries-w.ensures (start p).pre (table p) (own_cells p), (ring_found told).0)
+    (own_fillable (lists p) _ told.boundaries-w.ensures (start p).pre (table p) (own_cells p), (ring_found told).0)
 
 returns : tie.Need-returns-in-Fits
 returns c ks =
@@ -115,11 +115,11 @@ returns-2 : tie.Need-returns-in-None
 returns-2 c ks =
     let told : tie.In-None-2 = c.before.before.before.before.before.before in
     let f = ring_found told in
-    ring_answered Fits ks (given (lists (where_ring told))) _ _ _ _ f.0 f.1 c.before.put_ring.ensures
+    ring_answered Fits ks (given (lists (where_ring told))) _ _ _ _ f.0 f.1 c.put_ring.ensures
 
 pub fits_sheet_spec : {M : Type 1} → statement M
 fits_sheet_spec = tie.close (tie.spec (λ c. refl) (λ c. refl) decide_requires boundaries_requires mul_cells (λ c. c.in-Fits.keys1)
     (λ c. (fits_found c.before).2.long) (λ c. sym (length-take-le _ _ (fits_found c.before.before).2.long)) put_fits_requires (λ c. c.in-None.keys2)
-    (λ c. sym (where_ring c.before.before).decide-fit.auto.1.1.1.1.1.1.1.0) (λ c. (ring_found c.before.before).2)
+    (λ c. sym (where_ring c.before.before).decide-fit.auto.table) (λ c. (ring_found c.before.before).2)
     (λ c. sym (length-take-le _ _ (ring_found c.before.before.before).2))
     put_ring_requires returns returns-2)

@@ -46,7 +46,7 @@ after c =
     lent r.0 r.1.0 r.1.1.0 r.1.1.1.0 r.1.1.1.1.0
 
 own_cells : (c : tie.After-solve-fit) → length (after c).table-1 ≡ max_cells
-own_cells c = c.solve-fit.auto.1.1.1.1.1.1.1.0 ∙ length-replicate max_cells (pos 0)
+own_cells c = c.solve-fit.auto.table ∙ length-replicate max_cells (pos 0)
 
 -- ---- a plan was found
 abbrev where_plan : tie.In-Fits → tie.After-solve-fit
@@ -54,10 +54,10 @@ where_plan c = c.before.before.before.before.before.before.before.before
 
 -- the number of boundaries, as the code has it
 abbrev plan_w : tie.In-Fits → ℕ
-plan_w c = c.before.before.boundaries-w.result
+plan_w c = c.boundaries-w.result
 
 plan_w_is : (c : tie.In-Fits) → plan_w c ≡ boundaries_of (start (where_plan c)).args.span
-plan_w_is c = c.before.before.boundaries-w.ensures
+plan_w_is c = c.boundaries-w.ensures
 
 plan_found : (c : tie.In-Fits) → let p = where_plan c in
     let s = given (lists p) in (t : List ℤ) × (passed s ≡ finished t) × PlanFronts s (plan_w c) (length (lists p).first) t (after p)
@@ -78,7 +78,7 @@ ring_found : (c : tie.In-None-2) → let p = where_ring c in
     let s = given (lists p) in T (is_ring s (take (steps c) (after p).ring-1)) × (passed s ≡ stopped) × (steps c ≤ length (after p).ring-1)
 ring_found c =
     let p = where_ring c in
-    plan_none (lists p) _ c.before.before.boundaries-w.ensures (solvable (start p)) (after p) _ p.solve-fit.ensures
+    plan_none (lists p) _ c.boundaries-w.ensures (solvable (start p)) (after p) _ p.solve-fit.ensures
     (steps c) (ap fit_reply c.fit-1.given.1)
 
 -- ---- the needs, in order
@@ -89,12 +89,12 @@ solve_requires c κs =
     own_solvable (lists_of s) true (solvable s)
 
 boundaries_requires : tie.Need-boundaries-w-requires
-boundaries_requires c κs = let p = c.before.before.before.before.before in span_bound (lists p) (start p).requires.sheet
+boundaries_requires c κs = let p = c in span_bound (lists p.before.before.before.before.before) (start p.before.before.before.before.before).requires.sheet
 
 mul_cells : tie.Need-overflow_mul-cells
 mul_cells c =
-    let p = c.before.before.before.before.before.before in
-    omega (arith, cells_few (lists p) own_rooms (own_solvable (lists p) true (solvable (start p))) c.boundaries-w.result c.boundaries-w.ensures)
+    let p = c in
+    omega (arith, cells_few (lists p.before.before.before.before.before.before) own_rooms (own_solvable (lists p.before.before.before.before.before.before) true (solvable (start p.before.before.before.before.before.before))) c.boundaries-w.result c.boundaries-w.ensures)
 
 put_plan_requires : tie.Need-put_plan-requires
 put_plan_requires c κs =
@@ -103,13 +103,13 @@ put_plan_requires c κs =
     let y = (start p).pre in
     let f = plan_found told in
     plan_asks (lists p) (plan_w told) (plan_w_is told) (solvable (start p)) (start p).args.loader.now y.loaders y.as_many (after p)
-    f.0 f.1 f.2 _ c.before.before.before.before.put_plan-arg-1.given.0.1
+    f.0 f.1 f.2 _ c.put_plan-arg-1.given.0.1
 
 put_ring_requires : tie.Need-put_ring-requires
 put_ring_requires c κs =
     let told : tie.In-None-2 = c.before.before.before.before in
     let p = where_ring told in
-    (own_fillable (lists p) _ told.before.before.boundaries-w.ensures (solvable (start p)) (after p).table-1 (own_cells p), (ring_found told).0)
+    (own_fillable (lists p) _ told.boundaries-w.ensures (solvable (start p)) (after p).table-1 (own_cells p), (ring_found told).0)
 
 returns : tie.Need-returns-in-Fits
 returns c =
@@ -125,7 +125,7 @@ returns-2 : tie.Need-returns-in-None
 returns-2 c =
     let told : tie.In-None-2 = c.before.before.before.before.before.before in
     let f = ring_found told in
-    ring_answered Plan _ (given (lists (where_ring told))) _ _ _ _ f.0 f.1 c.before.put_ring.ensures
+    ring_answered Plan _ (given (lists (where_ring told))) _ _ _ _ f.0 f.1 c.put_ring.ensures
 
 pub plan_sheet_spec : {M : Type 1} → statement M
 plan_sheet_spec = tie.close (tie.spec (λ c. refl) (λ c. refl) (λ c. refl) (λ c. refl) (λ c. refl) solve_requires boundaries_requires mul_cells
@@ -136,6 +136,6 @@ plan_sheet_spec = tie.close (tie.spec (λ c. refl) (λ c. refl) (λ c. refl) (λ
     (λ c. sym (length-take-le _ _ (plan_found c.before.before.before.before).2.lasts.long))
     (λ c. (plan_found c.before.before.before.before).2.closed.long)
     (λ c. sym (length-take-le _ _ (plan_found c.before.before.before.before.before).2.closed.long)) put_plan_requires (λ c. c.in-None.keys2)
-    (λ c. sym (where_ring c.before.before).solve-fit.auto.1.1.1.1.1.1.1.0) (λ c. (ring_found c.before.before).2)
+    (λ c. sym (where_ring c.before.before).solve-fit.auto.table) (λ c. (ring_found c.before.before).2)
     (λ c. sym (length-take-le _ _ (ring_found c.before.before.before).2))
     put_ring_requires returns returns-2)

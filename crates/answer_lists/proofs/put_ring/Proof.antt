@@ -14,21 +14,21 @@ lists c =
     listed a.span a.first.now a.last.now a.from.now a.to.now a.low.now a.high.now
 
 boundaries_requires : tie.Need-boundaries-requires
-boundaries_requires c κs = let d = c.before.before.before in span_bound (lists d) (start d).requires.0.ok
+boundaries_requires c κs = let d = c in span_bound (lists d.before.before) (start d.before.before).requires.0.ok
 
 put_none_requires : tie.Need-put_none-requires
 put_none_requires c κs =
-    let d = c.before.before.before.before in
-    let p = (start d).requires in
-    ring_asked (lists d) _ c.boundaries.ensures _ p.0 _ p.1 _ d.fill_limits.ensures _ c.before.before.put_none-arg-1.given.0.1
+    let d = c in
+    let p = (start d.before.before.before).requires in
+    ring_asked (lists d.before.before.before) _ c.boundaries.ensures _ p.0 _ p.1 _ d.fill_limits.ensures _ c.put_none-arg-1.given.0.1
 
 returns : tie.Need-returns
 returns c =
-    let d = c.before.before.before.before.before in
-    let p = (start d).requires in
-    ring_written (lists d) _ c.before.boundaries.ensures _ p.0 _ p.1 _ d.fill_limits.ensures _ _ _ c.put_none.ensures
+    let d = c in
+    let p = (start d.before.before.before.before).requires in
+    ring_written (lists d.before.before.before.before) _ c.boundaries.ensures _ p.0 _ p.1 _ d.fill_limits.ensures _ _ _ c.put_none.ensures
 
 pub put_ring_spec : {M : Type 1} → statement M
 put_ring_spec = tie.close
-    (tie.spec (λ c κs. c.before.before.before.before.before.before.before.before.requires.0) boundaries_requires put_none_requires
-    (λ c. c.before.before.before.before.before.fill_limits.auto.1.1.1.1.1.1.1.0) returns)
+    (tie.spec (λ c κs. c.requires.0) boundaries_requires put_none_requires
+    (λ c. c.fill_limits.auto.t) returns)

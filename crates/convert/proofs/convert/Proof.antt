@@ -52,41 +52,41 @@ read_told c = sym (ap reply_of c.reading-in-Sheet-1.given.1) ∙ (sheet_call c).
 
 refuse_requires : tie.Need-refuse-requires
 refuse_requires c κs =
-    let d = c.before.before in
-    let p = refused_call d in
-    let r = refused_small (start p).args.from (input p) empty sizes _ _ (refused_told d) in
+    let d = c in
+    let p = refused_call d.before.before in
+    let r = refused_small (start p).args.from (input p) empty sizes _ _ (refused_told d.before.before) in
     (omega (arith, r.0), omega (arith, r.1))
 
 convert_fronts_requires : tie.Need-convert_fronts-requires
 convert_fronts_requires c κs =
-    let d = c.before.before.before.before.before.before.before.before.before in
-    let p = sheet_call d in
-    read_held (start p).args.from (input p) empty sizes d.reading-in-Sheet-1.given.0.0 (read_told d) (after p) p.read-reading.ensures.1
+    let d = c in
+    let p = sheet_call d.before.before.before.before.before.before.before.before.before in
+    read_held (start p).args.from (input p) empty sizes d.reading-in-Sheet-1.given.0.0 (read_told d.before.before.before.before.before.before.before.before.before) (after p) p.read-reading.ensures.1
 
 returns : tie.Need-returns-in-Refused
 returns c =
-    let d = c.before.before.before in
-    let p = refused_call d in
+    let d = c in
+    let p = refused_call d.before.before.before in
     let a = (start p).args in
-    let told = refused_converted a.from a.to (input p) empty sizes _ _ (refused_told d) in
+    let told = refused_converted a.from a.to (input p) empty sizes _ _ (refused_told d.before.before.before) in
     (c.refuse.ensures.0 ∙ told.0, c.refuse.ensures.1 ∙ ap (with_bytes a.page.now 0) told.1)
 
 returns-2 : tie.Need-returns-in-Sheet
 returns-2 c =
-    let d = c.before.before.before.before.before.before.before.before.before.before in
-    let p = sheet_call d in
+    let d = c in
+    let p = sheet_call d.before.before.before.before.before.before.before.before.before.before in
     let a = (start p).args in
-    let told = read_converted a.from a.to (input p) empty sizes d.reading-in-Sheet-1.given.0.0 (read_told d) (after p) p.read-reading.ensures.1 in
+    let told = read_converted a.from a.to (input p) empty sizes d.reading-in-Sheet-1.given.0.0 (read_told d.before.before.before.before.before.before.before.before.before.before) (after p) p.read-reading.ensures.1 in
     (c.convert_fronts.ensures.0 ∙ told.0, c.convert_fronts.ensures.1 ∙ ap (with_bytes a.page.now 0) told.1)
 
 pub convert_spec : {M : Type 1} → statement M
 convert_spec = tie.close (tie.spec (λ c. refl) (λ c. refl) (λ c. refl) (λ c. refl) (λ c. refl) (λ c. refl) (λ c. refl) (λ c κs. tt)
     (λ c. c.in-Refused.keys1) refuse_requires (λ c. c.in-Sheet.keys2)
-    (λ c. sym (sheet_call c.before.before).read-reading.auto.1.1.0)
-    (λ c. sym (sheet_call c.before.before.before).read-reading.auto.1.1.1.0)
-    (λ c. sym (sheet_call c.before.before.before.before).read-reading.auto.1.1.1.1.0)
-    (λ c. sym (sheet_call c.before.before.before.before.before).read-reading.auto.1.1.1.1.1.0)
-    (λ c. sym (sheet_call c.before.before.before.before.before.before).read-reading.auto.1.1.1.1.1.1.0)
-    (λ c. sym (sheet_call c.before.before.before.before.before.before.before).read-reading.auto.1.1.1.1.1.1.1.0)
-    (λ c. sym (sheet_call c.before.before.before.before.before.before.before.before).read-reading.auto.1.1.1.1.1.1.1.1.0)
+    (λ c. sym (sheet_call c.before.before).read-reading.auto.loader)
+    (λ c. sym (sheet_call c.before.before.before).read-reading.auto.first)
+    (λ c. sym (sheet_call c.before.before.before.before).read-reading.auto.last)
+    (λ c. sym (sheet_call c.before.before.before.before.before).read-reading.auto.from)
+    (λ c. sym (sheet_call c.before.before.before.before.before.before).read-reading.auto.to)
+    (λ c. sym (sheet_call c.before.before.before.before.before.before.before).read-reading.auto.low)
+    (λ c. sym (sheet_call c.before.before.before.before.before.before.before.before).read-reading.auto.high)
     convert_fronts_requires returns returns-2)

@@ -35,13 +35,13 @@ refuse_requires : tie.Need-refuse-requires
 refuse_requires c κs =
     let d : tie.After-ask_house-asked = c.before.before.before.before in
     let s = start d in
-    house_small s.args.house (lists s) s.pre.passes _ d.ask_house-asked.ensures _ _ (ap verdict_of c.before.before.asked-1.given.1)
+    house_small s.args.house (lists s) s.pre.passes _ d.ask_house-asked.ensures _ _ (ap verdict_of c.asked-1.given.1)
 
 returns : tie.Need-returns-in-No
 returns c =
     let d : tie.After-ask_house-asked = c.before.before.before.before.before in
     let s = start d in
-    let told = house_told s.args.house (lists s) s.pre.passes _ d.ask_house-asked.ensures _ (ap verdict_of c.before.before.before.asked-1.given.1)
+    let told = house_told s.args.house (lists s) s.pre.passes _ d.ask_house-asked.ensures _ (ap verdict_of c.asked-1.given.1)
     (text s) in
     (c.refuse.ensures.0 ∙ told.0, c.refuse.ensures.1 ∙ ap (with_bytes s.args.page.now 0) told.1)
 
@@ -49,7 +49,7 @@ returns-2 : tie.Need-returns-in-Yes
 returns-2 c =
     let d : tie.After-ask_house-asked = c.before.before.before.before in
     let s = start d in
-    let told = house_told s.args.house (lists s) s.pre.passes _ d.ask_house-asked.ensures _ (ap verdict_of c.before.before.enum_told-1.given.1)
+    let told = house_told s.args.house (lists s) s.pre.passes _ d.ask_house-asked.ensures _ (ap verdict_of c.enum_told-1.given.1)
     (text s) in
     let w = c.put_fronts-next.ensures in
     let past : c.put_fronts-next.result ≡ length (text s) = omega (arith, w.moved) in

@@ -9,10 +9,10 @@ use Rattle.convert_lists.proofs.refuse.Tie as tie
 
 returns : tie.Need-returns
 returns c =
-    let a = c.before.before.args in
+    let a = c.args in
     let w = c.Put-refused.ensures in
     let past : c.Put-refused.result ≡ length (refused_line a.number a.line) = omega (arith, w.moved) in
     (ap (refused a.number a.line) past, w.filled)
 
 pub refuse_spec : {M : Type 1} → statement M
-refuse_spec = tie.close (tie.spec (λ c κs. c.before.requires) returns)
+refuse_spec = tie.close (tie.spec (λ c κs. c.requires) returns)

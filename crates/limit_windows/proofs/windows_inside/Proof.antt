@@ -40,20 +40,20 @@ start c = c.before.before.before.before.before.before
 
 -- the table that the exact windows leave
 exact : (c : tie.After-exact_windows invariant-loop2 decreases-loop2 invariant-loop decreases-loop)
-    → let a = c.before.before.before.before.args in
-    TableFilled a.w (exact_weights (windows_of a.first.now a.last.now)) a.t.now c.exact_windows.new.1.1.1.0
+    → let a = c.args in
+    TableFilled a.w (exact_weights (windows_of a.first.now a.last.now)) a.t.now c.exact_windows.new.t
 exact c =
-    let s = c.before.before.before.before in
+    let s = c in
     let a = s.args in
-    is_filled a.w (exact_weights (windows_of a.first.now a.last.now)) a.t.now c.exact_windows.new.1.1.1.0
+    is_filled a.w (exact_weights (windows_of a.first.now a.last.now)) a.t.now c.exact_windows.new.t
     s.requires.0 c.exact_windows.ensures
 
 loop-holds : tie.Need-loop-a-init invariant-loop2 decreases-loop2 invariant-loop decreases-loop
 loop-holds c =
-    let s = c.before.before.before.before.before in
+    let s = c in
     let a = s.args in
     let ws = windows_of a.first.now a.last.now in
-    let t = c.before.exact_windows.new.1.1.1.0 in
+    let t = c.exact_windows.new.t in
     let f = exact c.before in (
       omega arith,
       omega (arith, f.long, s.requires.0),
@@ -63,14 +63,14 @@ loop-holds c =
 
 mul_row : tie.Need-overflow_mul-row invariant-loop2 decreases-loop2 invariant-loop decreases-loop
 mul_row c =
-    let s = c.before.before.before.before.before.before.before in
-    omega (arith, row_inside c.before.loop-a.a s.args.w (omega arith), s.requires.0)
+    let s = c in
+    omega (arith, row_inside c.loop-a.a s.args.w (omega arith), s.requires.0)
 
 loop2_holds : tie.Need-loop-b-init invariant-loop2 decreases-loop2 invariant-loop decreases-loop
 loop2_holds c =
-    let s = c.before.before.before.before.before.before.before in
+    let s = c in
     let a = s.args in
-    let l = c.before.loop-a in
+    let l = c.loop-a in
     let ws = windows_of a.first.now a.last.now in
     let none = ends_none ws (fit_ordered a.w a.first.now a.last.now s.requires.1) l.a l.a (omega arith) in (
       omega (arith, l.invariant.2.long, l.invariant.1),
@@ -78,19 +78,19 @@ loop2_holds c =
       omega arith,
       omega arith,
       ap (λ (n : ℕ). neg_ℤ (pos n)) (sym none),
-      own_base a.w (exact_weights ws) (inside_weights ws) c.before.before.before.exact_windows.new.1.1.1.0 l.t l.a l.a l.invariant.2,
+      own_base a.w (exact_weights ws) (inside_weights ws) c.exact_windows.new.t l.t l.a l.a l.invariant.2,
     )
 
 one : (c : tie.In-loop-b invariant-loop2 decreases-loop2 invariant-loop decreases-loop)
     → let a = (start c.before.before.before).args in
-    let r = c.before.before.before.loop-a in
-    let l = c.before.loop-b in
+    let r = c.loop-a in
+    let l = c.loop-b in
     Turn a.w (windows_of a.first.now a.last.now) r.t l.t r.a l.b (r.a * a.w + (l.b - 1)) (to_z w16 l.sum)
 one c =
     let s = start c.before.before.before in
     let a = s.args in
-    let r = c.before.before.before.loop-a in
-    let l = c.before.loop-b in
+    let r = c.loop-a in
+    let l = c.loop-b in
     let fit = s.requires.1 in
     turn a.w (windows_of a.first.now a.last.now) r.t l.t r.a l.b (to_z w16 l.sum) l.invariant.0
     (omega (arith, windows_of_length a.first.now a.last.now fit.paired, fit.few))
@@ -99,27 +99,27 @@ one c =
 add_sum : tie.Need-overflow_add-sum invariant-loop2 decreases-loop2 invariant-loop decreases-loop
 add_sum c =
     let w = (start c.before.before.before.before).args.w in
-    let at = c.before.before.before.before.loop-a.a * w + (c.before.before.loop-b.b - 1) in
-    let x : SFits w16 (get_or c.before.before.loop-b.t at (pos 0)) = search rules in
+    let at = c.loop-a.a * w + (c.loop-b.b - 1) in
+    let x : SFits w16 (get_or c.loop-b.t at (pos 0)) = search rules in
     rw (to_z-of_z x) (one c.before).sum_fits
 
 add_t : tie.Need-overflow_add-t invariant-loop2 decreases-loop2 invariant-loop decreases-loop
 add_t c =
     let w = (start c.before.before.before.before.before).args.w in
-    let at = c.before.before.before.before.before.loop-a.a * w + (c.before.before.before.loop-b.b - 1) in
-    let x : SFits w16 (get_or c.before.before.before.loop-b.t at (pos 0)) = search rules in
-    let y : SFits w16 (get_or c.before.before.before.loop-b.t (at - w) (pos 0)) = search rules in
+    let at = c.loop-a.a * w + (c.loop-b.b - 1) in
+    let x : SFits w16 (get_or c.loop-b.t at (pos 0)) = search rules in
+    let y : SFits w16 (get_or c.loop-b.t (at - w) (pos 0)) = search rules in
     let o = one c.before.before in
     rw (to_z-of_z x, to_z-of_z o.sum_fits, to_z-of_z y) o.fits
 
 loop2_again : tie.Need-loop-b-preserved invariant-loop2 decreases-loop2 invariant-loop decreases-loop
 loop2_again c =
     let w = (start c.before.before.before.before.before).args.w in
-    let at = c.before.before.before.before.before.loop-a.a * w + (c.before.before.before.loop-b.b - 1) in
-    let x : SFits w16 (get_or c.before.before.before.loop-b.t at (pos 0)) = search rules in
-    let y : SFits w16 (get_or c.before.before.before.loop-b.t (at - w) (pos 0)) = search rules in
+    let at = c.loop-a.a * w + (c.loop-b.b - 1) in
+    let x : SFits w16 (get_or c.loop-b.t at (pos 0)) = search rules in
+    let y : SFits w16 (get_or c.loop-b.t (at - w) (pos 0)) = search rules in
     let o = one c.before.before in
-    let l = c.before.before.before.loop-b in (
+    let l = c.loop-b in (
       l.invariant.0,
       l.invariant.1,
       l.invariant.2,
@@ -132,10 +132,10 @@ loop-again : tie.Need-loop-a-preserved invariant-loop2 decreases-loop2 invariant
 loop-again c =
     let s = start c.before.before.before in
     let a = s.args in
-    let r = c.before.before.before.loop-a in
-    let l = c.before.loop-b in
+    let r = c.loop-a in
+    let l = c.loop-b in
     let ws = windows_of a.first.now a.last.now in
-    let t₀ = c.before.before.before.before.before.exact_windows.new.1.1.1.0 in
+    let t₀ = c.exact_windows.new.t in
     let e : l.b ≡ 0 = omega arith in
     let done : Summed a.w ws r.t r.a 0 l.t = subst (λ (b : ℕ). Summed a.w ws r.t r.a b l.t) e l.invariant.5 in (
       omega arith,
@@ -145,27 +145,27 @@ loop-again c =
     )
 
 whole : (c : tie.After-loop-a invariant-loop2 decreases-loop2 invariant-loop decreases-loop)
-    → let a = c.before.before.before.before.before.before.before.args in
-    TableFilled a.w (inside_weights (windows_of a.first.now a.last.now)) a.t.now c.before.loop-a.t
+    → let a = c.args in
+    TableFilled a.w (inside_weights (windows_of a.first.now a.last.now)) a.t.now c.loop-a.t
 whole c =
-    let s = c.before.before.before.before.before.before.before in
+    let s = c in
     let a = s.args in
-    let l = c.before.loop-a in
+    let l = c.loop-a in
     let ws = windows_of a.first.now a.last.now in
-    let t₀ = c.before.before.before.exact_windows.new.1.1.1.0 in
+    let t₀ = c.exact_windows.new.t in
     filled_over a.w (exact_weights ws) (inside_weights ws) a.t.now t₀ l.t (exact c.before.before.before)
     (swept_last a.w (exact_weights ws) (inside_weights ws) t₀ l.t l.a l.a (omega arith) l.invariant.2)
 
 returns : tie.Need-returns invariant-loop2 decreases-loop2 invariant-loop decreases-loop
 returns c =
-    let s = c.before.before.before.before.before.before.before in
+    let s = c in
     let a = s.args in
-    filled_is a.w (inside_weights (windows_of a.first.now a.last.now)) a.t.now c.before.loop-a.t s.requires.0 (whole c)
+    filled_is a.w (inside_weights (windows_of a.first.now a.last.now)) a.t.now c.loop-a.t s.requires.0 (whole c)
 
 pub windows_inside_spec : {M : Type 1} → statement M
-windows_inside_spec = tie.close (tie.spec invariant-loop2 decreases-loop2 invariant-loop decreases-loop (λ c κs. c.before.before.before.requires) loop-holds mul_row loop2_holds
-    (λ c. omega arith) (λ c. omega (arith, (one c).inside, c.before.loop-b.invariant.5.long))
-    (λ c. omega (arith, (one c).inside, c.before.loop-b.invariant.5.long)) (λ c. (one c).inside) add_sum (λ c. (one c.before).under)
-    (λ c. omega (arith, (one c.before).inside, c.before.before.loop-b.invariant.5.long)) (λ c. omega (arith, (one c.before).inside)) add_t
-    (λ c. omega (arith, (one c.before.before).inside, c.before.before.before.loop-b.invariant.5.long)) (λ c. (one c.before.before).inside)
+windows_inside_spec = tie.close (tie.spec invariant-loop2 decreases-loop2 invariant-loop decreases-loop (λ c κs. c.requires) loop-holds mul_row loop2_holds
+    (λ c. omega arith) (λ c. omega (arith, (one c).inside, c.loop-b.invariant.5.long))
+    (λ c. omega (arith, (one c).inside, c.loop-b.invariant.5.long)) (λ c. (one c).inside) add_sum (λ c. (one c.before).under)
+    (λ c. omega (arith, (one c.before).inside, c.loop-b.invariant.5.long)) (λ c. omega (arith, (one c.before).inside)) add_t
+    (λ c. omega (arith, (one c.before.before).inside, c.loop-b.invariant.5.long)) (λ c. (one c.before.before).inside)
     (λ c. omega arith) loop2_again (λ c. omega arith) (λ c. omega arith) loop-again (λ c. (whole c).long) returns)

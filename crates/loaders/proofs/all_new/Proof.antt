@@ -27,8 +27,8 @@ start c = c.before.before
 
 is_new_requires : tie.Need-is_new-requires invariant-loop decreases-loop
 is_new_requires c κs =
-    let p = c.before.before.before.before in
-    (omega arith, omega (arith, p.loop-j.invariant.0, p.loop-j.invariant.1, (start p).requires), p.loop-j.invariant.2)
+    let p = c in
+    (omega arith, omega (arith, p.loop-j.invariant.0, p.loop-j.invariant.1, (start p.before.before.before.before).requires), p.loop-j.invariant.2)
 
 link_requires : tie.Need-link-requires invariant-loop decreases-loop
 link_requires c κs =
@@ -37,27 +37,27 @@ link_requires c κs =
 
 loop-again : tie.Need-loop-j-preserved invariant-loop decreases-loop
 loop-again c =
-    let then = c.before.before.before.before.before in
-    let p = asked then in
+    let then = c in
+    let p = asked then.before.before.before.before.before in
     let l = p.loop-j in
     let ks = (start p).args.ks.now in
-    let k = c.before.before.link in
-    let h : l.j < length ks = then.before.before.before.before.before.loop-j-test.true in
-    let new = sym then.before.is_new.ensures ∙ then.if-is_new.true in (
+    let k = c.link in
+    let h : l.j < length ks = then.loop-j-test.true in
+    let new = sym then.is_new.ensures ∙ then.if-is_new.true in (
       omega arith,
-      k.auto.1.1.1.0 ∙ l.invariant.1,
+      k.auto.nexts ∙ l.invariant.1,
       rw (k.ensures.0, k.ensures.1) (linked_more ks l.heads l.nexts l.j l.invariant.2 (omega (arith, (start p).pre, l.invariant.1))),
       l.invariant.3 ∙ new_next ks l.j h new,
     )
 
 returns : tie.Need-returns-else-is_new invariant-loop decreases-loop
 returns c =
-    let l = c.before.before.before.before.before.before.loop-j in
-    let ks = c.before.before.before.before.before.before.before.before.args.ks.now in
-    sym (l.invariant.3 ∙ new_stop ks l.j c.before.before.before.before.before.loop-j-test.true (sym c.before.is_new.ensures ∙ c.if-is_new.false))
+    let l = c.loop-j in
+    let ks = c.args.ks.now in
+    sym (l.invariant.3 ∙ new_stop ks l.j c.loop-j-test.true (sym c.is_new.ensures ∙ c.if-is_new.false))
 
 pub all_new_spec : {M : Type 1} → statement M
 all_new_spec = tie.close (tie.spec invariant-loop decreases-loop (λ c. (omega arith, refl, linked_none _ _, refl)) (λ c. omega arith) (λ c. omega arith)
-    (λ c. sym c.before.before.before.loop-j.invariant.2.wide) (λ c. sym c.before.before.before.before.loop-j.invariant.1) is_new_requires
+    (λ c. sym c.loop-j.invariant.2.wide) (λ c. sym c.loop-j.invariant.1) is_new_requires
     (λ c. sym (asked c.before).loop-j.invariant.2.wide) (λ c. sym (asked c.before.before).loop-j.invariant.1) link_requires (λ c. omega arith) (λ c. omega arith)
-    loop-again returns (λ c. sym (c.before.loop-j.invariant.3 ∙ new_end c.before.before.before.args.ks.now c.before.loop-j.j (omega arith))))
+    loop-again returns (λ c. sym (c.loop-j.invariant.3 ∙ new_end c.args.ks.now c.loop-j.j (omega arith))))

@@ -47,38 +47,38 @@ arrays c =
 
 -- of a merged sheet: its numbers, and what the arrays hold
 abbrev sheet : tie.In-Sheet → Sheet
-sheet c = c.before.joined-in-Sheet-1.given.0.0
+sheet c = c.joined-in-Sheet-1.given.0.0
 
 answered : (c : tie.In-Sheet) → let s = sheet c in let a = (start (told c)).args in
     read s.span s.units s.rules ≡ join_reply a.one.now a.two.now
-answered c = sym (ap joined_reply c.before.joined-in-Sheet-1.given.1) ∙ (told c).join-joined.ensures.0
+answered c = sym (ap joined_reply c.joined-in-Sheet-1.given.1) ∙ (told c).join-joined.ensures.0
 
 left : (c : tie.In-Sheet) → let a = (start (told c)).args in MergedAtFront (sheet c) a.one.now a.two.now (arrays (told c))
-left c = left_of _ _ _ _ _ c.before.joined-in-Sheet-1.given.1 (told c).join-joined.ensures.1.1
+left c = left_of _ _ _ _ _ c.joined-in-Sheet-1.given.1 (told c).join-joined.ensures.1.1
 
 fitting : (c : tie.Else-not-lists_fit) → let s = sheet (fits_told c) in lists_fit s.units s.rules (sizes_of (lent (start (told (fits_told c))))) ≡ true
-fitting c = sym c.before.lists_fit.ensures ∙ not-false _ c.if-not-lists_fit.false
+fitting c = sym c.lists_fit.ensures ∙ not-false _ c.if-not-lists_fit.false
 
 returns : tie.Need-returns-then-not-lists_fit
 returns c =
-    let d = c.before.before in
-    let z = start (told d) in
+    let d = c in
+    let z = start (told d.before.before) in
     let a = z.args in
-    let e = answer_rooms a.one.now a.two.now (sizes_of (lent z)) _ _ _ (answered d) (sym c.before.lists_fit.ensures ∙ not-true _ c.if-not-lists_fit.true) in
+    let e = answer_rooms a.one.now a.two.now (sizes_of (lent z)) _ _ _ (answered d.before.before) (sym c.lists_fit.ensures ∙ not-true _ c.if-not-lists_fit.true) in
     (e, rooms_kept a.one.now a.two.now (lent z) 12 0 e)
 
 fill_requires : tie.Need-fill-requires
 fill_requires c κs =
-    let f = c.before.before.before.before.before.before.before.before.before.before.before.before.before.before in
-    let d = fits_told f in
-    ((left d).long, rooms_hold _ _ (lent (start (told d))) (fitting f))
+    let f = c in
+    let d = fits_told f.before.before.before.before.before.before.before.before.before.before.before.before.before.before in
+    ((left d).long, rooms_hold _ _ (lent (start (told d))) (fitting f.before.before.before.before.before.before.before.before.before.before.before.before.before.before))
 
 returns-2 : tie.Need-returns-in-Refused
 returns-2 c =
     let j = joined c.before.before.before in
     let z = start j in
     let a = z.args in
-    let e = answer_no a.one.now a.two.now (sizes_of (lent z)) _ _ (sym (ap joined_reply c.before.joined-1.given.1) ∙ j.join-joined.ensures.0) in
+    let e = answer_no a.one.now a.two.now (sizes_of (lent z)) _ _ (sym (ap joined_reply c.joined-1.given.1) ∙ j.join-joined.ensures.0) in
     (e, rooms_kept a.one.now a.two.now (lent z) _ _ e)
 
 returns-3 : tie.Need-returns-else-not-lists_fit
@@ -93,19 +93,19 @@ returns-3 c =
 pub merge_spec : {M : Type 1} → statement M
 merge_spec = tie.close (tie.spec (λ c. refl) (λ c. refl) (λ c. refl) (λ c. refl) (λ c. refl) (λ c. refl) (λ c. refl) (λ c κs. cleared_hold)
     (λ c. c.in-Refused.keys1) (λ c. c.in-Sheet.keys2) (λ c κs. tt) returns
-    (λ c. sym (told (fits_told c.before)).join-joined.auto.1.1.0)
-    (λ c. sym (told (fits_told c.before.before)).join-joined.auto.1.1.1.0)
-    (λ c. sym (told (fits_told c.before.before.before)).join-joined.auto.1.1.1.1.0)
-    (λ c. sym (told (fits_told c.before.before.before.before)).join-joined.auto.1.1.1.1.1.0)
-    (λ c. sym (told (fits_told c.before.before.before.before.before)).join-joined.auto.1.1.1.1.1.1.0)
-    (λ c. sym (told (fits_told c.before.before.before.before.before.before)).join-joined.auto.1.1.1.1.1.1.1.0)
-    (λ c. sym (told (fits_told c.before.before.before.before.before.before.before)).join-joined.auto.1.1.1.1.1.1.1.1.0)
+    (λ c. sym (told (fits_told c.before)).join-joined.auto.numbers)
+    (λ c. sym (told (fits_told c.before.before)).join-joined.auto.firsts)
+    (λ c. sym (told (fits_told c.before.before.before)).join-joined.auto.lasts)
+    (λ c. sym (told (fits_told c.before.before.before.before)).join-joined.auto.froms)
+    (λ c. sym (told (fits_told c.before.before.before.before.before)).join-joined.auto.tos)
+    (λ c. sym (told (fits_told c.before.before.before.before.before.before)).join-joined.auto.lows)
+    (λ c. sym (told (fits_told c.before.before.before.before.before.before.before)).join-joined.auto.highs)
     fill_requires returns-2
-    (λ c. (fill_call c).fill.auto.1.1.1.1.1.1.1.1.0)
-    (λ c. (fill_call c).fill.auto.1.1.1.1.1.1.1.1.1.0)
-    (λ c. (fill_call c).fill.auto.1.1.1.1.1.1.1.1.1.1.0)
-    (λ c. (fill_call c).fill.auto.1.1.1.1.1.1.1.1.1.1.1.0)
-    (λ c. (fill_call c).fill.auto.1.1.1.1.1.1.1.1.1.1.1.1.0)
-    (λ c. (fill_call c).fill.auto.1.1.1.1.1.1.1.1.1.1.1.1.1.0)
-    (λ c. (fill_call c).fill.auto.1.1.1.1.1.1.1.1.1.1.1.1.1.1.0)
+    (λ c. (fill_call c).fill.auto.loader)
+    (λ c. (fill_call c).fill.auto.first)
+    (λ c. (fill_call c).fill.auto.last)
+    (λ c. (fill_call c).fill.auto.from)
+    (λ c. (fill_call c).fill.auto.to)
+    (λ c. (fill_call c).fill.auto.low)
+    (λ c. (fill_call c).fill.auto.high)
     returns-3)

@@ -27,7 +27,7 @@ abbrev units_call : tie.In-Yes → tie.After-ask_units-asked
 units_call c = c.before.before
 
 abbrev begun : tie.After-ask_units-asked → tie.Start
-begun c = start c.before.before.before
+begun c = start c.before.before
 
 abbrev rules_call : tie.After-slice_known-in-Yes-4-1 → tie.After-ask_rules-stretches
 rules_call c = c.before.before.before.before.before.before.before.before
@@ -63,7 +63,7 @@ ones_long c =
 
 ask_rules_requires : tie.Need-ask_rules-stretches-requires
 ask_rules_requires c κs =
-    let z = at_rules c.before.before.before.before.before.before.before in
+    let z = at_rules c.before.before.before in
     let h = read z in
     let from = from_long _ _ _ _ _ _ _ h in
     let rooms = h.rooms in (
@@ -76,9 +76,9 @@ ask_rules_requires c κs =
 
 returns : tie.Need-returns-in-No
 returns c wa wb h =
-    let q = c.before.before.before.before in
+    let q = c in
     refused_units wa wb _ _ _ _ _ h _ _ _ _ _
-    (sym (units_asked wa wb _ _ _ _ _ h _) ∙ sym q.ask_units-asked.ensures ∙ ap verdict_of c.before.before.asked-1.given.1) c.blamed.ensures
+    (sym (units_asked wa wb _ _ _ _ _ h _) ∙ sym q.ask_units-asked.ensures ∙ ap verdict_of c.asked-1.given.1) c.blamed.ensures
 
 -- the questions about units were all yes, and those about rules were asked of both sheets' rules
 passed : (c : tie.After-ask_rules-stretches) (wa wb : WrittenSheet) → Is (begun (units_call (told_yes c))) wa wb →
@@ -93,9 +93,9 @@ came_to c wa wb h = sym (c.ask_rules-stretches.ensures.0 ∙ rules_asked wa wb _
 
 returns-2 : tie.Need-returns-in-No-stretches
 returns-2 c wa wb h =
-    let t = c.before.before.before.before in
-    let q = rules_call t in
-    refused_rules wa wb _ _ _ _ _ h _ _ _ (passed q wa wb h) _ _ (came_to q wa wb h ∙ ap verdict_by c.before.before.stretches-1.given.1)
+    let t = c in
+    let q = rules_call t.before.before.before.before in
+    refused_rules wa wb _ _ _ _ _ h _ _ _ (passed q wa wb h) _ _ (came_to q wa wb h ∙ ap verdict_by c.stretches-1.given.1)
     c.blamed-in-No-stretches.ensures
 
 -- the combined rules of the same rules
@@ -109,10 +109,10 @@ returns-3 : tie.Need-returns-in-Count
 returns-3 c wa wb h =
     let q = rules_call c.before.before.before in
     let e = q.ask_rules-stretches.ensures.1 in
-    let is = c.before.stretches-in-Count-1.given.1 in
+    let is = c.stretches-in-Count-1.given.1 in
     let rs = all_rules wa wb _ _ _ _ _ h in
     let z = begun (units_call (told_yes q)) in
-    let k = c.before.stretches-in-Count-1.given.0.0 in
+    let k = c.stretches-in-Count-1.given.0.0 in
     merged_as wa wb _ _ _ _ _ h _ (room z) _ (passed q wa wb h) _ refl refl (came_to q wa wb h ∙ ap verdict_by is)
     (front_of (room z) _ _ _ k rs (record {
       count = count_of _ _ _ is e.0;
@@ -127,19 +127,19 @@ ask_both_spec = tie.close (tie.spec (λ c. search rules) (λ c. search rules) on
     (λ c. le-add_right (at_units c).args.a.units (at_units c).args.b.units)
     (λ c. le-add_right (at_units c).args.a.units (at_units c).args.b.units)
     (λ c. numbers_fit _ _ _ _ _ _ _ (read (at_units c)))
-    (λ c κs. units_few _ _ _ _ _ _ _ (read (at_units c.before))) (λ c. c.in-No.keys1) (λ c κs. tt) (λ c. c.in-Yes.keys2)
+    (λ c κs. units_few _ _ _ _ _ _ _ (read (at_units c))) (λ c. c.in-No.keys1) (λ c κs. tt) (λ c. c.in-Yes.keys2)
     (λ c. sym (from_long _ _ _ _ _ _ _ (read (at_rules c)))) (λ c. sym (to_long _ _ _ _ _ _ _ (read (at_rules c.before))))
     (λ c. sym (low_long _ _ _ _ _ _ _ (read (at_rules c.before.before))))
     (λ c. sym (high_long _ _ _ _ _ _ _ (read (at_rules c.before.before.before))))
     ask_rules_requires (λ c. c.in-No-stretches.keys1) (λ c κs. tt)
     (λ c. c.in-Count.keys2) returns
-    (λ c. (rules_call c.before.before.before.before).ask_rules-stretches.auto.1.1.1.1.1.1.0)
-    (λ c. (rules_call c.before.before.before.before).ask_rules-stretches.auto.1.1.1.1.1.1.1.0)
-    (λ c. (rules_call c.before.before.before.before).ask_rules-stretches.auto.1.1.1.1.1.1.1.1.0)
-    (λ c. (rules_call c.before.before.before.before).ask_rules-stretches.auto.1.1.1.1.1.1.1.1.1.0)
+    (λ c. (rules_call c.before.before.before.before).ask_rules-stretches.auto.froms)
+    (λ c. (rules_call c.before.before.before.before).ask_rules-stretches.auto.tos)
+    (λ c. (rules_call c.before.before.before.before).ask_rules-stretches.auto.lows)
+    (λ c. (rules_call c.before.before.before.before).ask_rules-stretches.auto.highs)
     returns-2
-    (λ c. (rules_call c.before.before.before).ask_rules-stretches.auto.1.1.1.1.1.1.0)
-    (λ c. (rules_call c.before.before.before).ask_rules-stretches.auto.1.1.1.1.1.1.1.0)
-    (λ c. (rules_call c.before.before.before).ask_rules-stretches.auto.1.1.1.1.1.1.1.1.0)
-    (λ c. (rules_call c.before.before.before).ask_rules-stretches.auto.1.1.1.1.1.1.1.1.1.0)
+    (λ c. (rules_call c.before.before.before).ask_rules-stretches.auto.froms)
+    (λ c. (rules_call c.before.before.before).ask_rules-stretches.auto.tos)
+    (λ c. (rules_call c.before.before.before).ask_rules-stretches.auto.lows)
+    (λ c. (rules_call c.before.before.before).ask_rules-stretches.auto.highs)
     returns-3)

@@ -9,4 +9,4 @@ returns c = rw (ne_eqb _ _ c.if-refusal-ne21.true) refl
 
 pub blamed_spec : {M : Type 1} → statement M
 blamed_spec = tie.close (tie.spec returns
-    (λ c. rw (eq-eqb _ _ c.before.before.if-refusal-ne21.false, eq-eqb _ _ c.if-refusal-eq0.true) refl) (λ c. rw (eq-eqb _ _ c.before.before.if-refusal-ne21.false, ne_eqb _ _ c.if-refusal-eq0.false) refl))
+    (λ c. rw (eq-eqb _ _ c.if-refusal-ne21.false, eq-eqb _ _ c.if-refusal-eq0.true) refl) (λ c. rw (eq-eqb _ _ c.if-refusal-ne21.false, ne_eqb _ _ c.if-refusal-eq0.false) refl))

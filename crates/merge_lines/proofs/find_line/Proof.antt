@@ -26,7 +26,7 @@ told c = joined c.before.before.before
 
 -- of a merged sheet: its numbers, and that its loader numbers stand at the front of their array
 abbrev sheet : tie.In-Sheet → Sheet
-sheet c = c.before.joined-in-Sheet-1.given.0.0
+sheet c = c.joined-in-Sheet-1.given.0.0
 
 abbrev arrays : tie.After-join-joined → ListRooms (List ℕ)
 arrays c =
@@ -34,25 +34,25 @@ arrays c =
     rooms k.0 k.1.0 k.1.1.0 k.1.1.1.0 k.1.1.1.1.0 k.1.1.1.1.1.0 k.1.1.1.1.1.1.0
 
 left : (c : tie.In-Sheet) → let a = (start (told c)).args in MergedAtFront (sheet c) a.one.now a.two.now (arrays (told c))
-left c = left_of _ _ _ _ _ c.before.joined-in-Sheet-1.given.1 (told c).join-joined.ensures.1.1
+left c = left_of _ _ _ _ _ c.joined-in-Sheet-1.given.1 (told c).join-joined.ensures.1.1
 
 returns : tie.Need-returns-in-Refused
 returns c =
     let j = joined c.before.before.before in
     let a = (start j).args in
-    let is = c.before.joined-1.given.1 in
+    let is = c.joined-1.given.1 in
     found_refused a.one.now a.two.now a.loader _ _ (sym (ap joined_reply is) ∙ j.join-joined.ensures.0)
     (sym (ap joined_blame is) ∙ j.join-joined.ensures.1.0)
 
 returns-2 : tie.Need-returns-in-Sheet
 returns-2 c =
-    let p = c.before in
-    let d = p.before.before in
-    let j = told d in
+    let p = c in
+    let d = p in
+    let j = told d.before.before.before in
     let a = (start j).args in
     c.locate.ensures ∙ ap (located_at a.one.now a.two.now) p.place_of-i.ensures
-    ∙ found_located a.one.now a.two.now a.loader _ _ _ (sym (ap joined_reply d.before.joined-in-Sheet-1.given.1) ∙ j.join-joined.ensures.0)
-    _ (ap (λ (m : ListRooms (List ℕ)). m.loader) (left d).fronts)
+    ∙ found_located a.one.now a.two.now a.loader _ _ _ (sym (ap joined_reply d.joined-in-Sheet-1.given.1) ∙ j.join-joined.ensures.0)
+    _ (ap (λ (m : ListRooms (List ℕ)). m.loader) (left d.before.before.before).fronts)
 
 pub find_line_spec : {M : Type 1} → statement M
 find_line_spec = tie.close (tie.spec (λ c. refl) (λ c. refl) (λ c. refl) (λ c. refl) (λ c. refl) (λ c. refl) (λ c. refl) (λ c κs. cleared_hold)

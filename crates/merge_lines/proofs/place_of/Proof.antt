@@ -30,18 +30,18 @@ size c = length c.args.numbers.now
 
 returns : tie.Need-returns-then-numbers-j invariant-loop decreases-loop
 returns c =
-    let l = c.before.before.before in
-    sym (first_passed (test l.before) (size l.before) l.loop-j.j (omega arith) (eq-eqb _ _ c.if-numbers-j.true)) ∙ l.loop-j.invariant.1
+    let l = c in
+    sym (first_passed (test l.before.before.before.before) (size l.before.before.before.before) l.loop-j.j (omega arith) (eq-eqb _ _ c.if-numbers-j.true)) ∙ l.loop-j.invariant.1
 
 loop-again : tie.Need-loop-j-preserved invariant-loop decreases-loop
 loop-again c =
-    let l = c.before.before.before in
-    (omega arith, first_failed (test l.before) (size l.before) l.loop-j.j (omega arith) (ne_eqb _ _ c.if-numbers-j.false) ∙ l.loop-j.invariant.1)
+    let l = c in
+    (omega arith, first_failed (test l.before.before.before.before) (size l.before.before.before.before) l.loop-j.j (omega arith) (ne_eqb _ _ c.if-numbers-j.false) ∙ l.loop-j.invariant.1)
 
 returns-2 : tie.Need-returns invariant-loop decreases-loop
 returns-2 c =
-    let l = c.before in
-    sym (first_none (test l.before) (size l.before) l.loop-j.j (omega arith)) ∙ l.loop-j.invariant.1
+    let l = c in
+    sym (first_none (test l.before.before) (size l.before.before) l.loop-j.j (omega arith)) ∙ l.loop-j.invariant.1
 
 pub place_of_spec : {M : Type 1} → statement M
 place_of_spec = tie.close (tie.spec invariant-loop decreases-loop (λ c. (omega arith, ap (λ (k : ℕ). first_from k 0 (test c)) (sub-zero (size c)))) (λ c. omega arith)

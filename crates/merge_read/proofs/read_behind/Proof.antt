@@ -60,7 +60,7 @@ returns-2 c =
 
 pub read_behind_spec : {M : Type 1} → statement M
 read_behind_spec = tie.close (tie.spec
-    (λ c. (answer_long Ours c.before.before.before.before.before.before.before.before.before.args.text.now c.if-text-gt-MAX_BYTES.true, tt))
+    (λ c. (answer_long Ours c.args.text.now c.if-text-gt-MAX_BYTES.true, tt))
     (λ c. let z = start c in scaled z.args.units max_units (length z.args.numbers.now) z.requires.in_loader z.good.1.1.1.0.1)
     (λ c. let z = start c in within z.args.units max_units (length z.args.numbers.now) z.requires.in_loader)
     (λ c. let z = start c in within z.args.units max_units (length z.args.numbers.now) z.requires.in_loader)
@@ -101,18 +101,18 @@ read_behind_spec = tie.close (tie.spec
     (λ c. le_refl (length (start c.before.before.before.before.before.before).args.highs.now))
     ask_text_requires
     (λ c. let z = begun c in
-    same_len_mid z.args.units (length (lent z).loader - z.args.units) (lent z).loader (after (call c)).loader (call c).ask_text.auto.1.1.0)
+    same_len_mid z.args.units (length (lent z).loader - z.args.units) (lent z).loader (after (call c)).loader (call c).ask_text.auto.numbers)
     (λ c. let z = begun c in
-    same_len_mid z.args.units (length (lent z).first - z.args.units) (lent z).first (after (call c)).first (call c).ask_text.auto.1.1.1.0)
+    same_len_mid z.args.units (length (lent z).first - z.args.units) (lent z).first (after (call c)).first (call c).ask_text.auto.firsts)
     (λ c. let z = begun c in
-    same_len_mid z.args.units (length (lent z).last - z.args.units) (lent z).last (after (call c)).last (call c).ask_text.auto.1.1.1.1.0)
+    same_len_mid z.args.units (length (lent z).last - z.args.units) (lent z).last (after (call c)).last (call c).ask_text.auto.lasts)
     (λ c. let z = begun c in
-    same_len_mid z.args.rules (length (lent z).from - z.args.rules) (lent z).from (after (call c)).from (call c).ask_text.auto.1.1.1.1.1.0)
+    same_len_mid z.args.rules (length (lent z).from - z.args.rules) (lent z).from (after (call c)).from (call c).ask_text.auto.froms)
     (λ c. let z = begun c in
-    same_len_mid z.args.rules (length (lent z).to - z.args.rules) (lent z).to (after (call c)).to (call c).ask_text.auto.1.1.1.1.1.1.0)
+    same_len_mid z.args.rules (length (lent z).to - z.args.rules) (lent z).to (after (call c)).to (call c).ask_text.auto.tos)
     (λ c. let z = begun c in
-    same_len_mid z.args.rules (length (lent z).low - z.args.rules) (lent z).low (after (call c)).low (call c).ask_text.auto.1.1.1.1.1.1.1.0)
+    same_len_mid z.args.rules (length (lent z).low - z.args.rules) (lent z).low (after (call c)).low (call c).ask_text.auto.lows)
     (λ c. let z = begun c in
     same_len_mid z.args.rules (length (lent z).high - z.args.rules) (lent z).high (after (call c)).high
-    (call c).ask_text.auto.1.1.1.1.1.1.1.1.0)
+    (call c).ask_text.auto.highs)
     returns-2)

@@ -7,16 +7,16 @@ use Rattle.merge_rules.proofs.add_rule.Tie as tie
 
 returns : tie.Need-returns-then-p-n
 returns c qs before held =
-    let a = c.before.before.before.before.before.before.before.before.before.before.before.before.args in
-    let k = c.before.before.before.before.before.place_of-p in
+    let a = c.args in
+    let k = c.place_of-p in
     tightens a.from a.to a.low a.high a.n a.froms.now a.tos.now a.lows.now a.highs.now qs before held k.result k.ensures
-    (omega arith) c.before.before.larger.result c.smaller.result c.before.before.larger.ensures c.smaller.ensures
+    (omega arith) c.larger.result c.smaller.result c.larger.ensures c.smaller.ensures
 
 returns-2 : tie.Need-returns-then-p-n
 returns-2 c qs before held =
-    let s = c.before.before.before.before.before.before.before.before in
+    let s = c in
     let a = s.args in
-    let k = c.before.place_of-p in
+    let k = c.place_of-p in
     stands_behind a.from a.to a.low a.high a.n a.froms.now a.tos.now a.lows.now a.highs.now qs before held k.result
     k.ensures (omega arith) s.requires
 

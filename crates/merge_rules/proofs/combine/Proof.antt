@@ -60,19 +60,19 @@ long : (c : tie.At-loop-i invariant-loop decreases-loop) → SameLong (rooms (st
 long c = let l = c.loop-i in same_long (rules (start c)) (rooms (start c)) l.i l.count l.past (held c) l.invariant (roomy (start c))
 
 loop-holds : tie.Need-loop-i-init invariant-loop decreases-loop
-loop-holds c = let s = c.before.before.before.before.before.before.before.before in combining_none (rules s) (rooms s)
+loop-holds c = let s = c in combining_none (rules s.before.before.before.before.before.before.before.before) (rooms s.before.before.before.before.before.before.before.before)
 
 add_rule_requires : tie.Need-add_rule-count-requires invariant-loop decreases-loop
 add_rule_requires c κs =
-    let p = c.before.before.before.before.before.before.before.before.before in
+    let p = c in
     let l = p.loop-i in
-    let r = roomy (start p) in
-    let m = few (rules (start p)) (rooms (start p)) l.i l.count l.past (held p) l.invariant in
-    let k : l.i < length (rules (start p)) = omega (arith, size (start p)) in (
-      omega (arith, m, k, r.froms, (long p).froms),
-      omega (arith, m, k, r.tos, (long p).tos),
-      omega (arith, m, k, r.lows, (long p).lows),
-      omega (arith, m, k, r.highs, (long p).highs),
+    let r = roomy (start p.before.before.before.before.before.before.before.before.before) in
+    let m = few (rules (start p.before.before.before.before.before.before.before.before.before)) (rooms (start p.before.before.before.before.before.before.before.before.before)) l.i l.count l.past (held p.before.before.before.before.before.before.before.before.before) l.invariant in
+    let k : l.i < length (rules (start p.before.before.before.before.before.before.before.before.before)) = omega (arith, size (start p.before.before.before.before.before.before.before.before.before)) in (
+      omega (arith, m, k, r.froms, (long p.before.before.before.before.before.before.before.before.before).froms),
+      omega (arith, m, k, r.tos, (long p.before.before.before.before.before.before.before.before.before).tos),
+      omega (arith, m, k, r.lows, (long p.before.before.before.before.before.before.before.before.before).lows),
+      omega (arith, m, k, r.highs, (long p.before.before.before.before.before.before.before.before.before).highs),
     )
 
 -- the rule whose turn it is, and what the call leaves
@@ -109,12 +109,12 @@ loop-again-2 c =
 
 returns : tie.Need-returns invariant-loop decreases-loop
 returns c =
-    let p = c.before in
+    let p = c in
     let l = p.loop-i in
-    let s = start p in
+    let s = start p.before in
     let e : length (rules s) ≤ l.i = omega (arith, size s) in
-    let h = all_held (rules s) (rooms s) l.i l.count l.past (held p) l.invariant e in
-    (h.count, (all_passed (rules s) (rooms s) l.i l.count l.past (held p) l.invariant e, (h.froms, (h.tos, (h.lows, h.highs)))))
+    let h = all_held (rules s) (rooms s) l.i l.count l.past (held p.before) l.invariant e in
+    (h.count, (all_passed (rules s) (rooms s) l.i l.count l.past (held p.before) l.invariant e, (h.froms, (h.tos, (h.lows, h.highs)))))
 
 pub combine_spec : {M : Type 1} → statement M
 combine_spec = tie.close (tie.spec invariant-loop decreases-loop loop-holds (λ c. omega arith) (λ c. omega arith) (λ c. omega arith) (λ c. omega arith)

@@ -29,20 +29,20 @@ size c = length c.args.low.now
 
 returns : tie.Need-returns-then-high-j invariant-loop decreases-loop
 returns c =
-    let l = c.before.before.before.before in
-    sym (first_passed (test l.before) (size l.before) l.loop-j.j (omega arith) (lt-ltb _ _ c.if-high-j.true)) ∙ l.loop-j.invariant.1
+    let l = c in
+    sym (first_passed (test l.before.before.before.before.before) (size l.before.before.before.before.before) l.loop-j.j (omega arith) (lt-ltb _ _ c.if-high-j.true)) ∙ l.loop-j.invariant.1
 
 loop-again : tie.Need-loop-j-preserved invariant-loop decreases-loop
 loop-again c =
-    let l = c.before.before.before.before in
-    (omega arith, first_failed (test l.before) (size l.before) l.loop-j.j (omega arith) (le-ltb _ _ c.if-high-j.false) ∙ l.loop-j.invariant.1)
+    let l = c in
+    (omega arith, first_failed (test l.before.before.before.before.before) (size l.before.before.before.before.before) l.loop-j.j (omega arith) (le-ltb _ _ c.if-high-j.false) ∙ l.loop-j.invariant.1)
 
 returns-2 : tie.Need-returns-then-high-j invariant-loop decreases-loop
 returns-2 c =
-    let l = c.before in
-    sym (first_none (test l.before) (size l.before) l.loop-j.j (omega arith)) ∙ l.loop-j.invariant.1
+    let l = c in
+    sym (first_none (test l.before.before.before.before.before) (size l.before.before.before.before.before) l.loop-j.j (omega arith)) ∙ l.loop-j.invariant.1
 
 pub first_crossed_spec : {M : Type 1} → statement M
 first_crossed_spec = tie.close (tie.spec invariant-loop decreases-loop (λ c. (omega arith, ap (λ (k : ℕ). first_from k 0 (test c)) (sub-zero (size c)))) (λ c. omega arith)
-    (λ c. omega (arith, c.before.before.before.requires)) (λ c. omega arith) (λ c. omega arith) returns (λ c. omega arith) (λ c. omega arith) loop-again
+    (λ c. omega (arith, c.requires)) (λ c. omega arith) (λ c. omega arith) returns (λ c. omega arith) (λ c. omega arith) loop-again
     returns-2)

@@ -22,27 +22,27 @@ test c = let a = c.args in stretch_at a.froms.now a.tos.now a.f a.t
 
 returns : tie.Need-returns-then-tos-n invariant-loop decreases-loop
 returns c =
-    let l = c.before.before.before.before.before in
-    let a = l.before.args in
-    let here = same_from a.froms.now a.tos.now a.f a.t (l.loop-n.n - 1) c.before.before.if-froms-n.true ∙ c.if-tos-n.true in
-    last_passed (test l.before) (length a.froms.now) l.loop-n.n (omega arith) here ∙ l.loop-n.invariant.1
+    let l = c in
+    let a = l.args in
+    let here = same_from a.froms.now a.tos.now a.f a.t (l.loop-n.n - 1) c.if-froms-n.true ∙ c.if-tos-n.true in
+    last_passed (test l.before.before.before.before.before.before) (length a.froms.now) l.loop-n.n (omega arith) here ∙ l.loop-n.invariant.1
 
 loop-again : tie.Need-loop-n-preserved invariant-loop decreases-loop
 loop-again c =
-    let l = c.before.before.before in
-    let a = l.before.args in
+    let l = c in
+    let a = l.args in
     let other =
     ⊎_elim (λ w. same_from a.froms.now a.tos.now a.f a.t (l.loop-n.n - 1) w.0.true ∙ w.2.false)
     (λ w. other_from a.froms.now a.tos.now a.f a.t (l.loop-n.n - 1) w.false) c.else-froms-n.branch in
-    (omega arith, last_failed (test l.before) (length a.froms.now) l.loop-n.n (omega arith) other ∙ l.loop-n.invariant.1)
+    (omega arith, last_failed (test l.before.before.before.before) (length a.froms.now) l.loop-n.n (omega arith) other ∙ l.loop-n.invariant.1)
 
 returns-2 : tie.Need-returns invariant-loop decreases-loop
 returns-2 c =
-    let l = c.before in
-    let a = l.before.args in
+    let l = c in
+    let a = l.args in
     let e : l.loop-n.n ≡ 0 = omega arith in
-    ap (λ (k : ℕ). last_below (length a.froms.now) k (test l.before)) (sym e) ∙ l.loop-n.invariant.1
+    ap (λ (k : ℕ). last_below (length a.froms.now) k (test l.before.before)) (sym e) ∙ l.loop-n.invariant.1
 
 pub last_on_spec : {M : Type 1} → statement M
 last_on_spec = tie.close (tie.spec invariant-loop decreases-loop (λ c. (omega arith, refl)) (λ c. omega arith) (λ c. omega arith)
-    (λ c. omega arith) (λ c. omega arith) (λ c. omega (arith, c.before.before.before.before.before.requires)) returns (λ c. omega arith) loop-again returns-2)
+    (λ c. omega arith) (λ c. omega arith) (λ c. omega (arith, c.requires)) returns (λ c. omega arith) loop-again returns-2)

@@ -22,26 +22,26 @@ test c = let a = c.args in stretch_at a.froms.now a.tos.now a.f a.t
 
 returns : tie.Need-returns-then-tos-j invariant-loop decreases-loop
 returns c =
-    let l = c.before.before.before.before.before in
-    let a = l.before.args in
-    let here = same_from a.froms.now a.tos.now a.f a.t l.loop-j.j c.before.before.if-froms-j.true ∙ c.if-tos-j.true in
-    sym (first_passed (test l.before) a.n l.loop-j.j (omega arith) here) ∙ l.loop-j.invariant.1
+    let l = c in
+    let a = l.args in
+    let here = same_from a.froms.now a.tos.now a.f a.t l.loop-j.j c.if-froms-j.true ∙ c.if-tos-j.true in
+    sym (first_passed (test l.before.before.before.before.before.before) a.n l.loop-j.j (omega arith) here) ∙ l.loop-j.invariant.1
 
 loop-again : tie.Need-loop-j-preserved invariant-loop decreases-loop
 loop-again c =
-    let l = c.before.before.before in
-    let a = l.before.args in
+    let l = c in
+    let a = l.args in
     let other =
     ⊎_elim (λ w. same_from a.froms.now a.tos.now a.f a.t l.loop-j.j w.0.true ∙ w.2.false)
     (λ w. other_from a.froms.now a.tos.now a.f a.t l.loop-j.j w.false) c.else-froms-j.branch in
-    (omega arith, first_failed (test l.before) a.n l.loop-j.j (omega arith) other ∙ l.loop-j.invariant.1)
+    (omega arith, first_failed (test l.before.before.before.before) a.n l.loop-j.j (omega arith) other ∙ l.loop-j.invariant.1)
 
 returns-2 : tie.Need-returns invariant-loop decreases-loop
 returns-2 c =
-    let l = c.before in
-    sym (first_none (test l.before) l.before.args.n l.loop-j.j (omega arith)) ∙ l.loop-j.invariant.1
+    let l = c in
+    sym (first_none (test l.before.before) l.args.n l.loop-j.j (omega arith)) ∙ l.loop-j.invariant.1
 
 pub place_of_spec : {M : Type 1} → statement M
 place_of_spec = tie.close (tie.spec invariant-loop decreases-loop (λ c. (omega arith, ap (λ (k : ℕ). first_from k 0 (test c)) (sub-zero c.args.n))) (λ c. omega arith)
-    (λ c. omega (arith, c.before.before.before.requires)) (λ c. omega arith) (λ c. omega (arith, c.before.before.before.before.before.requires)) returns
+    (λ c. omega (arith, c.requires)) (λ c. omega arith) (λ c. omega (arith, c.requires)) returns
     (λ c. omega arith) (λ c. omega arith) loop-again returns-2)

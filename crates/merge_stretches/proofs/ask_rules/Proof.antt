@@ -47,16 +47,16 @@ not_below c =
 abbrev merged : tie.After-combine-all → List Rule
 merged k = merged_rules (rules (start k))
 
-froms_hold : (k : tie.After-combine-all) → k.combine-all.result.count ≤ length k.combine-all.new.1.1.1.1.0
+froms_hold : (k : tie.After-combine-all) → k.combine-all.result.count ≤ length k.combine-all.new.froms
 froms_hold k = front_holds (λ r. r.from) (merged k) _ _ _ k.combine-all.ensures.0 k.combine-all.ensures.1.1.0
 
-tos_hold : (k : tie.After-combine-all) → k.combine-all.result.count ≤ length k.combine-all.new.1.1.1.1.1.0
+tos_hold : (k : tie.After-combine-all) → k.combine-all.result.count ≤ length k.combine-all.new.tos
 tos_hold k = front_holds (λ r. r.to) (merged k) _ _ _ k.combine-all.ensures.0 k.combine-all.ensures.1.1.1.0
 
-lows_hold : (k : tie.After-combine-all) → k.combine-all.result.count ≤ length k.combine-all.new.1.1.1.1.1.1.0
+lows_hold : (k : tie.After-combine-all) → k.combine-all.result.count ≤ length k.combine-all.new.lows
 lows_hold k = front_holds (λ r. r.low) (merged k) _ _ _ k.combine-all.ensures.0 k.combine-all.ensures.1.1.1.1.0
 
-highs_hold : (k : tie.After-combine-all) → k.combine-all.result.count ≤ length k.combine-all.new.1.1.1.1.1.1.1.0
+highs_hold : (k : tie.After-combine-all) → k.combine-all.result.count ≤ length k.combine-all.new.highs
 highs_hold k = front_holds (λ r. r.high) (merged k) _ _ _ k.combine-all.ensures.0 k.combine-all.ensures.1.1.1.1.1
 
 -- so many places of an array that holds them
@@ -68,7 +68,7 @@ same_many n xs ys h g = length-take-le n xs h ∙ so_many n ys g
 
 ask_combined_requires : tie.Need-ask_combined-asked-requires
 ask_combined_requires c κs =
-    let k = combined (come_back c.before.before.before.before) in
+    let k = combined (come_back c) in
     let z = start k in
     let a = z.args in
     let n = k.combine-all.result.count in (
@@ -80,7 +80,7 @@ ask_combined_requires c κs =
 
 -- the combining, from the answer's arms
 abbrev asked_of : tie.After-ask_combined-asked → tie.After-combine-all
-asked_of q = combined (come_back q.before.before.before.before.before)
+asked_of q = combined (come_back q.before)
 
 -- where the last of the rules past the first's is that are on a stretch
 abbrev last : tie.Start → Rule → ℕ
@@ -104,31 +104,31 @@ asked_both c =
 
 returns : tie.Need-returns-in-No
 returns c =
-    let q = c.before.before.before in
-    let k = asked_of q in
-    (sym (ap verdict_of c.before.asked-1.given.1) ∙ asked_both q, (tt, k.combine-all.ensures.1.1))
+    let q = c in
+    let k = asked_of q.before.before.before in
+    (sym (ap verdict_of c.asked-1.given.1) ∙ asked_both q.before.before.before, (tt, k.combine-all.ensures.1.1))
 
 returns-2 : tie.Need-returns-in-Yes
 returns-2 c =
-    let q = c.before.before in
-    let k = asked_of q in
-    (sym (ap verdict_of c.enum_told-1.given.1) ∙ asked_both q, (k.combine-all.ensures.0, k.combine-all.ensures.1.1))
+    let q = c in
+    let k = asked_of q.before.before in
+    (sym (ap verdict_of c.enum_told-1.given.1) ∙ asked_both q.before.before, (k.combine-all.ensures.0, k.combine-all.ensures.1.1))
 
 pub ask_rules_spec : {M : Type 1} → statement M
 ask_rules_spec = tie.close (tie.spec
-    (λ c κs. let z = c.before.before.before.before.before.before.before.before.before.before.before.before.before in (z.requires.0, z.requires.1.0))
+    (λ c κs. let z = c in (z.requires.0, z.requires.1.0))
     (λ c. omega (arith, (start (combined c)).requires.1.1.1)) (λ c. (start (combined c)).requires.1.1.0) (λ c. search rules) (λ c. search rules)
     (λ c. omega (arith, (start (combined c.before)).requires.1.1.1))
     (λ c. let z = start (combined c.before) in omega (arith, z.requires.0.0, z.requires.1.1.0)) (λ c. search rules) (λ c. search rules) not_below
-    (λ c. froms_hold (combined (come_back c))) (λ c. so_many _ _ (froms_hold (combined (come_back c.before))))
-    (λ c. tos_hold (combined (come_back c.before))) (λ c. so_many _ _ (tos_hold (combined (come_back c.before.before))))
-    (λ c. lows_hold (combined (come_back c.before.before))) (λ c. so_many _ _ (lows_hold (combined (come_back c.before.before.before))))
-    (λ c. highs_hold (combined (come_back c.before.before.before)))
-    (λ c. so_many _ _ (highs_hold (combined (come_back c.before.before.before.before))))
+    (λ c. froms_hold (combined (come_back c))) (λ c. so_many _ _ (froms_hold (combined (come_back c))))
+    (λ c. tos_hold (combined (come_back c))) (λ c. so_many _ _ (tos_hold (combined (come_back c))))
+    (λ c. lows_hold (combined (come_back c))) (λ c. so_many _ _ (lows_hold (combined (come_back c))))
+    (λ c. highs_hold (combined (come_back c)))
+    (λ c. so_many _ _ (highs_hold (combined (come_back c))))
     ask_combined_requires (λ c. c.in-No.keys1) (λ c. c.in-Yes.keys2)
-    (λ c. (asked_of c.before.before.before).combine-all.auto.1.1.1.1.0) (λ c. (asked_of c.before.before.before).combine-all.auto.1.1.1.1.1.0)
-    (λ c. (asked_of c.before.before.before).combine-all.auto.1.1.1.1.1.1.0)
-    (λ c. (asked_of c.before.before.before).combine-all.auto.1.1.1.1.1.1.1.0) returns
-    (λ c. (asked_of c.before.before).combine-all.auto.1.1.1.1.0) (λ c. (asked_of c.before.before).combine-all.auto.1.1.1.1.1.0)
-    (λ c. (asked_of c.before.before).combine-all.auto.1.1.1.1.1.1.0)
-    (λ c. (asked_of c.before.before).combine-all.auto.1.1.1.1.1.1.1.0) returns-2)
+    (λ c. (asked_of c.before.before.before).combine-all.auto.froms) (λ c. (asked_of c.before.before.before).combine-all.auto.tos)
+    (λ c. (asked_of c.before.before.before).combine-all.auto.lows)
+    (λ c. (asked_of c.before.before.before).combine-all.auto.highs) returns
+    (λ c. (asked_of c.before.before).combine-all.auto.froms) (λ c. (asked_of c.before.before).combine-all.auto.tos)
+    (λ c. (asked_of c.before.before).combine-all.auto.lows)
+    (λ c. (asked_of c.before.before).combine-all.auto.highs) returns-2)

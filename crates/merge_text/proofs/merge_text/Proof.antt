@@ -56,23 +56,23 @@ at_front c =
 
 put_refused_requires : tie.Need-put_refused-next-requires
 put_refused_requires c κs =
-    let d = c.before.before in
-    let p = refused_call d in
-    let r = refusal_small (one p) (two p) _ _ (refused_told d) in
+    let d = c in
+    let p = refused_call d.before.before in
+    let r = refusal_small (one p) (two p) _ _ (refused_told d.before.before) in
     (omega (arith, r.0), omega (arith, r.1))
 
 put_fronts_requires : tie.Need-put_fronts-next-requires
 put_fronts_requires c κs =
-    let d = c.before.before.before.before.before.before.before.before.before in
-    let p = sheet_call d in
-    sheet_held (one p) (two p) d.joined-in-Sheet-1.given.0.0 (after p) (read_told d) (at_front d)
+    let d = c in
+    let p = sheet_call d.before.before.before.before.before.before.before.before.before in
+    sheet_held (one p) (two p) d.joined-in-Sheet-1.given.0.0 (after p) (read_told d.before.before.before.before.before.before.before.before.before) (at_front d.before.before.before.before.before.before.before.before.before)
 
 returns : tie.Need-returns-in-Refused
 returns c =
-    let d = c.before.before.before in
-    let p = refused_call d in
+    let d = c in
+    let p = refused_call d.before.before.before in
     let f = d.joined-1.given.0.0 in
-    let told = refusal_told (one p) (two p) f.number f.line (refused_told d) in
+    let told = refusal_told (one p) (two p) f.number f.line (refused_told d.before.before.before) in
     let w = c.Put-refused.ensures in
     let past : c.Put-refused.result ≡ length (refused_line f.number f.line) = omega (arith, w.moved) in (
       ap (says.refused f.number f.line) past ∙ told.0,
@@ -81,10 +81,10 @@ returns c =
 
 returns-2 : tie.Need-returns-in-Sheet
 returns-2 c =
-    let d = c.before.before.before.before.before.before.before.before.before.before in
-    let p = sheet_call d in
+    let d = c in
+    let p = sheet_call d.before.before.before.before.before.before.before.before.before.before in
     let s = d.joined-in-Sheet-1.given.0.0 in
-    let told = sheet_told (one p) (two p) s (after p) (read_told d) (at_front d) in
+    let told = sheet_told (one p) (two p) s (after p) (read_told d.before.before.before.before.before.before.before.before.before.before) (at_front d.before.before.before.before.before.before.before.before.before.before) in
     let w = c.put_fronts-next.ensures in
     let past : c.put_fronts-next.result ≡ length (sheet_text Ours (written_by (fronts s (after p)))) = omega (arith, w.moved) in (
       ap says.sheet past ∙ told.0,
@@ -94,11 +94,11 @@ returns-2 c =
 pub merge_text_spec : {M : Type 1} → statement M
 merge_text_spec = tie.close (tie.spec (λ c. refl) (λ c. refl) (λ c. refl) (λ c. refl) (λ c. refl) (λ c. refl) (λ c. refl) (λ c κs. search rules)
     (λ c. c.in-Refused.keys1) put_refused_requires (λ c. c.in-Sheet.keys2)
-    (λ c. sym (sheet_call c.before.before).join-joined.auto.1.1.0)
-    (λ c. sym (sheet_call c.before.before.before).join-joined.auto.1.1.1.0)
-    (λ c. sym (sheet_call c.before.before.before.before).join-joined.auto.1.1.1.1.0)
-    (λ c. sym (sheet_call c.before.before.before.before.before).join-joined.auto.1.1.1.1.1.0)
-    (λ c. sym (sheet_call c.before.before.before.before.before.before).join-joined.auto.1.1.1.1.1.1.0)
-    (λ c. sym (sheet_call c.before.before.before.before.before.before.before).join-joined.auto.1.1.1.1.1.1.1.0)
-    (λ c. sym (sheet_call c.before.before.before.before.before.before.before.before).join-joined.auto.1.1.1.1.1.1.1.1.0)
+    (λ c. sym (sheet_call c.before.before).join-joined.auto.numbers)
+    (λ c. sym (sheet_call c.before.before.before).join-joined.auto.firsts)
+    (λ c. sym (sheet_call c.before.before.before.before).join-joined.auto.lasts)
+    (λ c. sym (sheet_call c.before.before.before.before.before).join-joined.auto.froms)
+    (λ c. sym (sheet_call c.before.before.before.before.before.before).join-joined.auto.tos)
+    (λ c. sym (sheet_call c.before.before.before.before.before.before.before).join-joined.auto.lows)
+    (λ c. sym (sheet_call c.before.before.before.before.before.before.before.before).join-joined.auto.highs)
     put_fronts_requires returns returns-2)

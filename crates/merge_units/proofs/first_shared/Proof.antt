@@ -37,7 +37,7 @@ twos c = (start (chained (at_loop c))).args.twos.now
 
 loop-holds : tie.Need-loop-j-init invariant-loop decreases-loop
 loop-holds c =
-    let a = c.before.before.before.before.before.before.before.args in
+    let a = c.args in
     (omega arith, ap (λ (k : ℕ). first_from k 0 (shared_at a.ones.now a.twos.now)) (sub-zero (length a.twos.now)))
 
 -- what the search says of the number at place j
@@ -46,24 +46,24 @@ says c = c.is_among.ensures ∙ ap (member _) (take_all (length (ones c)) (ones 
 
 returns : tie.Need-returns-then-is_among invariant-loop decreases-loop
 returns c =
-    let d = c.before in
-    let l = (at_loop d).loop-j in
-    sym (first_passed (shared_at (ones d) (twos d)) (length (twos d)) l.j (omega arith) (sym (says d) ∙ c.if-is_among.true)) ∙ l.invariant.1
+    let d = c in
+    let l = (at_loop d.before).loop-j in
+    sym (first_passed (shared_at (ones d.before) (twos d.before)) (length (twos d.before)) l.j (omega arith) (sym (says d.before) ∙ c.if-is_among.true)) ∙ l.invariant.1
 
 loop-again : tie.Need-loop-j-preserved invariant-loop decreases-loop
 loop-again c =
-    let d = c.before in
-    let l = (at_loop d).loop-j in
-    (omega arith, first_failed (shared_at (ones d) (twos d)) (length (twos d)) l.j (omega arith) (sym (says d) ∙ c.if-is_among.false) ∙ l.invariant.1)
+    let d = c in
+    let l = (at_loop d.before).loop-j in
+    (omega arith, first_failed (shared_at (ones d.before) (twos d.before)) (length (twos d.before)) l.j (omega arith) (sym (says d.before) ∙ c.if-is_among.false) ∙ l.invariant.1)
 
 returns-2 : tie.Need-returns invariant-loop decreases-loop
 returns-2 c =
     let a = (start (chained c.before)).args in
-    let l = c.before.loop-j in
+    let l = c.loop-j in
     sym (first_none (shared_at a.ones.now a.twos.now) (length a.twos.now) l.j (omega arith)) ∙ l.invariant.1
 
 pub first_shared_spec : {M : Type 1} → statement M
-first_shared_spec = tie.close (tie.spec invariant-loop decreases-loop (λ c. refl) (λ c. refl) (λ c κs. (c.before.before.before.before.requires, refl, refl)) loop-holds
+first_shared_spec = tie.close (tie.spec invariant-loop decreases-loop (λ c. refl) (λ c. refl) (λ c κs. (c.requires, refl, refl)) loop-holds
     (λ c. sym (chained c.before.before).link_all.kept.1.0) (λ c. sym (chained c.before.before.before).link_all.kept.1.1.0) (λ c. omega arith) (λ c. omega arith)
     (λ c κs. (omega arith, let k = chained c.before.before.before.before in omega (arith, k.link_all.kept.1.1.0, (start k).pre), (chained c.before.before.before.before).link_all.ensures)) returns (λ c. omega arith) (λ c. omega arith) loop-again
     returns-2)

@@ -21,37 +21,37 @@ start c = c.before.before.before.before
 
 loop-holds : tie.Need-loop-j-init invariant-loop decreases-loop
 loop-holds c =
-    let s = c.before.before.before in
+    let s = c in
     let nexts = s.args.nexts.now in
     (omega arith, s.requires.2, subst (λ hs. Linked s.args.ks.now 0 hs nexts) (sym s.requires.1) (linked_none _ nexts))
 
 link_requires : tie.Need-link-requires invariant-loop decreases-loop
 link_requires c κs =
-    let p = c.before.before.before.before in
+    let p = c in
     let l = p.loop-j.invariant in
-    (l.2.wide, omega (arith, (start p).requires.0), omega (arith, (start p).requires.0, l.1))
+    (l.2.wide, omega (arith, (start p.before.before.before.before).requires.0), omega (arith, (start p.before.before.before.before).requires.0, l.1))
 
 loop-again : tie.Need-loop-j-preserved invariant-loop decreases-loop
 loop-again c =
-    let k = c.before.before.before.before.link in
-    let p = c.before.before.before.before.before.before.before.before.before in
+    let k = c.link in
+    let p = c in
     let l = p.loop-j in
-    let z = start p in (
+    let z = start p.before.before.before.before.before.before.before.before.before in (
       omega arith,
-      k.auto.1.1.1.0 ∙ l.invariant.1,
+      k.auto.nexts ∙ l.invariant.1,
       rw (k.ensures.0, k.ensures.1) (linked_more z.args.ks.now l.heads l.nexts l.j l.invariant.2 (omega (arith, z.requires.0, l.invariant.1))),
     )
 
 -- the chains are as many as they were
 same_length : tie.Need-shape_of-heads invariant-loop decreases-loop
-same_length c = let p = c.before in p.loop-j.invariant.2.wide ∙ sym (ap length (start p).requires.1 ∙ length-replicate {A = ℕ} chains 0)
+same_length c = let p = c in p.loop-j.invariant.2.wide ∙ sym (ap length (start p.before).requires.1 ∙ length-replicate {A = ℕ} chains 0)
 
 returns : tie.Need-returns invariant-loop decreases-loop
 returns c =
-    let p = c.before in
-    let e : p.loop-j.j ≡ length (start p).args.ks.now = omega arith in
-    subst (λ n. Linked (start p).args.ks.now n p.loop-j.heads p.loop-j.nexts) e p.loop-j.invariant.2
+    let p = c in
+    let e : p.loop-j.j ≡ length (start p.before).args.ks.now = omega arith in
+    subst (λ n. Linked (start p.before).args.ks.now n p.loop-j.heads p.loop-j.nexts) e p.loop-j.invariant.2
 
 pub link_all_spec : {M : Type 1} → statement M
 link_all_spec = tie.close (tie.spec invariant-loop decreases-loop loop-holds (λ c. omega arith) (λ c. omega arith) link_requires (λ c. omega arith) (λ c. omega arith)
-    loop-again same_length (λ c. c.before.loop-j.invariant.1 ∙ sym (start c.before).pre.2) returns)
+    loop-again same_length (λ c. c.loop-j.invariant.1 ∙ sym (start c.before).pre.2) returns)

@@ -5,7 +5,7 @@ use Rattle.merge_units.proofs.refuse.Statement.{statement}
 use Rattle.merge_units.proofs.refuse.Tie as tie
 
 returns : tie.Need-returns
-returns c = ap (no c.before.before.args.number) c.line_number.ensures
+returns c = ap (no c.args.number) c.line_number.ensures
 
 pub refuse_spec : {M : Type 1} → statement M
 refuse_spec = tie.close (tie.spec (λ c κs. tt) returns)

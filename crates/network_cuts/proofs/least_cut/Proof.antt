@@ -17,35 +17,35 @@ decreases-loop d m w f l from₀ to₀ middle₀ from to middle = to - from
 
 admits_requires : tie.Need-admits-requires invariant-loop decreases-loop
 admits_requires c κs =
-    let st = c.before.before in
-    let s = c.before.loop-from.invariant in
+    let st = c in
+    let s = c.loop-from.invariant in
     (st.requires.0.0, omega (arith, s.start, s.after, s.before, s.end, st.requires.0, c.loop-from-test.true))
 
 -- either answer moves one end
-next : (c : tie.Joined-admits invariant-loop decreases-loop) → let a = c.before.before.before.before.args in
+next : (c : tie.Joined-admits invariant-loop decreases-loop) → let a = c.args in
     Search a.w a.d.now a.m.now a.f.0 a.l.0 a.known.0 c.if-admits.from c.if-admits.to (c.if-admits.from + (c.if-admits.to - c.if-admits.from) / 2)
-    × (c.if-admits.to - c.if-admits.from < c.before.before.before.loop-from.to - c.before.before.before.loop-from.from)
+    × (c.if-admits.to - c.if-admits.from < c.loop-from.to - c.loop-from.from)
 next c =
-    let a = c.before.before.before.before.args in
-    let l = c.before.before.before.loop-from in
+    let a = c.args in
+    let l = c.loop-from in
     let s = l.invariant in
-    let h = c.before.before.loop-from-test.true in
+    let h = c.loop-from-test.true in
     let decided : Bool → Type 0 = λ t. Decides t (AdmitsAt a.w a.d.now a.m.now a.f.0 l.middle a.l.0) in
     ⊎_elim (λ w. rw (w.1, w.2) (
-      search_yes s h (omega arith) (omega (arith, s.after)) (subst decided w.0.true c.before.admits.ensures),
+      search_yes s h (omega arith) (omega (arith, s.after)) (subst decided w.0.true c.admits.ensures),
       omega (arith, s.after, s.before),
     ))
     (λ w. rw (w.1, w.2) (
-      search_no s h (omega arith) (omega (arith, s.before)) (subst decided w.0.false c.before.admits.ensures),
+      search_no s h (omega arith) (omega (arith, s.before)) (subst decided w.0.false c.admits.ensures),
       omega (arith, s.after, s.before),
     ))
     c.if-admits.branch
 
 add_middle : tie.Need-overflow_add-middle invariant-loop decreases-loop
-add_middle c = let s = (next c.before.before).0 in omega (arith, s.end, s.order, c.before.before.before.before.before.before.requires.0)
+add_middle c = let s = (next c.before.before).0 in omega (arith, s.end, s.order, c.requires.0)
 
 pub least_cut_spec : {M : Type 1} → statement M
 least_cut_spec = tie.close (tie.spec invariant-loop decreases-loop (λ c. search_first c.requires.0.2 c.requires.0.3 c.requires.1.0 c.requires.1.1) admits_requires
-    (λ c. let s = c.before.before.before.loop-from.invariant in omega (arith, s.before, s.end, s.order, c.before.before.before.before.requires.0))
+    (λ c. let s = c.loop-from.invariant in omega (arith, s.before, s.end, s.order, c.requires.0))
     (λ c. (next c.before.before).0.order) add_middle (λ c. (next c.before.before).1) (λ c. (next c.before.before).0)
-    (λ c. search_last c.before.loop-from.invariant c.loop-from-test.false c.before.before.requires.0.4))
+    (λ c. search_last c.loop-from.invariant c.loop-from-test.false c.requires.0.4))

@@ -26,46 +26,46 @@ fits c i h = sum_fits (value_at c.args.xs.now i) (value_at c.args.ys.now i) (c.r
 
 add_r : tie.Need-overflow_add-r invariant-loop decreases-loop
 add_r c =
-    let st = c.before.before in
+    let st = c in
     let fx : SFits w16 (get_or st.args.xs.now 0 (pos 0)) = search rules in
     let fy : SFits w16 (get_or st.args.ys.now 0 (pos 0)) = search rules in
-    rw (to_z-of_z fx, to_z-of_z fy) (fits st 0 st.requires.0)
+    rw (to_z-of_z fx, to_z-of_z fy) (fits st.before.before 0 st.requires.0)
 
 loop-holds : tie.Need-loop-i-init invariant-loop decreases-loop
 loop-holds c =
-    let st = c.before.before in
+    let st = c in
     let xs = st.args.xs.now in
     let ys = st.args.ys.now in
     let fx : SFits w16 (get_or xs 0 (pos 0)) = search rules in
     let fy : SFits w16 (get_or ys 0 (pos 0)) = search rules in
-    (omega arith, refl, simp (to_z-of_z fx, to_z-of_z fy, to_z-of_z (fits st 0 st.requires.0)) (least_first xs ys st.requires.0))
+    (omega arith, refl, simp (to_z-of_z fx, to_z-of_z fy, to_z-of_z (fits st.before.before 0 st.requires.0)) (least_first xs ys st.requires.0))
 
 add_lesser : tie.Need-overflow_add-xs invariant-loop decreases-loop
 add_lesser c =
-    let st = c.before.before.before.before.before.before in
-    let i = c.before.before.before.loop-i.i in
+    let st = c in
+    let i = c.loop-i.i in
     let fx : SFits w16 (get_or st.args.xs.now i (pos 0)) = search rules in
     let fy : SFits w16 (get_or st.args.ys.now i (pos 0)) = search rules in
-    rw (to_z-of_z fx, to_z-of_z fy) (fits st i (omega arith))
+    rw (to_z-of_z fx, to_z-of_z fy) (fits st.before.before.before.before.before.before i (omega arith))
 
 loop-again : tie.Need-loop-i-preserved invariant-loop decreases-loop
 loop-again c =
-    let st = c.before.before.before.before.before.before.before in
-    let l = c.before.before.before.before.loop-i in
+    let st = c in
+    let l = c.loop-i in
     let xs = st.args.xs.now in
     let ys = st.args.ys.now in
     let fx : SFits w16 (get_or xs l.i (pos 0)) = search rules in
     let fy : SFits w16 (get_or ys l.i (pos 0)) = search rules in
     let fr : SFits w16 c.lesser-r.result = search rules in
     let e : c.lesser-r.result ≡ min_ℤ (to_z w16 l.r) (value_at xs l.i +ℤ value_at ys l.i) =
-    simp (to_z-of_z fx, to_z-of_z fy, to_z-of_z (fits st l.i (omega arith))) at c.lesser-r.ensures in
+    simp (to_z-of_z fx, to_z-of_z fy, to_z-of_z (fits st.before.before.before.before.before.before.before l.i (omega arith))) at c.lesser-r.ensures in
     (omega arith, refl, simp (to_z-of_z fr) (rw e (least_more l.i xs ys (to_z w16 l.r) (omega arith) l.invariant.2)))
 
 returns : tie.Need-returns invariant-loop decreases-loop
 returns c =
-    let l = c.before.loop-i in
-    let xs = c.before.before.before.before.args.xs.now in
-    let ys = c.before.before.before.before.args.ys.now in
+    let l = c.loop-i in
+    let xs = c.args.xs.now in
+    let ys = c.args.ys.now in
     let e : l.i ≡ length xs = omega arith in
     subst (λ (n : ℕ). LeastSum n xs ys (to_z w16 l.r)) e l.invariant.2
 

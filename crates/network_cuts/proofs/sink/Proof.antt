@@ -18,22 +18,22 @@ decreases-loop d m w f v l z₀ z = height_at w d f.0 z
 abbrev Swept : Type 0
 Swept = tie.After-sweep-s invariant-loop decreases-loop
 
-long : (s : Swept) → length s.sweep-s.last.1.1.1.1.1.1.0 ≡ length s.before.before.before.args.z.now
+long : (s : Swept) → length s.sweep-s.last.z ≡ length s.before.before.before.args.z.now
 long s = s.sweep-s.kept.1.1.1.1.1.1.0 ∙ s.before.before.loop.invariant.long ∙ sym s.before.before.before.requires.long
 
 swept : (s : Swept) (r : Settled) → s.sweep-s.result ≡ r → let a = s.before.before.before.args in
     Settling a.w a.d.now a.m.now a.f.0 a.v.0 a.l.0 0 (slot_end a.f.0) s.before.before.loop.z
-    s.sweep-s.last.1.1.1.1.1.1.0 r
+    s.sweep-s.last.z r
 swept s r e =
     let a = s.before.before.before.args in
     let z = s.before.before.loop.z in
-    let z' = s.sweep-s.last.1.1.1.1.1.1.0 in
+    let z' = s.sweep-s.last.z in
     subst (Settling a.w a.d.now a.m.now a.f.0 a.v.0 a.l.0 0 (slot_end a.f.0) z z') e s.sweep-s.ensures
 
 pub sink_spec : {M : Type 1} → statement M
-sink_spec = tie.close (tie.spec invariant-loop decreases-loop (λ c. c.requires) (λ c κs. c.before.loop.invariant)
+sink_spec = tie.close (tie.spec invariant-loop decreases-loop (λ c. c.requires) (λ c κs. c.loop.invariant)
     (λ c. c.in-Still.keys1) (λ c. long c.before.before.before)
-    (λ c. let s = c.before.before.before in still_admits s.before.before.loop.invariant _ (swept s _ c.enum_told-1.given.1))
+    (λ c. let s = c in still_admits s.loop.invariant _ (swept s _ c.enum_told-1.given.1))
     (λ c. c.in-Lost.keys2) (λ c. long c.before.before.before) (λ c. swept c.before.before.before _ c.enum_told-in-Lost-1.given.1)
     (λ c. c.in-Lower.keys3) (λ c. (swept c.before.before.before _ c.enum_told-in-Lower-1.given.1).1)
     (λ c. (swept c.before.before.before _ c.enum_told-in-Lower-1.given.1).0))

@@ -20,31 +20,31 @@ abbrev decreases-loop : tie.decreases-loop-b
 decreases-loop d m w f v l z₀ lower₀ end b₀ z lower b = slot_end f.0 - b
 
 loop-holds : tie.Need-loop-b-init invariant-loop decreases-loop
-loop-holds c = let a = c.before.args in (omega arith, c.before.requires, swept_none a.w a.f.0 a.v.0 a.l.0 a.d.now a.m.now a.z.now)
+loop-holds c = let a = c.args in (omega arith, c.requires, swept_none a.w a.f.0 a.v.0 a.l.0 a.d.now a.m.now a.z.now)
 
 settle_requires : tie.Need-settle-s-requires invariant-loop decreases-loop
-settle_requires c κs = (c.before.before.loop-b.invariant.1, omega arith)
+settle_requires c κs = (c.loop-b.invariant.1, omega arith)
 
 same_length : tie.Need-shape_of-z-in-Lost invariant-loop decreases-loop
 same_length c =
-    let s = c.before.before.before in
-    s.settle-s.auto.1.1.1.1.1.1.1.0 ∙ s.before.before.before.loop-b.invariant.1.long ∙ sym s.before.before.before.before.before.requires.long
+    let s = c in
+    s.settle-s.auto.z ∙ s.loop-b.invariant.1.long ∙ sym s.requires.long
 
 returns : tie.Need-returns-in-Lost invariant-loop decreases-loop
 returns c =
-    let s = c.before.before.before in
-    let a = s.before.before.before.before.before.args in
-    let l = s.before.before.before.loop-b in
-    let z' = s.settle-s.new.1.1.1.1.1.1.1.0 in
+    let s = c in
+    let a = s.args in
+    let l = s.loop-b in
+    let z' = s.settle-s.new.z in
     subst (Settling a.w a.d.now a.m.now a.f.0 a.v.0 a.l.0 l.b (l.b + 1) l.z z') c.enum_told-in-Lost-1.given.1 s.settle-s.ensures
 
 loop-again : tie.Need-loop-b-preserved invariant-loop decreases-loop
 loop-again c =
-    let s = c.before.before in
-    let a = s.before.before.before.before.before.args in
-    let l = s.before.before.before.loop-b in
+    let s = c in
+    let a = s.args in
+    let l = s.loop-b in
     let i = l.invariant in
-    let z' = s.settle-s.new.1.1.1.1.1.1.1.0 in
+    let z' = s.settle-s.new.z in
     let made = Settling a.w a.d.now a.m.now a.f.0 a.v.0 a.l.0 l.b (l.b + 1) l.z z' in
     ⊎_elim (λ w.
     let e : s.settle-s.result ≡ Still = w.1.given.1 in

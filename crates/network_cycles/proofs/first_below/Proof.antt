@@ -27,11 +27,11 @@ invariant-loop low high n v₀ v =
 abbrev decreases-loop : tie.decreases-loop-v
 decreases-loop low high n v₀ v = length low - v
 
-compared : (c : tie.After-less invariant-loop decreases-loop) → let a = c.before.before.before.before.before.args in
-    below a.low.now a.high.now c.before.before.before.before.loop-v.v ≡ c.less.result
+compared : (c : tie.After-less invariant-loop decreases-loop) → let a = c.args in
+    below a.low.now a.high.now c.loop-v.v ≡ c.less.result
 compared c =
-    let a = c.before.before.before.before.before.args in
-    let v = c.before.before.before.before.loop-v.v in
+    let a = c.args in
+    let v = c.loop-v.v in
     let f : SFits w16 (get_or a.low.now v (pos 0)) = search rules in
     let g : SFits w16 (get_or a.high.now v (pos 0)) = search rules in
     sym (simp (to_z-of_z f, to_z-of_z g) at c.less.ensures)
@@ -45,18 +45,18 @@ size c = length c.args.low.now
 
 returns : tie.Need-returns-then-less invariant-loop decreases-loop
 returns c =
-    let l = c.before.before.before.before.before in
-    sym (first_passed (test l.before) (size l.before) l.loop-v.v (omega arith) (compared c.before ∙ c.if-less.true)) ∙ l.loop-v.invariant.2
+    let l = c in
+    sym (first_passed (test l.before.before.before.before.before.before) (size l.before.before.before.before.before.before) l.loop-v.v (omega arith) (compared c.before ∙ c.if-less.true)) ∙ l.loop-v.invariant.2
 
 loop-again : tie.Need-loop-v-preserved invariant-loop decreases-loop
 loop-again c =
-    let l = c.before.before.before.before.before in
-    (omega arith, refl, first_failed (test l.before) (size l.before) l.loop-v.v (omega arith) (compared c.before ∙ c.if-less.false) ∙ l.loop-v.invariant.2)
+    let l = c in
+    (omega arith, refl, first_failed (test l.before.before.before.before.before.before) (size l.before.before.before.before.before.before) l.loop-v.v (omega arith) (compared c.before ∙ c.if-less.false) ∙ l.loop-v.invariant.2)
 
 returns-2 : tie.Need-returns invariant-loop decreases-loop
 returns-2 c =
-    let l = c.before in
-    sym (first_none (test l.before) (size l.before) l.loop-v.v (omega arith)) ∙ l.loop-v.invariant.2
+    let l = c in
+    sym (first_none (test l.before.before) (size l.before.before) l.loop-v.v (omega arith)) ∙ l.loop-v.invariant.2
 
 pub first_below_spec : {M : Type 1} → statement M
 first_below_spec = tie.close (tie.spec invariant-loop decreases-loop

@@ -16,7 +16,7 @@ sub_before c = omega (arith, row_inside 0 c.args.w (omega arith))
 
 first_below_requires : tie.Need-first_below-requires
 first_below_requires c κs =
-    let st = c.before.before in
+    let st = c in
     let w = st.args.w in
     let levels = st.args.levels.now in
     let h = row_inside 0 w (omega arith) in
@@ -24,7 +24,7 @@ first_below_requires c κs =
 
 returns : tie.Need-returns
 returns c =
-    let st = c.before.before.before in
+    let st = c in
     let w = st.args.w in
     let levels = st.args.levels.now in
     let q = st.requires.0 in

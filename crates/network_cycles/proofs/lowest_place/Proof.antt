@@ -27,8 +27,8 @@ loop-holds c =
 
 loop-again : tie.Need-loop-j-preserved invariant-loop decreases-loop
 loop-again c =
-    let xs = c.before.before.before.before.before.args.c.now in
-    let l = c.before.before.before.before.loop-j in
+    let xs = c.args.c.now in
+    let l = c.loop-j in
     ⊎_elim
     (λ p.
     let e = ap (λ (n : ℕ). get_or xs n 0) p.1 in
@@ -42,7 +42,7 @@ loop-again c =
 
 returns : tie.Need-returns invariant-loop decreases-loop
 returns c =
-    let l = c.before.loop-j in
+    let l = c.loop-j in
     record { inside = omega arith; least = λ j h. l.invariant.3 j (omega arith) }
 
 pub lowest_place_spec : {M : Type 1} → statement M

@@ -16,17 +16,17 @@ walk_long c = let h = c.requires.0.few in length-take-le (c.args.w + 1) (replica
 
 fill_levels_requires : tie.Need-fill_levels-requires
 fill_levels_requires c κs =
-    let st = c.before.before in
+    let st = c in
     (st.requires.0, levels_fit st.args.w st.requires.0.few, first_level ((max_boundaries + 1) * max_boundaries) st.args.w st.args.d.now)
 
 find_cycle_requires : tie.Need-find_cycle-requires
 find_cycle_requires c κs =
-    let f = c.before.before.before.before in
-    let st = f.before.before.before in
+    let f = c in
+    let st = f in
     let long = levels_fit st.args.w st.requires.0.few in (
-      record { weights = st.requires.0; long = omega (arith, long, f.fill_levels.auto.1.1.0); levels_are = f.fill_levels.ensures },
+      record { weights = st.requires.0; long = omega (arith, long, f.fill_levels.auto.levels); levels_are = f.fill_levels.ensures },
       st.requires.1,
-      walk_long st,
+      walk_long st.before.before.before.before.before.before.before,
       st.requires.2,
     )
 

@@ -29,15 +29,15 @@ size c = length c.args.c.now
 
 returns : tie.Need-returns-then-c-j invariant-loop decreases-loop
 returns c =
-    let l = c.before.before.before in
-    sym (first_passed (test l.before) (size l.before) l.loop-j.j (omega arith) (eq-eqb _ _ c.if-c-j.true)) ∙ l.loop-j.invariant.2
+    let l = c in
+    sym (first_passed (test l.before.before.before.before) (size l.before.before.before.before) l.loop-j.j (omega arith) (eq-eqb _ _ c.if-c-j.true)) ∙ l.loop-j.invariant.2
 
 loop-again : tie.Need-loop-j-preserved invariant-loop decreases-loop
 loop-again c =
-    let l = c.before.before.before in
-    (omega arith, refl, first_failed (test l.before) (size l.before) l.loop-j.j (omega arith) (ne_eqb _ _ c.if-c-j.false) ∙ l.loop-j.invariant.2)
+    let l = c in
+    (omega arith, refl, first_failed (test l.before.before.before.before) (size l.before.before.before.before) l.loop-j.j (omega arith) (ne_eqb _ _ c.if-c-j.false) ∙ l.loop-j.invariant.2)
 
 pub place_of_spec : {M : Type 1} → statement M
 place_of_spec = tie.close (tie.spec invariant-loop decreases-loop (λ c. (omega arith, refl, refl)) (λ c. omega arith) (λ c. omega arith) returns (λ c. omega arith)
     (λ c. omega arith) loop-again
-    (λ c. let l = c.before in sym (first_none (test l.before) (size l.before) l.loop-j.j (omega arith)) ∙ l.loop-j.invariant.2))
+    (λ c. let l = c in sym (first_none (test l.before.before) (size l.before.before) l.loop-j.j (omega arith)) ∙ l.loop-j.invariant.2))

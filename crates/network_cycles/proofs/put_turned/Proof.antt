@@ -10,13 +10,13 @@ use Rattle.network_cycles.proofs.put_turned.Tie as tie
 
 returns : tie.Need-returns
 returns c =
-    let first = c.before.before.before.before.before.before.before in
-    let st = first.before.before.before.before.before in
+    let first = c in
+    let st = first in
     let xs = st.args.c.now in
     let low = st.args.low in
     let n = length xs in
-    turned_list xs st.args.out.now first.copy_list.new.1.0 c.before.before.copy_list-2.new.1.0 low (n - (n - low)) n (n - low)
-    refl st.requires.0 refl refl st.requires.1 first.copy_list.ensures (rw (sub-zero low) at c.before.before.copy_list-2.ensures)
+    turned_list xs st.args.out.now first.copy_list.new.out c.copy_list-2.new.out low (n - (n - low)) n (n - low)
+    refl st.requires.0 refl refl st.requires.1 first.copy_list.ensures (rw (sub-zero low) at c.copy_list-2.ensures)
 
 pub put_turned_spec : {M : Type 1} → statement M
 put_turned_spec = tie.close (tie.spec (λ c. search rules) (λ c. search rules) (λ c. search rules) (λ c. search rules) (λ c κs. search rules)

@@ -21,34 +21,34 @@ decreases-loop d w levels k v above target u₀ u = w - u
 -- the test of the boundary u
 abbrev test : tie.In-loop-u invariant-loop decreases-loop → Bool
 test c =
-    let st = c.before.before.before in
-    leaves_more st.args.w st.args.d.now st.args.levels.now st.args.k st.args.v c.before.loop-u.u
+    let st = c in
+    leaves_more st.args.w st.args.d.now st.args.levels.now st.args.k st.args.v c.loop-u.u
 
 left_by_requires : tie.Need-left_by-x-requires invariant-loop decreases-loop
 left_by_requires c κs =
-    let pre = c.before.before.before.requires in
+    let pre = c.requires in
     (pre.0, omega arith, c.loop-u-test.true, pre.3)
 
 compared : (c : tie.After-less invariant-loop decreases-loop) → test c.before.before ≡ c.less.result
 compared c =
-    let f : SFits w16 c.before.before.before.before.entry_at-target.result = search rules in
-    let g : SFits w16 c.before.left_by-x.result = search rules in
+    let f : SFits w16 c.entry_at-target.result = search rules in
+    let g : SFits w16 c.left_by-x.result = search rules in
     let e = simp (to_z-of_z f, to_z-of_z g) at c.less.ensures in
-    sym (rw (c.before.before.before.before.entry_at-target.ensures, c.before.left_by-x.ensures) at e)
+    sym (rw (c.entry_at-target.ensures, c.left_by-x.ensures) at e)
 
 returns : tie.Need-returns-else-less invariant-loop decreases-loop
 returns c =
-    let st = c.before.before.before.before.before.before in
+    let st = c in
     source_found st.requires.0 st.args.k st.args.v st.requires.1 st.requires.2 st.requires.3
-    c.before.before.before.before.loop-u.u c.before.before.before.loop-u-test.true (compared c.before ∙ c.if-less.false)
+    c.loop-u.u c.loop-u-test.true (compared c.before ∙ c.if-less.false)
 
 returns-2 : tie.Need-returns invariant-loop decreases-loop
 returns-2 c =
-    let st = c.before.before.before in
-    absurd (source_there st.requires.0 st.args.k st.args.v st.requires.1 st.requires.2 st.requires.3 (λ u h. c.before.loop-u.invariant.1 u (omega arith)))
+    let st = c in
+    absurd (source_there st.requires.0 st.args.k st.args.v st.requires.1 st.requires.2 st.requires.3 (λ u h. c.loop-u.invariant.1 u (omega arith)))
 
 pub source_of_spec : {M : Type 1} → statement M
 source_of_spec = tie.close (tie.spec invariant-loop decreases-loop (λ c. omega arith)
     (λ c κs. level_inside c.requires.0 c.args.k c.args.v c.requires.2 c.requires.3) (λ c. (omega arith, λ i h. absurd (omega arith)))
     left_by_requires (λ c κs. tt) returns (λ c. omega arith) (λ c. omega arith)
-    (λ c. (omega arith, below_more _ _ c.before.before.before.before.loop-u.invariant.1 (compared c.before ∙ c.if-less.true))) returns-2)
+    (λ c. (omega arith, below_more _ _ c.loop-u.invariant.1 (compared c.before ∙ c.if-less.true))) returns-2)

@@ -20,13 +20,13 @@ few : (c : tie.Start invariant-loop decreases-loop) → (c.args.last < c.args.w)
 few c = (c.requires.1.inside, c.requires.0.weights.few, c.requires.2)
 
 bounds : (c : tie.At-loop-to invariant-loop decreases-loop)
-    → (0 < c.loop-to.k) × (c.loop-to.k ≤ c.before.before.args.w) × (c.before.before.args.w ≤ max_boundaries)
-    × (length c.loop-to.walk ≡ c.before.before.args.w + 1)
-bounds c = (c.loop-to.invariant.low, c.loop-to.invariant.most, c.before.before.requires.0.weights.few, c.loop-to.invariant.long)
+    → (0 < c.loop-to.k) × (c.loop-to.k ≤ c.args.w) × (c.args.w ≤ max_boundaries)
+    × (length c.loop-to.walk ≡ c.args.w + 1)
+bounds c = (c.loop-to.invariant.low, c.loop-to.invariant.most, c.requires.0.weights.few, c.loop-to.invariant.long)
 
 source_of_requires : tie.Need-source_of-u-requires invariant-loop decreases-loop
 source_of_requires c κs =
-    let ready = c.before.before.requires.0 in
+    let ready = c.requires.0 in
     let i = c.loop-to.invariant in
     (ready, i.low, i.most, omega (arith, i.upto.0, ready.weights.some))
 
@@ -40,13 +40,13 @@ weights s = s.before.before.before.requires.0.weights
 pub walk_back_spec : {M : Type 1} → statement M
 walk_back_spec = tie.close (tie.spec invariant-loop decreases-loop (λ c. omega (arith, few c.before)) (λ c. omega (arith, few c.before))
     (λ c. omega (arith, few c.before))
-    (λ c. let st = c.before in walk_start st.args.walk.now st.requires.0.weights st.requires.1 st.requires.2) source_of_requires
-    (λ c. omega (arith, bounds c.before, c.source_of-u.ensures.inside)) (λ c κs. omega (arith, bounds c.before.before))
-    (λ c. omega (arith, bounds c.before.before.before.before))
-    (λ c. let l = c.before.before.before.before in l.loop-to.invariant.long ∙ sym l.before.before.requires.2)
+    (λ c. let st = c in walk_start st.args.walk.now st.requires.0.weights st.requires.1 st.requires.2) source_of_requires
+    (λ c. omega (arith, bounds c.before, c.source_of-u.ensures.inside)) (λ c κs. omega (arith, bounds c.before))
+    (λ c. omega (arith, bounds c.before.before.before))
+    (λ c. let l = c in l.loop-to.invariant.long ∙ sym l.requires.2)
     (λ c. let s : Sourced = c.before.before.before in
-    walk_found (weights s) s.before.loop-to.invariant s.source_of-u.ensures c.before.place_of-j.ensures c.if-j-w.true)
-    (λ c. omega (arith, bounds c.before.before.before.before)) (λ c. omega (arith, bounds c.before.before.before.before))
-    (λ c. omega (arith, bounds c.before.before.before.before)) (λ c. omega (arith, bounds c.before.before.before.before))
+    walk_found (weights s) s.before.loop-to.invariant s.source_of-u.ensures c.place_of-j.ensures c.if-j-w.true)
+    (λ c. omega (arith, bounds c.before.before.before)) (λ c. omega (arith, bounds c.before.before.before))
+    (λ c. omega (arith, bounds c.before.before.before)) (λ c. omega (arith, bounds c.before.before.before))
     (λ c. let s : Sourced = c.before.before.before in
-    walk_next (weights s) s.before.loop-to.invariant s.source_of-u.ensures c.before.place_of-j.ensures c.if-j-w.false))
+    walk_next (weights s) s.before.loop-to.invariant s.source_of-u.ensures c.place_of-j.ensures c.if-j-w.false))

@@ -8,8 +8,8 @@ use Rattle.network_levels.proofs.make_level.Tie as tie
 
 next_level_requires : tie.Need-next_level-requires
 next_level_requires c κs =
-    let st = c.before.before.before.before in
-    let e = c.before.before.copy_row.ensures ∙ copied_whole st.args.prev.now st.args.row.now (omega arith) in
+    let st = c in
+    let e = c.copy_row.ensures ∙ copied_whole st.args.prev.now st.args.row.now (omega arith) in
     (st.requires.0, st.requires.1, st.requires.2, e, st.requires.4)
 
 pub make_level_spec : {M : Type 1} → statement M

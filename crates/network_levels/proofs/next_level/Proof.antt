@@ -56,14 +56,14 @@ loop-again c =
     let a = (start t).args in
     let l = t.before.loop-u in
     let f : SFits w16 (reached t) = search rules in
-    let e = c.before.relax_row.ensures ∙ reached_next a.w l.u (size t) a.d.now a.prev.now l.row (to_z w16 (of_z w16 (reached t)))
+    let e = c.relax_row.ensures ∙ reached_next a.w l.u (size t) a.d.now a.prev.now l.row (to_z w16 (of_z w16 (reached t)))
     t.loop-u-test.true (inside t).1 (omega (arith, inside t)) (to_z-of_z f) l.invariant.2 in
     (omega (arith, t.loop-u-test.true), ap length e ∙ length_list_of (reached_by a.w a.d.now a.prev.now (l.u + 1)) a.w, e)
 
 returns : tie.Need-returns invariant-loop decreases-loop
 returns c =
-    let a = c.before.before.args in
-    let l = c.before.loop-u in
+    let a = c.args in
+    let l = c.loop-u in
     let e : l.u ≡ a.w = omega arith in
     l.invariant.2 ∙ ap (λ (n : ℕ). list_of a.w (reached_by a.w a.d.now a.prev.now n)) e
 
@@ -72,4 +72,4 @@ next_level_spec = tie.close (tie.spec invariant-loop decreases-loop
     (λ c. (omega arith, ap length c.requires.3 ∙ c.requires.2, c.requires.3 ∙ reached_start c.args.w c.args.d.now c.args.prev.now c.requires.2))
     (λ c. omega (arith, inside c)) (λ c. omega (arith, inside c)) (λ c. omega arith) (λ c. omega arith) (λ c. omega (arith, inside c.before.before))
     (λ c. omega arith) (λ c. omega arith) (λ c. omega (arith, inside c.before.before)) relax_row_requires (λ c. omega arith) (λ c. omega arith)
-    loop-again (λ c. c.before.loop-u.invariant.1 ∙ sym (ap length c.before.before.requires.3 ∙ c.before.before.requires.2)) returns)
+    loop-again (λ c. c.loop-u.invariant.1 ∙ sym (ap length c.requires.3 ∙ c.requires.2)) returns)

@@ -198,7 +198,7 @@ relaxed_row c = stretch_row (stretch_of c)
 abbrev stepped : Relaxed → List ℤ
 stepped c =
     let at = stretch_of c in
-    back (first at) (stop at - first at) c.relax_row.new.0 at.before.before.loop-k.row-1
+    back (first at) (stop at - first at) c.relax_row.new.row at.before.before.loop-k.row-1
 
 stepped_long : (c : Relaxed) → length (stepped c) ≡ width (middle_of (relaxed_row c))
 stepped_long c =
@@ -218,9 +218,9 @@ pass_holds c = pass_start (omega arith) refl refl
 
 load_row_requires : tie.Need-load_row-requires invariant-loop2 decreases-loop2 invariant-loop decreases-loop invariant-pass decreases-pass
 load_row_requires c κs =
-    let pre = c.before.before.before.before.requires in
-    let p = c.before.before.before.pass.invariant in
-    (omega (arith, c.before.before.pass-test.true), omega (arith, p.long), omega (arith, p.room))
+    let pre = c.requires in
+    let p = c.pass.invariant in
+    (omega (arith, c.pass-test.true), omega (arith, p.long), omega (arith, p.room))
 
 loop2_holds : tie.Need-loop-k-init invariant-loop2 decreases-loop2 invariant-loop decreases-loop invariant-pass decreases-pass
 loop2_holds c =
@@ -251,22 +251,22 @@ loop2_again c =
     let s = stretch_here at in
     let n : stop at ≡ min ((q.k + 1) * stretch) (width m) = omega (arith, at.stretch_end-e.ensures) in
     subst (λ (b : ℕ). ColsInv (am r) (copy m) (part r) (width m) (row_at r) q.outcome (stepped x) b) n
-    (cols_again (cols_here at) (stop at) s.0 s.1 x.relax_row.ensures c.before.falls.ensures c.if-falls.false)
+    (cols_again (cols_here at) (stop at) s.0 s.1 x.relax_row.ensures c.falls.ensures c.if-falls.false)
 
 loop-again : tie.Need-loop-a-preserved invariant-loop2 decreases-loop2 invariant-loop decreases-loop invariant-pass decreases-pass
 loop-again c =
     let f : Over = c.before.before.before in
     let r = over_row f in
     let s = over f in
-    let q = c.before.before.loop-k in
-    let hb : width (middle_of r) ≤ min (q.k * stretch) (width (middle_of r)) = omega (arith, c.before.loop-k-test.false, f.stretches-n.ensures) in
+    let q = c.loop-k in
+    let hb : width (middle_of r) ≤ min (q.k * stretch) (width (middle_of r)) = omega (arith, c.loop-k-test.false, f.stretches-n.ensures) in
     rows_again r.before.loop-a.invariant r.loop-a-test.true (size r) q.invariant.none (row_room r).1 (omega (arith, row_room r))
     (row_done s q.invariant hb) (row_low s false (q.invariant.fine (omega (arith, r.loop-a-test.true, hb))))
 
 pass_again : tie.Need-pass-preserved invariant-loop2 decreases-loop2 invariant-loop decreases-loop invariant-pass decreases-pass
 pass_again c =
     let m : InMiddle = c.before.before.before in
-    middle_again (turn m).pass.invariant (below m) c.before.loop-a.invariant c.loop-a-test.false (copy_room m)
+    middle_again (turn m).pass.invariant (below m) c.loop-a.invariant c.loop-a-test.false (copy_room m)
 
 returns-2 : tie.Need-returns-then-falls invariant-loop2 decreases-loop2 invariant-loop decreases-loop invariant-pass decreases-pass
 returns-2 c =
@@ -274,27 +274,27 @@ returns-2 c =
     let at = stretch_of x in
     let r = stretch_row at in
     let s = stretch_here at in
-    let low = cols_low (cols_here at) (stop at) s.0 s.1 x.relax_row.ensures c.before.before.falls.ensures c.before.if-falls.true in
+    let low = cols_low (cols_here at) (stop at) s.0 s.1 x.relax_row.ensures c.falls.ensures c.if-falls.true in
     broken r (stepped x) (stepped_long x) (rows_low r.before.loop-a.invariant r.loop-a-test.true (row_low (over (over_of at)) true low))
 
 pub run_middles_spec : {M : Type 1} → statement M
 run_middles_spec = tie.close (tie.spec invariant-loop2 decreases-loop2 invariant-loop decreases-loop invariant-pass decreases-pass pass_holds
-    (λ c. sym c.before.before.before.pass.invariant.room) load_row_requires (λ c. rows_start (turn c.before).pass.invariant.none)
+    (λ c. sym c.pass.invariant.room) load_row_requires (λ c. rows_start (turn c.before).pass.invariant.none)
     (λ c. omega (arith, row_room c)) (λ c. omega (arith, row_room c)) (λ c. omega (arith, row_room c)) (λ c. omega arith) (λ c. omega arith)
     (λ c. (row_room c).0) (λ c. omega (arith, middle_below (middle_of c.before), row_room c.before))
     (λ c. omega (arith, middle_below (middle_of c.before), (row_here c.before).long))
     (λ c κs. let r : InRow = c.before.before in (omega (arith, r.loop-a-test.true), (row_room r).2))
-    loop2_holds (λ c. omega (arith, c.loop-k-test.true, c.before.before.stretches-n.ensures, (row_room (over_row c.before.before)).2))
-    (λ c κs. omega (arith, c.loop-k-test.true, c.before.before.stretches-n.ensures))
+    loop2_holds (λ c. omega (arith, c.loop-k-test.true, c.stretches-n.ensures, (row_room (over_row c.before.before)).2))
+    (λ c κs. omega (arith, c.loop-k-test.true, c.stretches-n.ensures))
     (λ c. omega (arith, stretch_here c)) (λ c. omega (arith, stretch_here c)) (λ c. omega (arith, stretch_here c))
     (λ c. omega (arith, stretch_here c, (cols_here c).long))
     (λ c. omega (arith, stretch_here c.before)) (λ c. omega (arith, stretch_here c.before)) (λ c. omega (arith, stretch_here c.before.before))
     (λ c. omega (arith, stretch_here c.before.before, copy_room (middle_of (stretch_row c.before.before)))) relax_row_requires
     (λ c κs. let x : Relaxed = c.before.before in omega (arith, stepped_long x, (relaxed_row x).loop-a-test.true))
     (λ c. omega (arith, stretch_here (stretch_of (relaxed_of c.before))))
-    (λ c. omega (arith, (stretch_of (relaxed_of c.before)).before.loop-k-test.true)) loop2_again
+    (λ c. omega (arith, (stretch_of (relaxed_of c.before)).loop-k-test.true)) loop2_again
     (λ c. let r = over_row c.before.before.before in omega (arith, r.loop-a-test.true, row_room r))
     (λ c. let r = over_row c.before.before.before in omega (arith, r.loop-a-test.true)) loop-again
     (λ c. let m : InMiddle = c.before.before.before in omega (arith, below m, (start m).requires)) (λ c. omega (arith, below c.before.before.before))
-    pass_again (λ c. c.before.pass.invariant.long) (λ c. pass_ended c.before.pass.invariant c.pass-test.false)
+    pass_again (λ c. c.pass.invariant.long) (λ c. pass_ended c.pass.invariant c.pass-test.false)
     (λ c. let x = relaxed_of c.before.before in put_long (relaxed_row x) (stepped x) (stepped_long x)) returns-2)

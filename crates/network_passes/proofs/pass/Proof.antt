@@ -12,16 +12,16 @@ use Rattle.network_passes.proofs.pass.Tie as tie
 
 pass_middles_requires : tie.Need-pass_middles-requires
 pass_middles_requires c κs =
-    let st = c.before in
+    let st = c in
     let a = st.args in
     let S = stays_small a.w a.t-1.now st.requires.3 in
     (st.requires.0, st.requires.1, st.requires.2, omega arith, omega arith, subst (λ (k : ℕ). StaysSmall a.w 0 k a.t-1.now) (sym (sub-zero a.w)) S)
 
 returns : tie.Need-returns
 returns c =
-    let a = c.before.before.before.args in
-    let q = c.before.pass_middles in
-    subst (λ (k : ℕ). After a.w a.t-1.now (pass_from k 0 a.w a.t-1.now) q.result q.new.0) (sub-zero a.w) q.ensures
+    let a = c.args in
+    let q = c.pass_middles in
+    subst (λ (k : ℕ). After a.w a.t-1.now (pass_from k 0 a.w a.t-1.now) q.result q.new.t) (sub-zero a.w) q.ensures
 
 pub pass_spec : {M : Type 1} → statement M
 pass_spec = tie.close (tie.spec pass_middles_requires (λ c. search rules) returns)

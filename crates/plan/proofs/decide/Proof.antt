@@ -25,7 +25,7 @@ start c = c.before.before.before.before.before.before.before.before.before.befor
 
 -- which is that of the rooms' own lengths
 verdict : (c : tie.After-ask-asked) (v : Verdict) → verdict_of c.ask-asked.result ≡ v → refusal_in (lists (start c)) (decide_lent (before (start c))) ≡ v
-verdict c v = asked_of (lists (start c)) _ (decide_lent (before (start c))) _ v c.ask-asked.ensures c.before.for_decision-rooms.ensures
+verdict c v = asked_of (lists (start c)) _ (decide_lent (before (start c))) _ v c.ask-asked.ensures c.for_decision-rooms.ensures
 
 -- where the answer was yes
 abbrev asked : tie.In-Yes → tie.Start
@@ -40,14 +40,14 @@ decide_requires c κs = let p : tie.In-Yes = c.before.before in asked_yes (lists
 returns : tie.Need-returns-in-No
 returns c =
     let d : tie.After-ask-asked = c.before.before.before in
-    let f = c.before.asked-1.given in
+    let f = c.asked-1.given in
     let l = lists (start d) in
     refused_settled l _ (decided (given_by l)) (WithRing (given_by l) (contradicted (given_by l))) (before (start d))
     f.0.0.number f.0.0.line (verdict d _ (ap verdict_of f.1))
 
 returns-2 : tie.Need-returns-in-Yes
 returns-2 c =
-    let r = c.before.before.before.before in
+    let r = c in
     let p : tie.In-Yes = r.before.before.before in
     let l = lists (asked p) in
     solved_settled l _ (decided (given_by l)) (WithRing (given_by l) (contradicted (given_by l))) (before (asked p)) (yes p)
@@ -56,6 +56,6 @@ returns-2 c =
 pub decide_spec : {M : Type 1} → statement M
 decide_spec = tie.close (tie.spec (λ c κs. tt) (λ c κs. tt) (λ c. c.in-No.keys1) (λ c. c.in-Yes.keys2) decide_requires (λ c κs. tt)
     (λ c. refl) (λ c. refl) returns
-    (λ c. c.before.before.before.before.decide.auto.1.1.1.1.1.1.1.0)
-    (λ c. c.before.before.before.before.decide.auto.1.1.1.1.1.1.1.1.0)
+    (λ c. c.decide.auto.table)
+    (λ c. c.decide.auto.ring)
     returns-2)

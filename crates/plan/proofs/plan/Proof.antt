@@ -25,7 +25,7 @@ start c = c.before.before.before.before.before.before.before.before.before.befor
 
 -- which is that of the rooms' own lengths
 verdict : (c : tie.After-ask-asked) (v : Verdict) → verdict_of c.ask-asked.result ≡ v → refusal_in (lists (start c)) (plan_lent (before (start c))) ≡ v
-verdict c v = asked_of (lists (start c)) _ (plan_lent (before (start c))) _ v c.ask-asked.ensures c.before.for_plan-rooms.ensures
+verdict c v = asked_of (lists (start c)) _ (plan_lent (before (start c))) _ v c.ask-asked.ensures c.for_plan-rooms.ensures
 
 -- where the answer was yes
 abbrev asked : tie.In-Yes → tie.Start
@@ -40,14 +40,14 @@ solve_requires c κs = let p : tie.In-Yes = c.before.before.before.before.before
 returns : tie.Need-returns-in-No
 returns c =
     let d : tie.After-ask-asked = c.before.before.before in
-    let f = c.before.asked-1.given in
+    let f = c.asked-1.given in
     let l = lists (start d) in
     refused_settled l _ (planned (given_by l)) (WithRing (given_by l) (ringed (given_by l))) (before (start d))
     f.0.0.number f.0.0.line (verdict d _ (ap verdict_of f.1))
 
 returns-2 : tie.Need-returns-in-Yes
 returns-2 c =
-    let r = c.before.before.before.before.before.before.before.before.before.before in
+    let r = c in
     let p : tie.In-Yes = r.before.before.before.before.before.before in
     let l = lists (asked p) in
     solved_settled l _ (planned (given_by l)) (WithRing (given_by l) (ringed (given_by l))) (before (asked p)) (yes p)
@@ -56,9 +56,9 @@ returns-2 c =
 pub plan_spec : {M : Type 1} → statement M
 plan_spec = tie.close (tie.spec (λ c κs. tt) (λ c κs. tt) (λ c. c.in-No.keys1) (λ c. c.in-Yes.keys2) solve_requires (λ c κs. tt)
     (λ c. refl) (λ c. refl) (λ c. refl) (λ c. refl) (λ c. refl) returns
-    (λ c. c.before.before.before.before.before.before.before.before.before.before.solve.auto.1.1.1.1.1.1.1.0)
-    (λ c. c.before.before.before.before.before.before.before.before.before.before.solve.auto.1.1.1.1.1.1.1.1.0)
-    (λ c. c.before.before.before.before.before.before.before.before.before.before.solve.auto.1.1.1.1.1.1.1.1.1.0)
-    (λ c. c.before.before.before.before.before.before.before.before.before.before.solve.auto.1.1.1.1.1.1.1.1.1.1.0)
-    (λ c. c.before.before.before.before.before.before.before.before.before.before.solve.auto.1.1.1.1.1.1.1.1.1.1.1.0)
+    (λ c. c.solve.auto.table)
+    (λ c. c.solve.auto.plan)
+    (λ c. c.solve.auto.earliest)
+    (λ c. c.solve.auto.latest)
+    (λ c. c.solve.auto.ring)
     returns-2)

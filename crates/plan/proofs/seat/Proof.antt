@@ -25,7 +25,7 @@ start c = c.before.before.before.before.before.before.before.before.before.befor
 
 -- which is that of the rooms' own lengths
 verdict : (c : tie.After-ask-asked) (v : Verdict) → verdict_of c.ask-asked.result ≡ v → refusal_in (lists (start c)) (seat_lent (before (start c))) ≡ v
-verdict c v = asked_of (lists (start c)) _ (seat_lent (before (start c))) _ v c.ask-asked.ensures c.before.for_seats-rooms.ensures
+verdict c v = asked_of (lists (start c)) _ (seat_lent (before (start c))) _ v c.ask-asked.ensures c.for_seats-rooms.ensures
 
 -- where the answer was yes
 abbrev asked : tie.In-Yes → tie.Start
@@ -40,7 +40,7 @@ seat_requires c κs = let p : tie.In-Yes = c.before.before.before.before in aske
 returns : tie.Need-returns-in-No
 returns c =
     let d : tie.After-ask-asked = c.before.before.before in
-    let f = c.before.asked-1.given in
+    let f = c.asked-1.given in
     let l = lists (start d) in
     let v = verdict d _ (ap verdict_of f.1) in (
       refused_settled l _ (seated (given_by l)) (SeatNone (given_by l)) (before (start d)) f.0.0.number f.0.0.line v,
@@ -49,7 +49,7 @@ returns c =
 
 returns-2 : tie.Need-returns-in-Yes
 returns-2 c =
-    let r = c.before.before.before.before.before.before.before.before in
+    let r = c in
     let p : tie.In-Yes = r.before.before.before.before.before in
     let l = lists (asked p) in
     let told = c.seat_answer.ensures in
@@ -62,8 +62,8 @@ returns-2 c =
 pub seat_spec : {M : Type 1} → statement M
 seat_spec = tie.close (tie.spec (λ c κs. tt) (λ c κs. tt) (λ c. c.in-No.keys1) (λ c. c.in-Yes.keys2) seat_requires (λ c κs. tt)
     (λ c. refl) (λ c. refl) (λ c. refl) (λ c. refl) returns
-    (λ c. c.before.before.before.before.before.before.before.before.seat.auto.1.1.1.1.1.1.1.0)
-    (λ c. c.before.before.before.before.before.before.before.before.seat.auto.1.1.1.1.1.1.1.1.0)
-    (λ c. c.before.before.before.before.before.before.before.before.seat.auto.1.1.1.1.1.1.1.1.1.0)
-    (λ c. c.before.before.before.before.before.before.before.before.seat.auto.1.1.1.1.1.1.1.1.1.1.0)
+    (λ c. c.seat.auto.table)
+    (λ c. c.seat.auto.plan)
+    (λ c. c.seat.auto.earliest)
+    (λ c. c.seat.auto.latest)
     returns-2)

@@ -40,48 +40,48 @@ loop-holds c =
 
 -- the two places of a turn are inside the table
 inside : (c : tie.In-loop-a invariant-loop2 decreases-loop2 invariant-loop decreases-loop)
-    → let w = c.before.before.before.before.args.w in
-    let b = c.before.before.before.loop-b.b in
-    let a = c.before.loop-a.a in
-    (a * w + b < length c.before.loop-a.t) × (b * w + a < length c.before.loop-a.t)
+    → let w = c.args.w in
+    let b = c.loop-b.b in
+    let a = c.loop-a.a in
+    (a * w + b < length c.loop-a.t) × (b * w + a < length c.loop-a.t)
 inside c =
-    let st = c.before.before.before.before in
-    let b = c.before.before.before.loop-b in
-    let a = c.before.loop-a in
+    let st = c in
+    let b = c.loop-b in
+    let a = c.loop-a in
     let n = row_inside a.a st.args.w (omega arith) in
     let m = row_inside b.b st.args.w (omega arith) in
     (omega (arith, b.invariant.1, a.invariant.3), omega (arith, b.invariant.1, a.invariant.3))
 
 -- the table so far, and the entry that a turn reads: it is still the old one
 so_far : (c : tie.In-loop-a invariant-loop2 decreases-loop2 invariant-loop decreases-loop)
-    → let f = entry c.before.before.before.before.args.w c.before.before.before.before.args.t.now in
-    RowsFilled c.before.before.before.before.args.w f (one_less f) c.before.before.before.loop-b.b c.before.loop-a.a c.before.loop-a.t
+    → let f = entry c.args.w c.args.t.now in
+    RowsFilled c.args.w f (one_less f) c.loop-b.b c.loop-a.a c.loop-a.t
 so_far c =
-    let st = c.before.before.before.before in
-    c.before.loop-a.invariant.4 (entry st.args.w st.args.t.now) c.before.before.before.loop-b.invariant.2
+    let st = c in
+    c.loop-a.invariant.4 (entry st.args.w st.args.t.now) c.loop-b.invariant.2
 
 less_fits : (c : tie.In-loop-a invariant-loop2 decreases-loop2 invariant-loop decreases-loop)
-    → let l = c.before.loop-a in SFits w16 (entry c.before.before.before.before.args.w l.t l.a c.before.before.before.loop-b.b +ℤ negsuc 0)
+    → let l = c.loop-a in SFits w16 (entry c.args.w l.t l.a c.loop-b.b +ℤ negsuc 0)
 less_fits c =
-    let st = c.before.before.before.before in
+    let st = c in
     let w = st.args.w in
-    let b = c.before.before.before.loop-b.b in
-    let l = c.before.loop-a in
+    let b = c.loop-b.b in
+    let l = c.loop-a in
     one_less_fits (entry w l.t l.a b)
     (subst (Within max_units) (sym ((so_far c).under l.a b (omega arith) (omega arith) (omega arith))) (st.requires.1 l.a b (omega arith) (omega arith)))
 
 sub_t : tie.Need-overflow_sub-t invariant-loop2 decreases-loop2 invariant-loop decreases-loop
 sub_t c =
-    let l = c.before.before.loop-a in
-    let i = l.a * c.before.before.before.before.before.args.w + c.before.before.before.before.loop-b.b in
+    let l = c.loop-a in
+    let i = l.a * c.args.w + c.loop-b.b in
     let x : SFits w16 (get_or l.t i (pos 0)) = search rules in
     rw (to_z-of_z x) (less_fits c.before)
 
 loop2_again : tie.Need-loop-a-preserved invariant-loop2 decreases-loop2 invariant-loop decreases-loop
 loop2_again c =
-    let w = c.before.before.before.before.before.args.w in
-    let b = c.before.before.before.before.loop-b.b in
-    let l = c.before.before.loop-a in
+    let w = c.args.w in
+    let b = c.loop-b.b in
+    let l = c.loop-a in
     let v = entry w l.t l.a b +ℤ negsuc 0 in
     let x : SFits w16 (get_or l.t (l.a * w + b) (pos 0)) = search rules in
     let n = row_inside b w (omega arith) in
@@ -98,11 +98,11 @@ loop2_again c =
 
 loop-again : tie.Need-loop-b-preserved invariant-loop2 decreases-loop2 invariant-loop decreases-loop
 loop-again c =
-    let st = c.before.before.before.before in
+    let st = c in
     let w = st.args.w in
     let f = entry w st.args.t.now in
-    let r = c.before.before.before.loop-b in
-    let l = c.before.loop-a in (
+    let r = c.loop-b in
+    let l = c.loop-a in (
       omega arith,
       l.invariant.3 ∙ r.invariant.1,
       rows_next w f (one_less f) r.b l.a l.t (l.invariant.4 f r.invariant.2) (r.b + 1 + 1) (omega arith)
@@ -111,15 +111,15 @@ loop-again c =
 
 returns : tie.Need-returns invariant-loop2 decreases-loop2 invariant-loop decreases-loop
 returns c =
-    let a = c.before.before.args in
+    let a = c.args in
     let f = entry a.w a.t.now in
-    let l = c.before.loop-b in
+    let l = c.loop-b in
     rows_all a.w f (one_less f) l.b (l.b + 1) l.t l.invariant.2 (omega arith)
 
 pub arcs_spec : {M : Type 1} → statement M
 arcs_spec = tie.close (tie.spec invariant-loop2 decreases-loop2 invariant-loop decreases-loop loop-holds
-    (λ c. omega (arith, row_inside c.before.loop-b.b c.before.before.args.w (omega arith))) (λ c. omega arith)
+    (λ c. omega (arith, row_inside c.loop-b.b c.args.w (omega arith))) (λ c. omega arith)
     (λ c. (omega arith, omega arith, omega arith, refl, λ f F. F)) (λ c. omega (arith, inside c)) (λ c. omega (arith, inside c))
     (λ c. omega (arith, inside c)) (λ c. (inside c).0) sub_t (λ c. omega (arith, inside c.before)) (λ c. omega (arith, inside c.before))
     (λ c. (inside c.before).1) (λ c. omega arith) (λ c. omega arith) loop2_again (λ c. omega arith) (λ c. omega arith) loop-again
-    (λ c. c.before.loop-b.invariant.1) returns)
+    (λ c. c.loop-b.invariant.1) returns)

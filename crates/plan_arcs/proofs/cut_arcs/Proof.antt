@@ -19,28 +19,28 @@ abbrev units : tie.Start → List Window
 units c = windows_of c.args.first.now c.args.last.now
 
 filled : (c : tie.After-windows_inside)
-    → let st = c.before.before.before.before in
-    TableFilled st.args.w (inside_weights (units st)) st.args.out.now c.windows_inside.new.1.1.1.0
+    → let st = c in
+    TableFilled st.args.w (inside_weights (units st.before.before.before.before)) st.args.out.now c.windows_inside.new.t
 filled c =
-    let st = c.before.before.before.before in
-    is_filled st.args.w (inside_weights (units st)) st.args.out.now c.windows_inside.new.1.1.1.0 st.requires.1 c.windows_inside.ensures
+    let st = c in
+    is_filled st.args.w (inside_weights (units st.before.before.before.before)) st.args.out.now c.windows_inside.new.t st.requires.1 c.windows_inside.ensures
 
 arcs_requires : tie.Need-arcs-requires
 arcs_requires c κs =
-    let st = c.before.before.before.before.before.before in
+    let st = c in
     let f = filled c.before.before in
     let n = windows_of_length st.args.first.now st.args.last.now st.requires.0.paired in (
       omega (arith, f.long, st.requires.1),
-      λ a b ha hb. subst (Within max_units) (sym (f.at a b ha hb)) (inside_within (units st) a b (omega (arith, st.requires.0.few))),
+      λ a b ha hb. subst (Within max_units) (sym (f.at a b ha hb)) (inside_within (units st.before.before.before.before.before.before) a b (omega (arith, st.requires.0.few))),
     )
 
 returns : tie.Need-returns
 returns c a b ha hb =
-    let inside = c.before.before.before.before in
-    let st = inside.before.before.before.before in
-    let f = filled inside in
-    c.before.arcs.ensures a b ha hb
-    ∙ less_same (entry st.args.w inside.windows_inside.new.1.1.1.0) (inside_weights (units st)) a b (f.at b a hb ha) (f.at a b ha hb)
+    let inside = c in
+    let st = inside in
+    let f = filled inside.before.before.before.before in
+    c.arcs.ensures a b ha hb
+    ∙ less_same (entry st.args.w inside.windows_inside.new.t) (inside_weights (units st.before.before.before.before.before.before.before.before)) a b (f.at b a hb ha) (f.at a b ha hb)
 
 pub cut_arcs_spec : {M : Type 1} → statement M
 cut_arcs_spec = tie.close (tie.spec (λ c κs. search rules) arcs_requires (λ c. search rules) returns)

@@ -38,26 +38,26 @@ loop-holds c =
 
 -- the place that a turn reads is inside the table, and so is the one that it stores to
 inside : (c : tie.In-loop-b invariant-loop2 decreases-loop2 invariant-loop decreases-loop)
-    → let g = c.before.before.before.before.args in
-    let a = c.before.before.before.loop-a.a in
-    let b = c.before.loop-b.b in
-    ((g.w - 1 - b) * g.w + (g.w - 1 - a) < length g.t.now) × (a * g.w + b < length c.before.loop-b.out)
+    → let g = c.args in
+    let a = c.loop-a.a in
+    let b = c.loop-b.b in
+    ((g.w - 1 - b) * g.w + (g.w - 1 - a) < length g.t.now) × (a * g.w + b < length c.loop-b.out)
 inside c =
-    let st = c.before.before.before.before in
+    let st = c in
     let w = st.args.w in
-    let r = c.before.before.before.loop-a in
-    let l = c.before.loop-b in
+    let r = c.loop-a in
+    let l = c.loop-b in
     let n = row_inside (w - 1 - l.b) w (omega arith) in
     let m = row_inside r.a w (omega arith) in
     (omega (arith, st.requires), omega (arith, st.requires, r.invariant.1, l.invariant.2))
 
 loop2_again : tie.Need-loop-b-preserved invariant-loop2 decreases-loop2 invariant-loop decreases-loop
 loop2_again c =
-    let g = c.before.before.before.before.before.args in
+    let g = c.args in
     let w = g.w in
     let t = g.t.now in
-    let a = c.before.before.before.before.loop-a.a in
-    let l = c.before.before.loop-b in
+    let a = c.loop-a.a in
+    let l = c.loop-b in
     let v = entry w t (w - 1 - l.b) (w - 1 - a) in
     let fits : SFits w16 (get_or t ((w - 1 - l.b) * w + (w - 1 - a)) (pos 0)) = search rules in
     let long = inside c.before in
@@ -66,14 +66,14 @@ loop2_again c =
       omega arith,
       length-set l.out (a * w + l.b) v ∙ l.invariant.2,
       λ f F. rows_store w f (mirrored (w - 1) (entry w t)) a l.b l.out (l.invariant.3 f F) v
-          (omega (arith, l.invariant.2, c.before.before.before.before.loop-a.invariant.1)) (omega arith) (omega arith) refl,
+          (omega (arith, l.invariant.2, c.loop-a.invariant.1)) (omega arith) (omega arith) refl,
     )
 
 loop-again : tie.Need-loop-a-preserved invariant-loop2 decreases-loop2 invariant-loop decreases-loop
 loop-again c =
-    let g = c.before.before.before.before.args in
-    let r = c.before.before.before.loop-a in
-    let l = c.before.loop-b in
+    let g = c.args in
+    let r = c.loop-a in
+    let l = c.loop-b in
     let f = entry g.w g.out.now in (
       omega arith,
       l.invariant.2 ∙ r.invariant.1,
@@ -83,14 +83,14 @@ loop-again c =
 
 returns : tie.Need-returns invariant-loop2 decreases-loop2 invariant-loop decreases-loop
 returns c =
-    let g = c.before.before.args in
-    let l = c.before.loop-a in
+    let g = c.args in
+    let l = c.loop-a in
     rows_all g.w (entry g.w g.out.now) (mirrored (g.w - 1) (entry g.w g.t.now)) l.a 0 l.out l.invariant.2 (omega arith)
 
 pub mirror_spec : {M : Type 1} → statement M
 mirror_spec = tie.close (tie.spec invariant-loop2 decreases-loop2 invariant-loop decreases-loop loop-holds
-    (λ c. omega (arith, row_inside c.before.loop-a.a c.before.before.args.w (omega arith))) (λ c. omega arith) (λ c. omega arith)
+    (λ c. omega (arith, row_inside c.loop-a.a c.args.w (omega arith))) (λ c. omega arith) (λ c. omega arith)
     (λ c. (omega arith, omega arith, refl, λ f F. F)) (λ c. omega arith) (λ c. omega arith) (λ c. omega (arith, inside c))
     (λ c. omega (arith, inside c)) (λ c. omega (arith, inside c)) (λ c. (inside c).0) (λ c. omega (arith, inside c.before))
     (λ c. omega (arith, inside c.before)) (λ c. (inside c.before).1) (λ c. omega arith) (λ c. omega arith) loop2_again (λ c. omega arith)
-    (λ c. omega arith) loop-again (λ c. c.before.loop-a.invariant.1) returns)
+    (λ c. omega arith) loop-again (λ c. c.loop-a.invariant.1) returns)

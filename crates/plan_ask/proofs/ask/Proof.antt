@@ -48,11 +48,11 @@ rooms_decide c b e =
     let r = (start (asked told)).args.rooms in
     verdict_then (asked told) all_yes (ap verdict_of told.enum_told-1.given.1)
     ∙ ap (λ (fit : Bool). cond fit all_yes (no 12 0)) (asks_rooms l (lists_read l (given_lists told).lists) r
-    ∙ ap (λ (w : ℕ). lengths_fit w (length l.first) r) (sym c.before.boundaries.ensures) ∙ sym c.rooms_fit.ensures ∙ e)
+    ∙ ap (λ (w : ℕ). lengths_fit w (length l.first) r) (sym c.boundaries.ensures) ∙ sym c.rooms_fit.ensures ∙ e)
 
 pub ask_spec : {M : Type 1} → statement M
 ask_spec = tie.close (tie.spec (λ c κs. search rules) (λ c. search rules) (λ c. search rules)
     (λ c κs. span_bound (lists (asked c)).constraints (given_lists c).sheet)
     (λ c κs. omega (arith, c.boundaries.ensures, span_bound (lists (asked c.before)).constraints (given_lists c.before).sheet))
-    (λ c. sym (verdict_then c.before.before.before _ (ap verdict_of c.before.asked-1.given.1)))
+    (λ c. sym (verdict_then c.before.before.before _ (ap verdict_of c.asked-1.given.1)))
     (λ c. sym (rooms_decide c.before _ c.if-rooms_fit.true)) (λ c. sym (rooms_decide c.before _ c.if-rooms_fit.false)))

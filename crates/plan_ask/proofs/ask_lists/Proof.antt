@@ -60,7 +60,7 @@ t₁ c = (p₄ c.before.before.before).before.before.before.before
 
 -- ---- the questions that are left there
 agree_all : (c : tie.Then-all_agree) → all_agree (lists (s₁ c)) ≡ true
-agree_all c = sym c.before.all_agree.ensures ∙ c.if-all_agree.true
+agree_all c = sym c.all_agree.ensures ∙ c.if-all_agree.true
 
 all_agreed : (c : tie.Then-all_agree) → let l = lists (s₁ c) in (length l.loader ≡ length l.constraints.first) × T (agree l.constraints)
 all_agreed c = all_agree_read (lists (s₁ c)) (subst T (sym (agree_all c)) tt)
@@ -72,13 +72,13 @@ past_lists : (c : tie.Then-all_agree) → left 0 (s₁ c) ≡ left 1 (s₁ c)
 past_lists c = yes_here _ 13 0 _ (agree_all c)
 
 past_span : (c : tie.Then-is_span) → left 0 (s₂ c) ≡ left 2 (s₂ c)
-past_span c = past_lists c.before.before ∙ yes_here _ 6 0 _ (asks_span (constraints (s₂ c)) ∙ sym c.before.is_span_lem.ensures ∙ c.if-is_span.true)
+past_span c = past_lists c.before.before ∙ yes_here _ 6 0 _ (asks_span (constraints (s₂ c)) ∙ sym c.is_span_lem.ensures ∙ c.if-is_span.true)
 
 past_units : (c : tie.Else-first-gt-MAX_UNITS) → left 0 (s₂ c.before) ≡ left 3 (s₂ c.before)
 past_units c =
-    let p = c.before in
-    let few = le-leb (length (constraints (s₂ p)).first) max_units (omega (arith, c.if-first-gt-MAX_UNITS.false)) in
-    past_span p ∙ yes_here _ 9 0 _ (asks_units (constraints (s₂ p)) (agreed p.before.before) ∙ few)
+    let p = c in
+    let few = le-leb (length (constraints (s₂ p.before)).first) max_units (omega (arith, c.if-first-gt-MAX_UNITS.false)) in
+    past_span p.before ∙ yes_here _ 9 0 _ (asks_units (constraints (s₂ p.before)) (agreed p.before.before.before) ∙ few)
 
 past_rules : (c : tie.Else-from-gt-MAX_RULES) → left 0 (s₄ c) ≡ left 4 (s₄ c)
 past_rules c =
@@ -88,7 +88,7 @@ past_rules c =
 windows_asked : (c : tie.After-all_rise) → windows_fit (given_by (lists (s₄ (p₄ c)))) ≡ c.all_rise.result
 windows_asked c =
     let l = constraints (s₄ (p₄ c)) in
-    asks_windows l ∙ ap (λ most. all_rising 1 l.span most l.first l.last) (sym c.before.carried_place-carried.ensures) ∙ sym c.all_rise.ensures
+    asks_windows l ∙ ap (λ most. all_rising 1 l.span most l.first l.last) (sym c.carried_place-carried.ensures) ∙ sym c.all_rise.ensures
 
 past_windows : (c : tie.Then-all_rise) → left 0 (s₄ (p₄ c.before)) ≡ left 5 (s₄ (p₄ c.before))
 past_windows c = past_rules (p₄ c.before) ∙ yes_here _ 7 0 _ (windows_asked c.before ∙ c.if-all_rise.true)
@@ -96,16 +96,16 @@ past_windows c = past_rules (p₄ c.before) ∙ yes_here _ 7 0 _ (windows_asked 
 past_stretches : (c : tie.Then-all_rise-2) → left 0 (s₆ c) ≡ left 6 (s₆ c)
 past_stretches c =
     let e = asks_stretches (constraints (s₆ c)) (agreed (t₁ c)) in
-    past_windows c.before.before ∙ yes_here _ 7 0 _ (e ∙ sym c.before.all_rise-2.ensures ∙ c.if-all_rise-2.true)
+    past_windows c.before.before ∙ yes_here _ 7 0 _ (e ∙ sym c.all_rise-2.ensures ∙ c.if-all_rise-2.true)
 
 past_loaders : (c : tie.Then-all_new) → left 0 (s₇ c) ≡ left 7 (s₇ c)
-past_loaders c = past_stretches c.before.before ∙ yes_here _ 16 0 _ (sym c.before.all_new.ensures ∙ c.if-all_new.true)
+past_loaders c = past_stretches c.before.before ∙ yes_here _ 16 0 _ (sym c.all_new.ensures ∙ c.if-all_new.true)
 
 -- ---- the needs
 returns-2 : tie.Need-returns-else-is_span
 returns-2 c =
     let p : tie.Then-all_agree = c.before.before in
-    sym (past_lists p ∙ no_here _ 6 0 _ (asks_span (constraints (s₁ p)) ∙ sym c.before.is_span_lem.ensures ∙ c.if-is_span.false))
+    sym (past_lists p ∙ no_here _ 6 0 _ (asks_span (constraints (s₁ p)) ∙ sym c.is_span_lem.ensures ∙ c.if-is_span.false))
 
 returns-3 : tie.Need-returns-then-first-gt-MAX_UNITS
 returns-3 c =
@@ -126,26 +126,26 @@ returns-6 c =
     let p : tie.Then-all_rise = c.before.before in
     let q : tie.Else-from-gt-MAX_RULES = p₄ p.before in
     let e = asks_stretches (constraints (s₄ q)) (agreed q.before.before.before.before) in
-    sym (past_windows p ∙ no_here _ 7 0 _ (e ∙ sym c.before.all_rise-2.ensures ∙ c.if-all_rise-2.false))
+    sym (past_windows p ∙ no_here _ 7 0 _ (e ∙ sym c.all_rise-2.ensures ∙ c.if-all_rise-2.false))
 
 all_new_requires : tie.Need-all_new-requires
-all_new_requires c κs = omega (arith, (all_agreed (t₁ c)).0, (p₄ c.before.before.before).before.if-first-gt-MAX_UNITS.false)
+all_new_requires c κs = omega (arith, (all_agreed (t₁ c)).0, (p₄ c.before.before.before).if-first-gt-MAX_UNITS.false)
 
 carried_place_requires : tie.Need-carried_place-carried-requires
 carried_place_requires c κs =
     let p : tie.Then-is_span = c.before.before in
-    ((within_iff 1 max_slots (constraints (s₄ c)).span).0 (subst T (sym (sym p.before.is_span_lem.ensures ∙ p.if-is_span.true)) tt)).1
+    ((within_iff 1 max_slots (constraints (s₄ c)).span).0 (subst T (sym (sym p.is_span_lem.ensures ∙ p.if-is_span.true)) tt)).1
 
 -- the last question, as it is asked
 counts_asked : (c : tie.After-all_rise-3) → counts_fit (given_by (lists (s₇ c.before))) ≡ c.all_rise-3.result
 counts_asked c = asks_counts (constraints (s₇ c.before)) (agreed (t₁ c.before.before.before)) ∙ sym c.all_rise-3.ensures
 
 pub ask_lists_spec : {M : Type 1} → statement M
-ask_lists_spec = tie.close (tie.spec (λ c κs. search rules) (λ c. sym (no_here _ 13 0 _ (sym c.before.all_agree.ensures ∙ c.if-all_agree.false)))
+ask_lists_spec = tie.close (tie.spec (λ c κs. search rules) (λ c. sym (no_here _ 13 0 _ (sym c.all_agree.ensures ∙ c.if-all_agree.false)))
     (λ c κs. search rules) returns-2 returns-3 returns-4 carried_place_requires
     (λ c κs. (agreed c.before.before.before.before.before).windows) returns-5
     (λ c κs. (agreed (p₄ c.before).before.before.before.before).stretches) returns-6 all_new_requires
-    (λ c. sym (past_stretches c.before.before ∙ no_here _ 16 0 _ (sym c.before.all_new.ensures ∙ c.if-all_new.false)))
+    (λ c. sym (past_stretches c.before.before ∙ no_here _ 16 0 _ (sym c.all_new.ensures ∙ c.if-all_new.false)))
     (λ c κs. let e = agreed (t₁ c.before.before) in e.highs ∙ sym e.lows)
     (λ c. sym (past_loaders c.before.before ∙ yes_here _ 8 0 _ (counts_asked c.before ∙ c.if-all_rise-3.true) ∙ every_yes [] tt))
     (λ c. sym (past_loaders c.before.before ∙ no_here _ 8 0 _ (counts_asked c.before ∙ c.if-all_rise-3.false))))

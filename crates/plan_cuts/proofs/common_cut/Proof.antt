@@ -20,48 +20,48 @@ place c =
     omega (arith, last_inside st.args.row.now c.last_marked-l.result (omega (arith, n, st.requires.2)) c.last_marked-l.ensures, n)
 
 mul_known : tie.Need-offset_bounds-row-l
-mul_known c = omega (arith, place c.before.before, c.before.before.before.before.before.requires.0.most)
+mul_known c = omega (arith, place c.before.before, c.requires.0.most)
 
 shared_slice_read_known : tie.Need-bounds-row-l
-shared_slice_read_known c = omega (arith, place c.before.before.before, c.before.before.before.before.before.before.requires.3)
+shared_slice_read_known c = omega (arith, place c.before.before.before, c.requires.3)
 
 returns : tie.Need-returns-then-known-v
 returns c =
-    let at = c.before.before.before.before in
-    let st = at.before.before.before in
+    let at = c in
+    let st = at in
     let a = st.args in
-    let e = c.before.before.larger-v.ensures in
-    common_known a.w a.d.now a.m.now a.f.0 a.row.now at.last_marked-l.result c.before.before.larger-v.result (place at)
+    let e = c.larger-v.ensures in
+    common_known a.w a.d.now a.m.now a.f.0 a.row.now at.last_marked-l.result c.larger-v.result (place at)
     at.last_marked-l.ensures st.requires.5 (omega (arith, e)) c.if-known-v.true
 
 admits_requires : tie.Need-admits-requires
 admits_requires c κs =
-    let at = c.before.before.before.before in
-    let st = at.before.before.before in
+    let at = c in
+    let st = at in
     let a = st.args in
-    let e = c.before.before.larger-v.ensures in
+    let e = c.larger-v.ensures in
     let known = st.requires.5 at.last_marked-l.result (place at) (omega (arith, c.if-known-v.false)) in
     (st.requires.0, (st.requires.1, omega (arith, e), omega (arith, c.if-known-v.false, known.inside), place at))
 
 returns-2 : tie.Need-returns-then-admits
 returns-2 c =
-    let at = c.before.before.before.before.before.before in
-    let st = at.before.before.before in
+    let at = c in
+    let st = at in
     let a = st.args in
-    let v = c.before.before.before.before.larger-v in
+    let v = c.larger-v in
     let r = at.last_marked-l.result in
     let decided : Bool → Type 0 = λ t. Decides t (AdmitsAt a.w a.d.now a.m.now a.f.0 v.result r) in
     common_last a.w a.d.now a.m.now a.f.0 a.row.now r v.result at.last_marked-l.ensures (omega (arith, v.ensures))
-    (λ _. subst decided c.if-admits.true c.before.admits.ensures)
+    (λ _. subst decided c.if-admits.true c.admits.ensures)
 
 returns-3 : tie.Need-returns
 returns-3 c =
-    let at = c.before.before.before.before.before.before in
-    let st = at.before.before.before in
+    let at = c in
+    let st = at in
     let a = st.args in
     common_none a.w a.d.now a.m.now a.f.0 a.row.now st.requires.2
 
 pub common_cut_spec : {M : Type 1} → statement M
-common_cut_spec = tie.close (tie.spec (λ c κs. search rules) (λ c. omega (arith, place c, c.before.before.before.requires.0.most))
-    (λ c. omega (arith, place c.before, c.before.before.before.before.requires.4)) (λ c κs. search rules) mul_known shared_slice_read_known
-    (λ c. omega (arith, c.shared_slice_known-4-1.given c.before.before.before.last_marked-l.result)) returns admits_requires returns-2 returns-3)
+common_cut_spec = tie.close (tie.spec (λ c κs. search rules) (λ c. omega (arith, place c, c.requires.0.most))
+    (λ c. omega (arith, place c.before, c.requires.4)) (λ c κs. search rules) mul_known shared_slice_read_known
+    (λ c. omega (arith, c.shared_slice_known-4-1.given c.last_marked-l.result)) returns admits_requires returns-2 returns-3)

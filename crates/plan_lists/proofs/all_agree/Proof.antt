@@ -7,4 +7,4 @@ use Rattle.plan_lists.proofs.all_agree.Tie as tie
 
 pub all_agree_spec : {M : Type 1} → statement M
 all_agree_spec = tie.close (tie.spec (λ c. fails_here _ _ (ne_eqb _ _ c.if-loader-first.true)) (λ c κs. search rules)
-    (λ c. holds_here _ _ _ (eq-eqb _ _ c.before.if-loader-first.false) c.lists_agree.ensures))
+    (λ c. holds_here _ _ _ (eq-eqb _ _ c.if-loader-first.false) c.lists_agree.ensures))

@@ -16,29 +16,29 @@ decreases-loop least start most first last j₀ j = length first - j
 
 loop-again : tie.Need-loop-j-preserved invariant-loop decreases-loop
 loop-again c =
-    let a = c.before.before.before.before.before.before.before.before.args in
-    let l = c.before.before.before.before.before.loop-j in
-    let e = c.before.before.before.before.before.before.before.before.requires in
-    let rises = sym c.before.rises.ensures ∙ c.if-rises.true in
+    let a = c.args in
+    let l = c.loop-j in
+    let e = c.requires in
+    let rises = sym c.rises.ensures ∙ c.if-rises.true in
     (omega arith, l.invariant.1 ∙ rising_next a.least a.start a.most a.first.now a.last.now e l.j (omega arith) rises)
 
 returns : tie.Need-returns-else-rises invariant-loop decreases-loop
 returns c =
-    let a = c.before.before.before.before.before.before.before.before.args in
-    let l = c.before.before.before.before.before.loop-j in
-    let e = c.before.before.before.before.before.before.before.before.requires in
-    let falls = sym c.before.rises.ensures ∙ c.if-rises.false in
+    let a = c.args in
+    let l = c.loop-j in
+    let e = c.requires in
+    let falls = sym c.rises.ensures ∙ c.if-rises.false in
     sym (l.invariant.1 ∙ rising_stop a.least a.start a.most a.first.now a.last.now e l.j (omega arith) falls)
 
 returns-2 : tie.Need-returns invariant-loop decreases-loop
 returns-2 c =
-    let a = c.before.before.before.before.args in
-    let l = c.before.loop-j in
-    sym (l.invariant.1 ∙ rising_end a.least a.start a.most a.first.now a.last.now c.before.before.before.before.requires l.j (omega arith))
+    let a = c.args in
+    let l = c.loop-j in
+    sym (l.invariant.1 ∙ rising_end a.least a.start a.most a.first.now a.last.now c.requires l.j (omega arith))
 
 pub all_rise_spec : {M : Type 1} → statement M
 unfolding all_rising rising_from
 all_rise_spec = tie.close (tie.spec invariant-loop decreases-loop (λ c. (omega arith, refl)) (λ c. omega arith) (λ c. omega arith)
-    (λ c. omega (arith, c.shared_slice_known-in-loop-j-1.given c.before.before.loop-j.j)) (λ c. omega arith) (λ c. omega arith)
-    (λ c. omega (arith, c.shared_slice_known-in-loop-j-2-1.given c.before.before.before.loop-j.j)) (λ c κs. tt) (λ c. omega arith) (λ c. omega arith)
+    (λ c. omega (arith, c.shared_slice_known-in-loop-j-1.given c.loop-j.j)) (λ c. omega arith) (λ c. omega arith)
+    (λ c. omega (arith, c.shared_slice_known-in-loop-j-2-1.given c.loop-j.j)) (λ c κs. tt) (λ c. omega arith) (λ c. omega arith)
     loop-again returns returns-2)

@@ -26,25 +26,25 @@ abbrev start : tie.In-loop-j invariant-loop decreases-loop → tie.Start invaria
 start c = c.before.before.before.before.before.before
 
 reads : (c : tie.In-loop-j invariant-loop decreases-loop)
-    → let a = (start c).args in Reads a.turned a.w a.opens.now a.closes.now a.marks.now c.before.loop-j.j
-reads c = (start c).requires.1 c.before.loop-j.j (omega arith)
+    → let a = (start c).args in Reads a.turned a.w a.opens.now a.closes.now a.marks.now c.loop-j.j
+reads c = (start c).requires.1 c.loop-j.j (omega arith)
 
 mark_place_requires : tie.Need-mark_place-at-requires invariant-loop decreases-loop
 mark_place_requires c κs =
-    let turn = c.before.before in
-    let r = reads turn in
-    (r.raw.0, r.raw.1, r.window.0, r.window.1, (start turn).requires.0.2)
+    let turn = c in
+    let r = reads turn.before.before in
+    (r.raw.0, r.raw.1, r.window.0, r.window.1, (start turn.before.before).requires.0.2)
 
 -- the place that is read is inside the room for the marks, and the mark is a slot within the boundaries
 place : (c : tie.After-mark_place-at invariant-loop decreases-loop) → c.mark_place-at.result < length (start c.before.before.before).args.marks.now
 place c =
-    let turn = c.before.before.before in
-    let st = start turn in
-    let r = reads turn in
+    let turn = c in
+    let st = start turn.before.before.before in
+    let r = reads turn.before.before.before in
     omega (
       arith,
       c.mark_place-at.ensures,
-      row_inside (seen_at st.args.turned st.args.w st.args.opens.now turn.before.loop-j.j) st.args.w r.window.0,
+      row_inside (seen_at st.args.turned st.args.w st.args.opens.now turn.loop-j.j) st.args.w r.window.0,
       r.window.1,
       st.requires.0.3,
     )
@@ -55,17 +55,17 @@ mark_low c = rw c.mark_place-at.ensures (reads c.before.before.before).mark
 
 cast_out : tie.Need-overflow_cast-out invariant-loop decreases-loop
 cast_out c =
-    let at = c.before.before in
-    let st = start at.before.before.before in
+    let at = c in
+    let st = start at.before.before.before.before.before in
     let mark = get_or st.args.marks.now at.mark_place-at.result 0 in
-    omega (arith, c.Slot-seen.ensures, seen_most st.args.turned st.args.w mark (mark_low at), st.requires.0.2)
+    omega (arith, c.Slot-seen.ensures, seen_most st.args.turned st.args.w mark (mark_low at.before.before), st.requires.0.2)
 
 loop-again : tie.Need-loop-j-preserved invariant-loop decreases-loop
 loop-again c =
-    let turn = c.before.before.before.before.before in
-    let a = (start turn).args in
-    let read = ap (λ (i : ℕ). seen a.turned a.w (get_or a.marks.now i 0)) c.before.before.mark_place-at.ensures in
-    (refl, fill_next turn.before.loop-j.invariant.1 (c.Slot-seen.ensures ∙ read) (omega arith) (omega (arith, (start turn).requires.0)))
+    let turn = c in
+    let a = (start turn.before.before.before.before.before).args in
+    let read = ap (λ (i : ℕ). seen a.turned a.w (get_or a.marks.now i 0)) c.mark_place-at.ensures in
+    (refl, fill_next turn.loop-j.invariant.1 (c.Slot-seen.ensures ∙ read) (omega arith) (omega (arith, (start turn.before.before.before.before.before).requires.0)))
 
 pub read_marks_spec : {M : Type 1} → statement M
 read_marks_spec = tie.close (tie.spec invariant-loop decreases-loop (λ c. (refl, fill_start)) (λ c. omega arith) (λ c. omega arith)
@@ -73,4 +73,4 @@ read_marks_spec = tie.close (tie.spec invariant-loop decreases-loop (λ c. (refl
     (λ c. omega (arith, place c)) (λ c. place c.before) (λ c κs. mark_low c.before) cast_out
     (λ c. omega (arith, (start c.before.before.before.before.before).pre.0))
     (λ c. omega (arith, (start c.before.before.before.before.before).pre.0)) (λ c. omega arith) (λ c. omega arith) loop-again
-    (λ c. c.before.loop-j.invariant.1.long) (λ c. fill_end c.before.loop-j.invariant.1 (omega arith)))
+    (λ c. c.loop-j.invariant.1.long) (λ c. fill_end c.loop-j.invariant.1 (omega arith)))

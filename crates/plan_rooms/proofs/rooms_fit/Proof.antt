@@ -15,43 +15,43 @@ of_arm w n e h = h ∙ ap (lengths_fit w n) (sym e)
 
 returns : tie.Need-returns-else-table_fits
 returns c =
-    let f = c.before in
-    of_arm _ _ f.before.before.rooms-1.given.1 (fails_here _ _ (sym f.table_fits.ensures ∙ c.if-table_fits.false))
+    let f = c in
+    of_arm _ _ f.rooms-1.given.1 (fails_here _ _ (sym f.table_fits.ensures ∙ c.if-table_fits.false))
 
 returns-2 : tie.Need-returns-else-seats_fit
 returns-2 c =
-    let g = c.before in
-    let f = g.before.before in
-    of_arm _ _ f.before.before.rooms-1.given.1
-    (holds_here _ _ _ (sym f.table_fits.ensures ∙ g.before.if-table_fits.true) (fails_here _ _ (sym g.seats_fit.ensures ∙ c.if-seats_fit.false)))
+    let g = c in
+    let f = g in
+    of_arm _ _ f.rooms-1.given.1
+    (holds_here _ _ _ (sym f.table_fits.ensures ∙ g.if-table_fits.true) (fails_here _ _ (sym g.seats_fit.ensures ∙ c.if-seats_fit.false)))
 
 returns-3 : tie.Need-returns-else-table_fits-2
 returns-3 c =
-    let f = c.before in
-    of_arm _ _ f.before.before.rooms-in-ForDecision-1.given.1 (fails_here _ _ (sym f.table_fits-in-ForDecision.ensures ∙ c.if-table_fits-2.false))
+    let f = c in
+    of_arm _ _ f.rooms-in-ForDecision-1.given.1 (fails_here _ _ (sym f.table_fits-in-ForDecision.ensures ∙ c.if-table_fits-2.false))
 
 returns-4 : tie.Need-returns-else-table_fits-3
 returns-4 c =
-    let f = c.before in
-    of_arm _ _ f.before.before.rooms-in-ForSeats-1.given.1 (fails_here _ _ (sym f.table_fits-in-ForSeats.ensures ∙ c.if-table_fits-3.false))
+    let f = c in
+    of_arm _ _ f.rooms-in-ForSeats-1.given.1 (fails_here _ _ (sym f.table_fits-in-ForSeats.ensures ∙ c.if-table_fits-3.false))
 
 returns-5 : tie.Need-returns-then-seats_fit
 returns-5 c =
-    let g = c.before in
-    let f = g.before.before in
-    of_arm _ _ f.before.before.rooms-1.given.1
-    (holds_here _ _ _ (sym f.table_fits.ensures ∙ g.before.if-table_fits.true) (holds_here _ _ _ (sym g.seats_fit.ensures ∙ c.if-seats_fit.true) refl))
+    let g = c in
+    let f = g in
+    of_arm _ _ f.rooms-1.given.1
+    (holds_here _ _ _ (sym f.table_fits.ensures ∙ g.if-table_fits.true) (holds_here _ _ _ (sym g.seats_fit.ensures ∙ c.if-seats_fit.true) refl))
 
 returns-6 : tie.Need-returns-then-table_fits-2
 returns-6 c =
-    let f = c.before in
-    of_arm _ _ f.before.before.rooms-in-ForDecision-1.given.1 (holds_here _ _ _ (sym f.table_fits-in-ForDecision.ensures ∙ c.if-table_fits-2.true) refl)
+    let f = c in
+    of_arm _ _ f.rooms-in-ForDecision-1.given.1 (holds_here _ _ _ (sym f.table_fits-in-ForDecision.ensures ∙ c.if-table_fits-2.true) refl)
 
 returns-7 : tie.Need-returns-then-table_fits-3
 returns-7 c =
-    let f = c.before.before in
-    of_arm _ _ f.before.before.rooms-in-ForSeats-1.given.1
-    (holds_here _ _ _ (sym f.table_fits-in-ForSeats.ensures ∙ c.before.if-table_fits-3.true) c.seats_fit-in-ForSeats.ensures)
+    let f = c in
+    of_arm _ _ f.rooms-in-ForSeats-1.given.1
+    (holds_here _ _ _ (sym f.table_fits-in-ForSeats.ensures ∙ c.if-table_fits-3.true) c.seats_fit-in-ForSeats.ensures)
 
 pub rooms_fit_spec : {M : Type 1} → statement M
 rooms_fit_spec = tie.close (tie.spec (λ c. search rules) (λ c κs. search rules) returns (λ c κs. search rules) returns-2 (λ c. search rules)

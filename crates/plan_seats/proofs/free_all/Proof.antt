@@ -16,10 +16,10 @@ decreases-loop plan₀ j₀ j-end plan j = length plan₀ - j
 
 returns : tie.Need-returns invariant-loop decreases-loop
 returns c =
-    let plan₀ = c.before.before.args.plan.now in
-    let l = c.before.loop-j in
+    let plan₀ = c.args.plan.now in
+    let l = c.loop-j in
     filled_all (λ _. 0) (length plan₀) plan₀ l.plan (fill_end l.invariant.1 (omega arith)) (omega arith) ∙ sym (replicate_values (length plan₀) 0)
 
 pub free_all_spec : {M : Type 1} → statement M
 free_all_spec = tie.close (tie.spec invariant-loop decreases-loop (λ c. (refl, fill_start)) (λ c. omega arith) (λ c. omega arith) (λ c. omega arith) (λ c. omega arith)
-    (λ c. (refl, fill_next c.before.loop-j.invariant.1 refl (omega arith) (omega arith))) (λ c. omega arith) returns)
+    (λ c. (refl, fill_next c.loop-j.invariant.1 refl (omega arith) (omega arith))) (λ c. omega arith) returns)

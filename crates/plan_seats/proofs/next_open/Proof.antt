@@ -27,8 +27,8 @@ test c = let a = c.args in open_at a.first.now a.slot a.order.now a.plan.now
 abbrev size : tie.Start invariant-loop decreases-loop → ℕ
 size c = length c.args.order.now
 
-unit_inside : (c : tie.In-loop-p invariant-loop decreases-loop) → at c.before.before.args.order.now c.before.loop-p.p < length c.before.before.args.plan.now
-unit_inside c = c.before.before.requires.1 c.before.loop-p.p (omega arith)
+unit_inside : (c : tie.In-loop-p invariant-loop decreases-loop) → at c.args.order.now c.loop-p.p < length c.args.plan.now
+unit_inside c = c.requires.1 c.loop-p.p (omega arith)
 
 -- of a unit without a seat the second test decides
 free : (x : ℕ) (t : Bool) → x ≡ 0 → (eqb x 0 && t) ≡ t
@@ -39,25 +39,25 @@ seated x t ne = rw (ne_eqb x 0 ne) refl
 
 returns : tie.Need-returns-then-first-unit invariant-loop decreases-loop
 returns c =
-    let l = c.before.before.before.before.before.before in
-    let st = l.before in
-    sym (first_passed (test st) (size st) l.loop-p.p (omega arith) (free _ _ c.before.before.if-plan-unit-eq0.true ∙ c.if-first-unit.true)) ∙ l.loop-p.invariant.1
+    let l = c in
+    let st = l in
+    sym (first_passed (test st.before.before.before.before.before.before.before) (size st.before.before.before.before.before.before.before) l.loop-p.p (omega arith) (free _ _ c.if-plan-unit-eq0.true ∙ c.if-first-unit.true)) ∙ l.loop-p.invariant.1
 
 loop-again : tie.Need-loop-p-preserved invariant-loop decreases-loop
 loop-again c =
-    let l = c.before.before.before.before in
-    let st = l.before in
+    let l = c in
+    let st = l in
     let failed = ⊎_elim (λ w. free _ _ w.0.true ∙ w.2.false) (λ w. seated _ _ w.false) c.else-plan-unit-eq0.branch in
-    (omega arith, first_failed (test st) (size st) l.loop-p.p (omega arith) failed ∙ l.loop-p.invariant.1)
+    (omega arith, first_failed (test st.before.before.before.before.before) (size st.before.before.before.before.before) l.loop-p.p (omega arith) failed ∙ l.loop-p.invariant.1)
 
 returns-2 : tie.Need-returns invariant-loop decreases-loop
 returns-2 c =
-    let l = c.before in
-    let st = l.before in
-    sym (first_none (test st) (size st) l.loop-p.p (omega arith)) ∙ l.loop-p.invariant.1
+    let l = c in
+    let st = l in
+    sym (first_none (test st.before.before) (size st.before.before) l.loop-p.p (omega arith)) ∙ l.loop-p.invariant.1
 
 pub next_open_spec : {M : Type 1} → statement M
 next_open_spec = tie.close (tie.spec invariant-loop decreases-loop (λ c. (c.requires.2, refl)) (λ c. omega arith) (λ c. omega arith)
-    (λ c. omega (arith, c.shared_slice_known-1.given c.before.before.loop-p.p)) (λ c. omega (arith, unit_inside c.before))
+    (λ c. omega (arith, c.shared_slice_known-1.given c.loop-p.p)) (λ c. omega (arith, unit_inside c.before))
     (λ c. omega (arith, unit_inside c.before.before)) (λ c. omega (arith, unit_inside c.before.before.before))
     (λ c. omega (arith, unit_inside c.before.before.before.before)) returns (λ c. omega arith) (λ c. omega arith) loop-again returns-2)

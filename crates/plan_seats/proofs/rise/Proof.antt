@@ -16,16 +16,16 @@ use Rattle.plan_seats.proofs.rise.Tie as tie
 
 -- where the slot ends, and where it starts
 abbrev end : tie.After-result-2-1 → ℕ
-end c = c.before.before.before.end-end.result-1.0
+end c = c.end-end.result-1.0
 
 abbrev start : tie.After-result-2-1 → ℕ
-start c = c.before.before.start-start.result-1.0
+start c = c.start-start.result-1.0
 
 abbrev high : tie.After-result-2-1 → ℤ
-high c = get_or c.before.before.before.before.args.counts.now (end c) (pos 0)
+high c = get_or c.args.counts.now (end c) (pos 0)
 
 abbrev low : tie.After-result-2-1 → ℤ
-low c = get_or c.before.before.before.before.args.counts.now (start c) (pos 0)
+low c = get_or c.args.counts.now (start c) (pos 0)
 
 record Known (c : tie.After-result-2-1) : Type 0 where
   nonneg : pos 0 ≤ℤ low c
@@ -35,9 +35,9 @@ record Known (c : tie.After-result-2-1) : Type 0 where
 
 known : (c : tie.After-result-2-1) → Known c
 known c =
-    let st = c.before.before.before.before in
-    let e : suc (start c) ≡ end c = omega (arith, c.before.before.before.end-end.ensures, c.before.before.start-start.ensures) in
-    let r = st.requires.2 (start c) (omega (arith, c.before.before.before.end-end.ensures)) in
+    let st = c in
+    let e : suc (start c) ≡ end c = omega (arith, c.end-end.ensures, c.start-start.ensures) in
+    let r = st.requires.2 (start c) (omega (arith, c.end-end.ensures)) in
     record {
       nonneg = r.0;
       rises = subst (λ (k : ℕ). low c ≤ℤ get_or st.args.counts.now k (pos 0)) e r.1;
@@ -59,10 +59,10 @@ cast_result c =
 returns : tie.Need-returns
 returns c =
     let k = known c in
-    let counts = c.before.before.before.before.args.counts.now in
+    let counts = c.args.counts.now in
     rw (to_z-of_z k.high_fits, to_z-of_z k.low_fits, to_z-of_z (rise_fits (high c) (low c) k.nonneg k.rises k.high_fits))
     (rise_is (high c) (low c) k.nonneg k.rises k.high_fits)
-    ∙ ap₂ (λ (e b : ℕ). count_at counts e - count_at counts b) c.before.before.before.end-end.ensures c.before.before.start-start.ensures
+    ∙ ap₂ (λ (e b : ℕ). count_at counts e - count_at counts b) c.end-end.ensures c.start-start.ensures
 
 pub rise_spec : {M : Type 1} → statement M
 rise_spec = tie.close (tie.spec (λ c κs. tt) (λ c κs. search rules) (λ c. search rules) (λ c. search rules) (λ c. search rules) (λ c. search rules)

@@ -15,7 +15,7 @@ use Rattle.plan_seats.proofs.seat.Tie as tie
 
 seat_in_order_requires : tie.Need-seat_in_order-requires
 seat_in_order_requires c κs =
-    let st = c.before.before.before.before.before in
+    let st = c in
     let p = st.requires in
     let n = length st.args.first.now in
     let whole : n - 0 ≤ length st.args.plan.now = omega (arith, p.room) in
@@ -26,8 +26,8 @@ seat_in_order_requires c κs =
 
 returns : tie.Need-returns
 returns c =
-    let at_call = c.before.before.before in
-    let st = at_call.before.before.before.before.before.before in
+    let at_call = c in
+    let st = at_call in
     let first = st.args.first.now in
     let last = st.args.last.now in
     let counts = st.args.counts.now in
@@ -37,7 +37,7 @@ returns c =
     let order : List ℕ = take (n - 0) (replicate max_units 0) in
     let zeros = ap (λ (k : ℕ). take {A = ℕ} k (replicate max_units 0)) whole ∙ take_zeros n max_units st.requires.units in
     let called = at_call.seat_in_order in
-    let all = room_seated first last counts (n - 0) order called.new.1.1.1.1.0 plan whole zeros called.ensures.1.0 in
+    let all = room_seated first last counts (n - 0) order called.new.plan plan whole zeros called.ensures.1.0 in
     let looks = room_looked first last counts order called.result zeros called.ensures.1.1 in (
       (all, looks),
       λ s D R. (

@@ -13,21 +13,21 @@ use Rattle.plan_seats.proofs.seat_in_order.Tie as tie
 
 order_units_requires : tie.Need-order_units-requires
 order_units_requires c κs =
-    let p = c.before.before.before.before.before.requires in
+    let p = c.requires in
     (omega (arith, p.0.units, p.0.lists), λ j h. omega (arith, p.0.closes j h), omega (arith, p.0.lists, p.1.0))
 
 seat_slots_requires : tie.Need-seat_slots-requires
 seat_slots_requires c κs =
-    let freed = c.before.before.before.before in
-    let sorted = freed.before.before.before.before in
-    let st = sorted.before.before.before.before.before.before in
+    let freed = c in
+    let sorted = freed in
+    let st = sorted in
     let p = st.requires in
     let cleared = freed.free_all in
     let ordered = sorted.order_units in
     let last = st.args.last.now in
-    let plan : length cleared.new.0 ≡ length st.args.plan.now = cleared.auto.0 in
+    let plan : length cleared.new.plan ≡ length st.args.plan.now = cleared.auto.plan in
     let units = (by_rank_in_order (at last) (length last) st.args.order.now (omega (arith, p.0.lists, p.1.0))).units in
-    let size : length ordered.new.1.0 ≡ length st.args.order.now = ordered.auto.1.0 in (
+    let size : length ordered.new.order ≡ length st.args.order.now = ordered.auto.order in (
       (
         omega (arith, plan, p.1.1),
         λ j h.
@@ -40,14 +40,14 @@ seat_slots_requires c κs =
 
 returns : tie.Need-returns
 returns c =
-    let freed = c.before.before.before.before.before.before.before in
-    let sorted = freed.before.before.before.before in
-    let st = sorted.before.before.before.before.before.before in
+    let freed = c in
+    let sorted = freed in
+    let st = sorted in
     let first = st.args.first.now in
     let counts = st.args.counts.now in
     let ordered = sorted.order_units.ensures in
     let cleared = freed.free_all.ensures ∙ ap (λ (k : ℕ). replicate k 0) st.requires.1.1 in
-    let called = c.before.before.seat_slots.ensures in (
+    let called = c.seat_slots.ensures in (
       ordered,
       (called.0 ∙ ap₂ (seats_into first counts) ordered cleared, called.1 ∙ ap₂ (looks_into first counts) ordered cleared),
     )

@@ -41,55 +41,55 @@ module _ (c : tie.After-next_open-place invariant-loop decreases-loop) where
   unit_inside h = omega (arith, l.loop.invariant.2, (start l).pre.1 c.next_open-place.result h)
 
 -- the place is not the end of the order
-here : (c : tie.Else-place-order invariant-loop decreases-loop) → c.before.next_open-place.result < length (start (l c.before)).args.order.now
+here : (c : tie.Else-place-order invariant-loop decreases-loop) → c.next_open-place.result < length (start (l c.before)).args.order.now
 here c = let b = (next c.before).0 in let ne = c.if-place-order.false in omega arith
 
 loop-holds : tie.Need-loop-init invariant-loop decreases-loop
 loop-holds c =
-    let a = c.before.before.before.args in
+    let a = c.args in
     let all : a.count - 0 ≡ a.count = omega arith in
     (omega arith, omega arith, refl, rw all (search_start (at a.first.now) a.slot a.order.now a.count a.plan.now))
 
 next_open_requires : tie.Need-next_open-place-requires invariant-loop decreases-loop
 next_open_requires c κs =
-    let l = c.before.before in
-    let p = (start l).requires in
+    let l = c in
+    let p = (start l.before).requires in
     (omega (arith, p.0, l.loop.invariant.2), λ j h. omega (arith, p.1 j h, l.loop.invariant.2), l.loop.invariant.1)
 
 returns : tie.Need-returns-then-place-order invariant-loop decreases-loop
 returns c =
     let n = next c.before in
     let a = (start (l c.before)).args in
-    all_seen (at a.first.now) a.slot a.order.now a.count a.plan.now c.before.next_open-place.result _ (l c.before).loop.plan
+    all_seen (at a.first.now) a.slot a.order.now a.count a.plan.now c.next_open-place.result _ (l c.before).loop.plan
     (omega (arith, c.if-place-order.true)) n.2
 
 loop-again : tie.Need-loop-preserved invariant-loop decreases-loop
 loop-again c =
-    let e = c.before in
-    let n = next e.before in
-    let a = (start (l e.before)).args in
-    let plan = (l e.before).loop.plan in
-    let r = e.before.next_open-place.result in
+    let e = c in
+    let n = next e.before.before in
+    let a = (start (l e.before.before)).args in
+    let plan = (l e.before.before).loop.plan in
+    let r = e.next_open-place.result in
     let u = at a.order.now r in
-    let left = a.count - ((l e.before).loop.counter + 1) in
+    let left = a.count - ((l e.before.before).loop.counter + 1) in
     let one : suc r ≡ r + 1 = omega arith in (
       omega arith,
-      omega (arith, here e),
-      length-set plan u a.slot ∙ (l e.before).loop.invariant.2,
+      omega (arith, here e.before),
+      length-set plan u a.slot ∙ (l e.before.before).loop.invariant.2,
       subst (λ (p : ℕ). Search (at a.first.now) a.slot a.order.now a.count a.plan.now p left (set plan u a.slot)) one
-          (taken (at a.first.now) a.slot a.order.now a.count a.plan.now r left plan (here e) (n.1 (here e)) n.2),
+          (taken (at a.first.now) a.slot a.order.now a.count a.plan.now r left plan (here e.before) (n.1 (here e.before)) n.2),
     )
 
 returns-2 : tie.Need-returns-then-place-order invariant-loop decreases-loop
 returns-2 c =
-    let l = c.before in
-    let a = (start l).args in
+    let l = c in
+    let a = (start l.before.before.before).args in
     let none : a.count - l.loop.counter ≡ 0 = omega arith in
     slot_full (at a.first.now) a.slot a.order.now a.count a.plan.now l.loop.looked l.loop.plan (rw (sym none) l.loop.invariant.3)
 
 pub seat_slot_spec : {M : Type 1} → statement M
 seat_slot_spec = tie.close (tie.spec invariant-loop decreases-loop loop-holds next_open_requires (λ c. (l c.before).loop.invariant.2) returns
     (λ c. omega (arith, here c)) (λ c. omega (arith, here c.before))
-    (λ c. omega (arith, c.shared_slice_known-in-loop-1.given c.before.before.next_open-place.result))
+    (λ c. omega (arith, c.shared_slice_known-in-loop-1.given c.next_open-place.result))
     (λ c. omega (arith, unit_inside c.before.before (here c.before))) (λ c. omega (arith, unit_inside c.before.before (here c.before)))
-    (λ c. omega (arith, here c.before)) (λ c. omega arith) (λ c. omega arith) loop-again (λ c. c.before.loop.invariant.2) returns-2)
+    (λ c. omega (arith, here c.before)) (λ c. omega arith) (λ c. omega arith) loop-again (λ c. c.loop.invariant.2) returns-2)

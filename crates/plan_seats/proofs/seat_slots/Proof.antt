@@ -24,54 +24,54 @@ start c = c.before.before.before.before
 
 loop-holds : tie.Need-loop-slot-init invariant-loop decreases-loop
 loop-holds c =
-    let st = c.before.before.before in
+    let st = c in
     let a = st.args in
     let first = slots_start (at a.first.now) (count_at a.counts.now) a.order.now (length a.counts.now) a.plan.now in
     (omega arith, st.requires.1.0, refl, refl, omega arith, first)
 
 seat_slot_requires : tie.Need-seat_slot-looked-requires invariant-loop decreases-loop
 seat_slot_requires c κs =
-    let l = c.before.before.before in
-    let p = (start l).requires in
+    let l = c in
+    let p = (start l.before.before.before).requires in
     (omega (arith, p.0.0, l.loop-slot.invariant.3), λ j h. omega (arith, p.0.1 j h, l.loop-slot.invariant.3))
 
 -- the slot's own looks
 few : (c : tie.After-seat_slot-looked invariant-loop decreases-loop) → c.seat_slot-looked.result ≤ max_units
 few c =
-    let l = c.before.before.before.before in
-    let a = (start l).args in
+    let l = c in
+    let a = (start l.before.before.before.before).args in
     omega (
       arith,
       c.seat_slot-looked.ensures.1,
-      looks_most (at a.first.now) l.loop-slot.slot a.order.now c.before.before.rise-count.result l.loop-slot.plan,
-      (start l).requires.0.2,
+      looks_most (at a.first.now) l.loop-slot.slot a.order.now c.rise-count.result l.loop-slot.plan,
+      (start l.before.before.before.before).requires.0.2,
     )
 
 loop-again : tie.Need-loop-slot-preserved invariant-loop decreases-loop
 loop-again c =
-    let d = c.before.before in
-    let l = d.before.before.before.before in
-    let a = (start l).args in
+    let d = c in
+    let l = d in
+    let a = (start l.before.before.before.before.before.before).args in
     let e = d.seat_slot-looked.ensures in (
       omega arith,
       omega arith,
       refl,
-      d.seat_slot-looked.auto.1.1.1.1.0 ∙ l.loop-slot.invariant.3,
-      omega (arith, few d, l.loop-slot.invariant.4),
+      d.seat_slot-looked.auto.plan ∙ l.loop-slot.invariant.3,
+      omega (arith, few d.before.before, l.loop-slot.invariant.4),
       slot_done (at a.first.now) (count_at a.counts.now) a.order.now (length a.counts.now) a.plan.now l.loop-slot.slot
-          d.before.before.rise-count.result l.loop-slot.plan d.seat_slot-looked.new.1.1.1.1.0 l.loop-slot.looked d.seat_slot-looked.result l.loop-slot.invariant.0
-          (omega arith) d.before.before.rise-count.ensures e.0 e.1 l.loop-slot.invariant.5,
+          d.rise-count.result l.loop-slot.plan d.seat_slot-looked.new.plan l.loop-slot.looked d.seat_slot-looked.result l.loop-slot.invariant.0
+          (omega arith) d.rise-count.ensures e.0 e.1 l.loop-slot.invariant.5,
     )
 
 returns : tie.Need-returns invariant-loop decreases-loop
 returns c =
-    let l = c.before in
-    let a = (start l).args in
+    let l = c in
+    let a = (start l.before).args in
     slots_end (at a.first.now) (count_at a.counts.now) a.order.now (length a.counts.now) a.plan.now
     l.loop-slot.slot l.loop-slot.plan l.loop-slot.looked (omega arith) l.loop-slot.invariant.5
 
 pub seat_slots_spec : {M : Type 1} → statement M
 seat_slots_spec = tie.close (tie.spec invariant-loop decreases-loop loop-holds (λ c κs. (omega arith, omega arith, (start c.before).pre.1.2))
     (λ c. omega (arith, (start c.before.before).pre.1.1)) seat_slot_requires
-    (λ c. let l = c.before.before.before.before.before.before in omega (arith, few c.before.before, l.loop-slot.invariant.4, (start l).requires.1.1))
-    (λ c. omega arith) (λ c. omega arith) loop-again (λ c. c.before.loop-slot.invariant.3) returns)
+    (λ c. let l = c in omega (arith, few c.before.before, l.loop-slot.invariant.4, (start l.before.before.before.before.before.before).requires.1.1))
+    (λ c. omega arith) (λ c. omega arith) loop-again (λ c. c.loop-slot.invariant.3) returns)

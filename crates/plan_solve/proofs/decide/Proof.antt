@@ -31,38 +31,38 @@ holds : (c : tie.Start) → (places (given (lists c)) ≤ length (room c)) × (b
 holds c = decide_hold (given (lists c)) (length (room c)) (length (ring c)) c.requires.rooms
 
 abbrev table : tie.After-close_limits-outcome → List ℤ
-table c = c.close_limits-outcome.new.1.1.1.1.1.1.1.0
+table c = c.close_limits-outcome.new.table
 
 close_limits_requires : tie.Need-close_limits-outcome-requires
 close_limits_requires c κs =
-    let st = c.before.before.before.before.before.before.before.before in
-    limits_asked (lists st) _ st.requires (room st) (holds st).0
+    let st = c in
+    limits_asked (lists st.before.before.before.before.before.before.before.before) _ st.requires (room st.before.before.before.before.before.before.before.before) (holds st.before.before.before.before.before.before.before.before).0
 
 find_ring_requires : tie.Need-find_ring-n-requires
 find_ring_requires c κs =
-    let d = c.before.before.before.before.before in
-    let st = start d in
-    ring_asked (lists st) _ st.requires (room st) (holds st).0 d.close_limits-outcome.result (table d) d.close_limits-outcome.ensures
-    c.before.before.enum_told-1.given.1 (length (ring st)) (holds st).1
+    let d = c in
+    let st = start d.before.before.before.before.before in
+    ring_asked (lists st) _ st.requires (room st) (holds st).0 d.close_limits-outcome.result (table d.before.before.before.before.before) d.close_limits-outcome.ensures
+    c.enum_told-1.given.1 (length (ring st)) (holds st).1
 
 returns : tie.Need-returns-in-Stopped
 returns c =
-    let f = c.before.before.before in
-    let d = f.before.before.before.before.before.before in
-    let st = start d in
-    ring_left_lem (lists st) _ st.requires (room st) (holds st).0 d.close_limits-outcome.result (table d) d.close_limits-outcome.ensures
-    f.before.before.before.enum_told-1.given.1 (ring st)
-    f.find_ring-n.result f.find_ring-n.new.1.1.1.1.1.1.1.0 f.find_ring-n.new.1.1.1.1.1.1.1.1.0 f.find_ring-n.ensures
+    let f = c in
+    let d = f in
+    let st = start d.before.before.before.before.before.before.before.before.before in
+    ring_left_lem (lists st) _ st.requires (room st) (holds st).0 d.close_limits-outcome.result (table d.before.before.before.before.before.before.before.before.before) d.close_limits-outcome.ensures
+    f.enum_told-1.given.1 (ring st)
+    f.find_ring-n.result f.find_ring-n.new.table f.find_ring-n.new.ring f.find_ring-n.ensures
 
 returns-2 : tie.Need-returns-in-Finished
 returns-2 c =
-    let d = c.before.before.before in
-    let st = start d in
-    fits_left (lists st) _ st.requires (room st) (holds st).0 d.close_limits-outcome.result (table d) d.close_limits-outcome.ensures c.enum_told-in-Finished-1.given.1 (ring st)
+    let d = c in
+    let st = start d.before.before.before in
+    fits_left (lists st) _ st.requires (room st) (holds st).0 d.close_limits-outcome.result (table d.before.before.before) d.close_limits-outcome.ensures c.enum_told-in-Finished-1.given.1 (ring st)
 
 pub decide_spec : {M : Type 1} → statement M
 decide_spec = tie.close (tie.spec close_limits_requires (λ c. c.in-Stopped.keys1) find_ring_requires (λ c. c.in-Finished.keys2)
-    (λ c. let f = c.before.before.before in f.find_ring-n.auto.1.1.1.1.1.1.1.0
-    ∙ f.before.before.before.before.before.before.close_limits-outcome.auto.1.1.1.1.1.1.1.0)
-    (λ c. c.before.before.before.find_ring-n.auto.1.1.1.1.1.1.1.1.0) returns
-    (λ c. c.before.before.before.close_limits-outcome.auto.1.1.1.1.1.1.1.0) returns-2)
+    (λ c. let f = c in f.find_ring-n.auto.table
+    ∙ f.close_limits-outcome.auto.table)
+    (λ c. c.find_ring-n.auto.ring) returns
+    (λ c. c.close_limits-outcome.auto.table) returns-2)

@@ -36,12 +36,12 @@ holds : (c : tie.Start) → (places (given (lists c)) ≤ length (room c)) × Se
 holds c = seat_hold (given (lists c)) (length (room c)) (seats c) c.requires.rooms
 
 abbrev table : tie.After-close_limits-outcome → List ℤ
-table c = c.close_limits-outcome.new.1.1.1.1.1.1.1.0
+table c = c.close_limits-outcome.new.table
 
 close_limits_requires : tie.Need-close_limits-outcome-requires
 close_limits_requires c κs =
-    let st = c.before.before.before.before.before.before.before.before.before.before in
-    limits_asked (lists st) _ st.requires (room st) (holds st).0
+    let st = c in
+    limits_asked (lists st.before.before.before.before.before.before.before.before.before.before) _ st.requires (room st.before.before.before.before.before.before.before.before.before.before) (holds st.before.before.before.before.before.before.before.before.before.before).0
 
 -- where the pass finished
 abbrev closed : tie.In-Finished → tie.After-close_limits-outcome
@@ -64,28 +64,28 @@ units_ready c =
 
 fill_plan_requires : tie.Need-fill_plan-looked-requires
 fill_plan_requires c κs =
-    let b = c.before.before.before.before in
-    let st = start (closed b.before) in
-    ((given (lists st), units_ready b), seats_asked (lists st) _ st.requires (room st) (holds st).0 (seats st) (holds st).1)
+    let b = c in
+    let st = start (closed b.before.before.before.before) in
+    ((given (lists st), units_ready b.before.before.before), seats_asked (lists st) _ st.requires (room st) (holds st).0 (seats st) (holds st).1)
 
 returns : tie.Need-returns-in-Stopped
 returns c =
-    let d = c.before.before.before in
-    let st = start d in
+    let d = c in
+    let st = start d.before.before.before in
     let stopped = c.enum_told-1.given.1 in (
-      none_seated (lists st) _ st.requires (room st) (holds st).0 d.close_limits-outcome.result (table d) d.close_limits-outcome.ensures stopped
+      none_seated (lists st) _ st.requires (room st) (holds st).0 d.close_limits-outcome.result (table d.before.before.before) d.close_limits-outcome.ensures stopped
           st.args.plan.now st.args.earliest.now st.args.latest.now,
-      none_looked (lists st) _ st.requires (room st) (holds st).0 d.close_limits-outcome.result (table d) d.close_limits-outcome.ensures stopped,
+      none_looked (lists st) _ st.requires (room st) (holds st).0 d.close_limits-outcome.result (table d.before.before.before) d.close_limits-outcome.ensures stopped,
     )
 
 returns-2 : tie.Need-returns-in-Finished
 returns-2 c =
-    let p = c.before.before.before.before.before.before in
-    let b = p.before.before.before.before.before in
-    let d = closed b.before in
+    let p = c in
+    let b = p in
+    let d = closed b.before.before.before.before.before.before.before.before.before.before.before in
     let st = start d in
-    let f = front b.before in
-    let filled = p.fill_plan-looked.ensures (given (lists st)) (units_ready b) in (
+    let f = front b.before.before.before.before.before.before.before.before.before.before.before in
+    let filled = p.fill_plan-looked.ensures (given (lists st)) (units_ready b.before.before.before.before.before.before.before.before.before.before) in (
       seats_left (lists st) _ st.requires (room st) (holds st).0 f.0 f.1 (table d) f.2 _ _ _ _ _ _ _ filled,
       looks_left (lists st) _ st.requires (room st) (holds st).0 f.0 f.1 (table d) f.2 _ _ _ _ _ _ _ filled,
     )
@@ -93,10 +93,10 @@ returns-2 c =
 pub seat_spec : {M : Type 1} → statement M
 seat_spec = tie.close (tie.spec close_limits_requires (λ c. c.in-Stopped.keys1) (λ c. c.in-Finished.keys2)
     (λ c κs. let st = start (closed c) in span_bound (lists st) st.requires.sheet) fill_plan_requires
-    (λ c. c.before.before.before.close_limits-outcome.auto.1.1.1.1.1.1.1.0) returns
-    (λ c. (closed c.before.before.before.before.before.before.before.before.before.before.before.before
-    ).close_limits-outcome.auto.1.1.1.1.1.1.1.0)
-    (λ c. c.before.before.before.before.before.before.fill_plan-looked.auto.1.1.1.1.0)
-    (λ c. c.before.before.before.before.before.before.fill_plan-looked.auto.1.1.1.1.1.0)
-    (λ c. c.before.before.before.before.before.before.fill_plan-looked.auto.1.1.1.1.1.1.0)
+    (λ c. c.close_limits-outcome.auto.table) returns
+    (λ c. (closed c.before.before.before.before.before.before.before.before.before.before.before
+    ).close_limits-outcome.auto.table)
+    (λ c. c.fill_plan-looked.auto.plan)
+    (λ c. c.fill_plan-looked.auto.earliest)
+    (λ c. c.fill_plan-looked.auto.latest)
     returns-2)

@@ -41,10 +41,10 @@ holds : (c : tie.Start) → let s = given (lists c) in (places s ≤ length (roo
 holds c = plan_holds (given (lists c)) (length (room c)) (seats c) (length (ring c)) c.requires.rooms
 
 abbrev table : tie.After-decide-fit → List ℤ
-table c = c.decide-fit.new.1.1.1.1.1.1.1.0
+table c = c.decide-fit.new.table
 
 abbrev ring_left : tie.After-decide-fit → List ℕ
-ring_left c = c.decide-fit.new.1.1.1.1.1.1.1.1.0
+ring_left c = c.decide-fit.new.ring
 
 -- what it leaves, by what it said
 told : (c : tie.After-decide-fit) (reply : Reply) → fit_reply c.decide-fit.result ≡ reply → let st = start c in let s = given (lists st) in
@@ -56,11 +56,11 @@ told c reply e =
 
 decide_requires : tie.Need-decide-fit-requires
 decide_requires c κs =
-    let st = c.before.before.before.before.before.before.before.before.before.before.before.before in
+    let st = c in
     record {
       lists = st.requires.lists;
       sheet = st.requires.sheet;
-      rooms = plan_decides (given (lists st)) (length (room st)) (seats st) (length (ring st)) st.requires.rooms;
+      rooms = plan_decides (given (lists st.before.before.before.before.before.before.before.before.before.before.before.before)) (length (room st.before.before.before.before.before.before.before.before.before.before.before.before)) (seats st.before.before.before.before.before.before.before.before.before.before.before.before) (length (ring st.before.before.before.before.before.before.before.before.before.before.before.before)) st.requires.rooms;
     }
 
 -- where it fits
@@ -84,38 +84,38 @@ units_ready c =
 
 fill_plan_requires : tie.Need-fill_plan-requires
 fill_plan_requires c κs =
-    let b = c.before.before.before.before in
-    let st = start (decided b.before) in
-    ((given (lists st), units_ready b), seats_asked (lists st) _ st.requires (room st) (holds st).0 (seats st) (holds st).1)
+    let b = c in
+    let st = start (decided b.before.before.before.before) in
+    ((given (lists st), units_ready b.before.before.before), seats_asked (lists st) _ st.requires (room st) (holds st).0 (seats st) (holds st).1)
 
 returns : tie.Need-returns-in-None
 returns c =
-    let f = c.before in
-    let d = f.before.before.before.before.before in
-    let st = start d in
-    decided_none (given (lists st)) (room st) (ring st) (table d) (ring_left d) st.args.plan.now st.args.earliest.now st.args.latest.now
-    _ (passed (given (lists st))) (told d _ (ap fit_reply f.fit-1.given.1))
+    let f = c in
+    let d = f in
+    let st = start d.before.before.before.before.before.before in
+    decided_none (given (lists st)) (room st) (ring st) (table d.before.before.before.before.before.before) (ring_left d.before.before.before.before.before.before) st.args.plan.now st.args.earliest.now st.args.latest.now
+    _ (passed (given (lists st))) (told d.before.before.before.before.before.before _ (ap fit_reply f.fit-1.given.1))
 
 returns-2 : tie.Need-returns-in-Fits
 returns-2 c =
-    let p = c.before.before.before.before.before.before in
-    let b = p.before.before.before.before.before in
-    let d = decided b.before in
+    let p = c in
+    let b = p in
+    let d = decided b.before.before.before.before.before.before.before.before.before.before.before in
     let st = start d in
-    let f = front b.before in
+    let f = front b.before.before.before.before.before.before.before.before.before.before.before in
     plan_left (lists st) _ st.requires (room st) (holds st).0 f.0 f.1 (table d) f.2
     st.args.plan.now st.args.earliest.now st.args.latest.now p.fill_plan.result
-    p.fill_plan.new.1.1.1.1.0 p.fill_plan.new.1.1.1.1.1.0 p.fill_plan.new.1.1.1.1.1.1.0
-    (p.fill_plan.ensures (given (lists st)) (units_ready b)) (ring st) (ring_left d) f.3
+    p.fill_plan.new.plan p.fill_plan.new.earliest p.fill_plan.new.latest
+    (p.fill_plan.ensures (given (lists st)) (units_ready b.before.before.before.before.before.before.before.before.before.before)) (ring st) (ring_left d) f.3
 
 pub solve_spec : {M : Type 1} → statement M
 solve_spec = tie.close (tie.spec decide_requires (λ c. c.in-None.keys1) (λ c. c.in-Fits.keys2)
     (λ c κs. let st = start (decided c) in span_bound (lists st) st.requires.sheet) fill_plan_requires
-    (λ c. c.before.before.before.before.before.before.decide-fit.auto.1.1.1.1.1.1.1.0)
-    (λ c. c.before.before.before.before.before.before.decide-fit.auto.1.1.1.1.1.1.1.1.0) returns
-    (λ c. (decided c.before.before.before.before.before.before.before.before.before.before.before.before).decide-fit.auto.1.1.1.1.1.1.1.0)
-    (λ c. c.before.before.before.before.before.before.fill_plan.auto.1.1.1.1.0)
-    (λ c. c.before.before.before.before.before.before.fill_plan.auto.1.1.1.1.1.0)
-    (λ c. c.before.before.before.before.before.before.fill_plan.auto.1.1.1.1.1.1.0)
+    (λ c. c.decide-fit.auto.table)
+    (λ c. c.decide-fit.auto.ring) returns
+    (λ c. (decided c.before.before.before.before.before.before.before.before.before.before.before).decide-fit.auto.table)
+    (λ c. c.fill_plan.auto.plan)
+    (λ c. c.fill_plan.auto.earliest)
+    (λ c. c.fill_plan.auto.latest)
     (λ c. (decided
-    c.before.before.before.before.before.before.before.before.before.before.before.before).decide-fit.auto.1.1.1.1.1.1.1.1.0) returns-2)
+    c.before.before.before.before.before.before.before.before.before.before.before).decide-fit.auto.ring) returns-2)

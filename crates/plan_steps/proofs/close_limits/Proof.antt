@@ -29,12 +29,12 @@ pass_requires c κs =
 
 returns : tie.Need-returns
 returns c =
-    let b = c.before.before in
-    let st = start (filled b) in
-    limits_closed (given (lists st)) st.args.table.now _ c.before.pass.result c.before.pass.new.0 _
-    (boundaries_counted (lists st) st.requires.ok _ b.boundaries.ensures).0 (filled b).fill_limits.ensures c.before.pass.ensures
+    let b = c in
+    let st = start (filled b.before.before) in
+    limits_closed (given (lists st)) st.args.table.now _ c.pass.result c.pass.new.t _
+    (boundaries_counted (lists st) st.requires.ok _ b.boundaries.ensures).0 (filled b.before.before).fill_limits.ensures c.pass.ensures
 
 pub close_limits_spec : {M : Type 1} → statement M
-close_limits_spec = tie.close (tie.spec (λ c κs. c.before.before.before.before.before.before.before.requires)
+close_limits_spec = tie.close (tie.spec (λ c κs. c.requires)
     (λ c κs. let st = start c.before.before in span_bound (lists st) st.requires.ok)
-    pass_requires (λ c. c.before.pass.auto.0 ∙ (filled c.before.before).fill_limits.auto.1.1.1.1.1.1.1.0) returns)
+    pass_requires (λ c. c.pass.auto.t ∙ (filled c.before.before).fill_limits.auto.t) returns)

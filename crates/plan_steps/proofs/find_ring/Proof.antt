@@ -30,10 +30,10 @@ size c = boundaries_counted (lists (start c)) (start c).requires.0.ok _ c.bounda
 
 negative_cycle_requires : tie.Need-negative_cycle-n-requires
 negative_cycle_requires c κs =
-    let filled = c.before.before.before in
-    let st = start (sized filled) in
+    let filled = c in
+    let st = start (sized filled.before.before) in
     let p = st.requires.0 in
-    let n = (size (sized filled)).0 in
+    let n = (size (sized filled.before.before)).0 in
     let e = filled.fill_limits.ensures in (
       weighed (given (lists st)) p.ok st.args.table.now _ p.fits e _ n,
       no_potential (given (lists st)) p.ok st.args.table.now _ p.fits e _ n st.requires.2,
@@ -42,30 +42,30 @@ negative_cycle_requires c κs =
 
 mul_clear : tie.Need-overflow_mul-w
 mul_clear c =
-    let b = sized c.before.before.before.before.before.before in
+    let b = sized c.before.before.before.before.before in
     let m : b.boundaries-w.result * b.boundaries-w.result ≤ max_cells = mul-le-mul (size b).1 (size b).1 in
     omega (arith, m)
 
 clear_requires : tie.Need-clear-requires
 clear_requires c κs =
-    let filled = c.before.before.before.before.before.before.before in
-    let st = start (sized filled) in
-    let room = filled_room (given (lists st)) st.args.table.now _ _ (size (sized filled)).0 st.requires.0.fits filled.fill_limits.ensures in
+    let filled = c in
+    let st = start (sized filled.before.before.before.before.before.before) in
+    let room = filled_room (given (lists st)) st.args.table.now _ _ (size (sized filled.before.before.before.before.before.before)).0 st.requires.0.fits filled.fill_limits.ensures in
     omega (arith, room)
 
 returns : tie.Need-returns
 returns c =
-    let filled = c.before.before.before.before.before.before.before.before.before in
-    let b = sized filled in
+    let filled = c in
+    let b = sized filled.before.before.before.before.before.before.before.before in
     let st = start b in
     let p = st.requires.0 in
-    let n = c.before.before.before.before.before.negative_cycle-n in
+    let n = c.negative_cycle-n in
     ring_found (given (lists st)) p.ok st.args.table.now _ p.fits filled.fill_limits.ensures _ (size b).0 st.args.ring.now
-    n.result n.new.1.1.0 c.before.clear.new.1.0 (omega (arith, n.auto, st.requires.1, (size b).0)) n.ensures c.before.clear.ensures
+    n.result n.new.out c.clear.new.t (omega (arith, n.auto, st.requires.1, (size b).0)) n.ensures c.clear.ensures
 
 pub find_ring_spec : {M : Type 1} → statement M
 find_ring_spec = tie.close (tie.spec
-    (λ c κs. let st = c.before.before.before.before.before.before.before in span_bound (lists st) st.requires.0.ok) (λ c κs. (start c.before).requires.0)
+    (λ c κs. let st = c in span_bound (lists st.before.before.before.before.before.before.before) st.requires.0.ok) (λ c κs. (start c.before).requires.0)
     negative_cycle_requires mul_clear clear_requires
-    (λ c. c.before.clear.auto.1.0 ∙ c.before.before.before.before.before.before.before.before.before.fill_limits.auto.1.1.1.1.1.1.1.0)
-    (λ c. c.before.before.before.before.before.negative_cycle-n.auto.1.1.0) returns)
+    (λ c. c.clear.auto.t ∙ c.fill_limits.auto.t)
+    (λ c. c.negative_cycle-n.auto.out) returns)

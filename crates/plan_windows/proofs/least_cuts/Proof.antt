@@ -15,22 +15,22 @@ abbrev start : tie.After-mark → tie.Start
 start c = c.before.before.before.before.before.before
 
 abbrev marks : tie.After-mark → List ℕ
-marks c = c.mark.new.1.1.1.1.1.0
+marks c = c.mark.new.marks
 
 abbrev cuts : tie.After-cut_windows → List ℕ
-cuts c = c.cut_windows.new.1.1.1.0
+cuts c = c.cut_windows.new.marks
 
 mark_requires : tie.Need-mark-requires
 mark_requires c κs =
-    let st = c.before.before.before.before.before in
+    let st = c in
     (st.requires.0.1, (st.requires.0.0.most, square_most st.args.w st.requires.0.0.most, zeros max_cells))
 
 cut_windows_requires : tie.Need-cut_windows-requires
 cut_windows_requires c κs =
-    let mk = c.before.before in
-    let st = start mk in
+    let mk = c in
+    let st = start mk.before.before in
     let a = st.args in
-    let n : length (marks mk) ≡ max_cells = mk.mark.auto.1.1.1.1.1.0 in (
+    let n : length (marks mk.before.before) ≡ max_cells = mk.mark.auto.marks in (
       st.requires.0.0,
       omega (arith, square_most a.w st.requires.0.0.most),
       marks_known st.requires.0.1 a.d.now a.m.now st.requires.1 mk.mark.ensures,
@@ -38,24 +38,24 @@ cut_windows_requires c κs =
 
 read_marks_requires : tie.Need-read_marks-requires
 read_marks_requires c κs =
-    let cut = c.before.before.before in
-    let mk = cut.before.before.before in
-    let st = start mk in
+    let cut = c in
+    let mk = cut in
+    let st = start mk.before.before.before.before.before.before in
     let a = st.args in
-    let n : length (cuts cut) ≡ max_cells = cut.cut_windows.auto.1.1.1.0 ∙ mk.mark.auto.1.1.1.1.1.0 in (
+    let n : length (cuts cut.before.before.before) ≡ max_cells = cut.cut_windows.auto.marks ∙ mk.mark.auto.marks in (
       (st.requires.0.1.paired, st.requires.0.2, st.requires.0.0.most, omega (arith, square_most a.w st.requires.0.0.most)),
-      cuts_read st.requires.0.1 a.d.now a.m.now st.requires.1 mk.mark.ensures (cuts cut) cut.cut_windows.ensures,
+      cuts_read st.requires.0.1 a.d.now a.m.now st.requires.1 mk.mark.ensures (cuts cut.before.before.before) cut.cut_windows.ensures,
     )
 
 returns : tie.Need-returns
 returns c =
-    let rd = c.before.before in
-    let cut = rd.before.before.before.before in
-    let mk = cut.before.before.before in
-    let st = start mk in
+    let rd = c in
+    let cut = rd in
+    let mk = cut in
+    let st = start mk.before.before.before.before.before.before.before.before.before in
     let a = st.args in
-    cuts_least st.requires.0.1 a.d.now a.m.now st.requires.1 mk.mark.ensures (cuts cut) cut.cut_windows.ensures a.out-1.now
-    rd.read_marks.new.1.1.1.1.1.0 rd.read_marks.ensures
+    cuts_least st.requires.0.1 a.d.now a.m.now st.requires.1 mk.mark.ensures (cuts cut.before.before.before.before.before.before) cut.cut_windows.ensures a.out-1.now
+    rd.read_marks.new.out rd.read_marks.ensures
 
 pub least_cuts_spec : {M : Type 1} → statement M
 least_cuts_spec = tie.close (tie.spec (λ c. search rules) mark_requires (λ c. search rules) cut_windows_requires (λ c. search rules)

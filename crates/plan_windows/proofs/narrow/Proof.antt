@@ -20,12 +20,12 @@ abbrev start : tie.After-cut_arcs → tie.Start
 start c = c.before.before.before.before.before.before.before
 
 abbrev added : tie.After-cut_arcs → List ℤ
-added c = c.cut_arcs.new.1.1.1.0
+added c = c.cut_arcs.new.out
 
 long : (c : tie.After-cut_arcs) → let w = (start c).args.w in w * w ≤ length (added c)
 long c =
     let st = start c in
-    let n : length (added c) ≡ max_cells = c.cut_arcs.auto.1.1.1.0 in
+    let n : length (added c) ≡ max_cells = c.cut_arcs.auto.out in
     omega (arith, square_most st.args.w st.requires.0.1.most)
 
 network : (c : tie.After-cut_arcs) → let a = (start c).args in CutNetwork a.w a.table.now (added c)
@@ -39,32 +39,32 @@ late c = admitted_late_of (start c).requires.0.1 (added c) (long c) c.cut_arcs.e
 
 cut_arcs_requires : tie.Need-cut_arcs-requires
 cut_arcs_requires c κs =
-    let st = c.before.before.before.before.before.before in
+    let st = c in
     let h = st.requires.0.1 in
     (windows_fit_lem h, square_most st.args.w h.most)
 
 least_cuts_requires : tie.Need-least_cuts-requires
 least_cuts_requires c κs =
-    let r = c.before.before.before in
-    let st = start r in
-    ((network r, units_of_lem st.requires.0.1, st.requires.1.0), early r)
+    let r = c in
+    let st = start r.before.before.before in
+    ((network r.before.before.before, units_of_lem st.requires.0.1, st.requires.1.0), early r.before.before.before)
 
 greatest_cuts_requires : tie.Need-greatest_cuts-requires
 greatest_cuts_requires c κs =
-    let cut = c.before.before.before.before in
-    let r = cut.before.before.before.before in
-    let st = start r in
-    ((network r, units_of_lem st.requires.0.1, st.requires.1.1), late r)
+    let cut = c in
+    let r = cut in
+    let st = start r.before.before.before.before.before.before.before.before in
+    ((network r.before.before.before.before.before.before.before.before, units_of_lem st.requires.0.1, st.requires.1.1), late r.before.before.before.before.before.before.before.before)
 
 returns : tie.Need-returns
 returns c =
-    let cut = c.before.before.before.before.before.before.before in
-    let r = cut.before.before.before.before in
-    let a = (start r).args in
+    let cut = c in
+    let r = cut in
+    let a = (start r.before.before.before.before.before.before.before.before.before.before.before).args in
     let e = cut.least_cuts in
-    let l = c.before.before.greatest_cuts in (
-      λ s h. earliest_room_lem h (added r) (long r) r.cut_arcs.ensures a.earliest-1.now e.new.1.1.1.1.1.1.1.0 e.ensures,
-      λ s h. latest_room_lem h (added r) (long r) r.cut_arcs.ensures a.latest-1.now l.new.1.1.1.1.1.1.0 l.ensures,
+    let l = c.greatest_cuts in (
+      λ s h. earliest_room_lem h (added r.before.before.before.before.before.before.before.before.before.before.before) (long r.before.before.before.before.before.before.before.before.before.before.before) r.cut_arcs.ensures a.earliest-1.now e.new.out e.ensures,
+      λ s h. latest_room_lem h (added r.before.before.before.before.before.before.before.before.before.before.before) (long r.before.before.before.before.before.before.before.before.before.before.before) r.cut_arcs.ensures a.latest-1.now l.new.out l.ensures,
     )
 
 pub narrow_spec : {M : Type 1} → statement M

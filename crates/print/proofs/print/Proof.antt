@@ -26,7 +26,7 @@ start c =
 
 -- which is that of the rooms' own lengths
 verdict : (c : tie.After-ask-asked) (v : Verdict) → verdict_of c.ask-asked.result ≡ v → refusal (lists (start c)) (before (start c)) ≡ v
-verdict c v = asked_of (lists (start c)) _ (plan_lent (before (start c))) _ v c.ask-asked.ensures c.before.for_plan-rooms.ensures
+verdict c v = asked_of (lists (start c)) _ (plan_lent (before (start c))) _ v c.ask-asked.ensures c.for_plan-rooms.ensures
 
 -- where the answer was yes
 abbrev asked : tie.In-Yes → tie.Start
@@ -45,13 +45,13 @@ print_solved_requires c κs =
 returns : tie.Need-returns-in-No
 returns c =
     let d : tie.After-ask-asked = c.before.before.before in
-    let f = c.before.asked-1.given in
+    let f = c.asked-1.given in
     let s = start d in
     refused_printed (lists s) (before s) s.args.page.now s.args.at f.0.0.number f.0.0.line (verdict d _ (ap verdict_of f.1))
 
 returns-2 : tie.Need-returns-in-Yes
 returns-2 c =
-    let printed = c.before.before.before.before.before.before.before.before.before.before.before in
+    let printed = c in
     let p : tie.In-Yes = printed.before.before.before.before.before.before.before in
     let s = asked p in
     solved_printed (lists s) (before s) s.args.page.now s.args.at (yes p) _ _ _ printed.print_solved.ensures
@@ -59,11 +59,11 @@ returns-2 c =
 pub print_spec : {M : Type 1} → statement M
 print_spec = tie.close (tie.spec (λ c κs. tt) (λ c κs. tt) (λ c. c.in-No.keys1) (λ c. c.in-Yes.keys2) print_solved_requires
     (λ c. refl) (λ c. refl) (λ c. refl) (λ c. refl) (λ c. refl) returns
-    (λ c. c.before.before.before.before.before.before.before.before.before.before.before.print_solved.auto.1.1.1.1.1.1.1.1.0)
-    (λ c. c.before.before.before.before.before.before.before.before.before.before.before.print_solved.auto.1.1.1.1.1.1.1.1.1.0)
-    (λ c. c.before.before.before.before.before.before.before.before.before.before.before.print_solved.auto.1.1.1.1.1.1.1.1.1.1.0)
-    (λ c. c.before.before.before.before.before.before.before.before.before.before.before.print_solved.auto.1.1.1.1.1.1.1.1.1.1.1.0)
-    (λ c. c.before.before.before.before.before.before.before.before.before.before.before.print_solved.auto.1.1.1.1.1.1.1.1.1.1.1.1.0)
+    (λ c. c.print_solved.auto.table)
+    (λ c. c.print_solved.auto.plan)
+    (λ c. c.print_solved.auto.earliest)
+    (λ c. c.print_solved.auto.latest)
+    (λ c. c.print_solved.auto.ring)
     (λ c.
-    c.before.before.before.before.before.before.before.before.before.before.before.print_solved.auto.1.1.1.1.1.1.1.1.1.1.1.1.1.0)
+    c.before.before.before.before.before.before.before.before.before.before.before.print_solved.auto.page)
     returns-2)

@@ -21,10 +21,10 @@ start c = c.before.before.before.before.before
 
 -- the front of that array is the answer
 module _ (c : tie.After-put_none-length) where
-  part : take c.put_none-length.result c.put_none-length.new.0 ≡ bytes (start c)
+  part : take c.put_none-length.result c.put_none-length.new.page ≡ bytes (start c)
   part = own_part max_ring_page (start c).requires.1.1 c.put_none-length.ensures
 
-  long : c.put_none-length.result ≤ length c.put_none-length.new.0
+  long : c.put_none-length.result ≤ length c.put_none-length.new.page
   long = own_long max_ring_page (start c).requires.1.1 c.put_none-length.ensures
 
   size : c.put_none-length.result ≡ length (bytes (start c))
@@ -33,36 +33,36 @@ module _ (c : tie.After-put_none-length) where
 write_requires : tie.Need-write-next-requires
 write_requires c κs =
     let p : tie.Then-holds = c.before.before.before.before.before.before.before.before.before in
-    let o = c.before.before.before.before.before.before.before.before.before.before.before.before in
-    let a = (start o).args in
-    rw (part o) (room a.page-1.now a.at (bytes (start o)) o.put_none-length.result (size o) p.before.holds.result p.before.holds.ensures
+    let o = c in
+    let a = (start o.before.before.before.before.before.before.before.before.before.before.before.before).args in
+    rw (part o.before.before.before.before.before.before.before.before.before.before.before.before) (room a.page-1.now a.at (bytes (start o.before.before.before.before.before.before.before.before.before.before.before.before)) o.put_none-length.result (size o.before.before.before.before.before.before.before.before.before.before.before.before) p.holds.result p.holds.ensures
     p.if-holds.true)
 
 returns : tie.Need-returns-then-holds
 returns c =
     let p : tie.Then-holds = c.before.before.before.before.before.before.before.before.before.before.before.before in
-    let o = c.before.before.before.before.before.before.before.before.before.before.before.before.before.before.before in
-    let a = (start o).args in
-    asked_yes a.page-1.now a.at (bytes (start o)) o.put_none-length.result (size o) p.before.holds.result p.before.holds.ensures _ _ _ _ _ _
-    p.if-holds.true c.before.before.write-next.result (rw (part o) at c.before.before.write-next.ensures) refl
+    let o = c in
+    let a = (start o.before.before.before.before.before.before.before.before.before.before.before.before.before.before.before).args in
+    asked_yes a.page-1.now a.at (bytes (start o.before.before.before.before.before.before.before.before.before.before.before.before.before.before.before)) o.put_none-length.result (size o.before.before.before.before.before.before.before.before.before.before.before.before.before.before.before) p.holds.result p.holds.ensures _ _ _ _ _ _
+    p.if-holds.true c.write-next.result (rw (part o.before.before.before.before.before.before.before.before.before.before.before.before.before.before.before) at c.write-next.ensures) refl
     (rw (
-      c.before.before.before.before.before.before.before.before.before.before.clear.ensures,
-      c.before.before.before.before.before.before.before.copy_list.ensures,
+      c.clear.ensures,
+      c.copy_list.ensures,
     ) refl)
 
 returns-2 : tie.Need-returns-else-holds
 returns-2 c =
-    let o = c.before.before.before in
-    let a = (start o).args in
-    asked_no a.page-1.now a.at (bytes (start o)) o.put_none-length.result (size o) c.before.holds.result c.before.holds.ensures _ _ _ _ _ _
+    let o = c in
+    let a = (start o.before.before.before).args in
+    asked_no a.page-1.now a.at (bytes (start o.before.before.before)) o.put_none-length.result (size o.before.before.before) c.holds.result c.holds.ensures _ _ _ _ _ _
     c.if-holds.false refl refl refl
 
 pub print_ring_spec : {M : Type 1} → statement M
 print_ring_spec = tie.close (tie.spec (λ c. refl)
-    (λ c κs. let s = c.before.before.before.before in (s.requires.0, own_room max_ring_page s.requires.1.1))
-    (λ c κs. tt) (λ c. search rules) (λ c κs. c.before.before.before.before.before.before.before.before.before.requires.1.0.0)
-    (λ c κs. c.before.before.before.before.before.before.before.before.before.before.before.before.requires.1.0.1)
+    (λ c κs. let s = c in (s.requires.0, own_room max_ring_page s.requires.1.1))
+    (λ c κs. tt) (λ c. search rules) (λ c κs. c.requires.1.0.0)
+    (λ c κs. c.requires.1.0.1)
     (λ c. long c.before.before.before.before.before.before.before.before.before.before.before)
     (λ c. sym (length-take-le _ _ (long c.before.before.before.before.before.before.before.before.before.before.before.before))) write_requires
-    (λ c. c.before.before.before.before.before.before.before.before.before.before.clear.auto.1.0)
-    (λ c. c.before.before.before.before.before.before.before.copy_list.auto.1.0) (λ c. c.before.before.write-next.auto.0) returns returns-2)
+    (λ c. c.clear.auto.t)
+    (λ c. c.copy_list.auto.out) (λ c. c.write-next.auto.page) returns returns-2)

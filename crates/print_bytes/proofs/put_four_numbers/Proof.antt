@@ -17,10 +17,10 @@ parts c =
 
 pub put_four_numbers_spec : {M : Type 1} → statement M
 put_four_numbers_spec = tie.close (tie.spec
-    (λ c κs. let s = c.before.before.before.before.before.before.before in first_room (parts s) s.requires)
-    (λ c κs. let s = c.before.before.before.before.before.before.before.before.before.before.before in
-    second_room (parts s) s.requires c.before.before.before.put_pair-next.ensures)
+    (λ c κs. let s = c in first_room (parts s.before.before.before.before.before.before.before) s.requires)
+    (λ c κs. let s = c in
+    second_room (parts s.before.before.before.before.before.before.before.before.before.before.before) s.requires c.put_pair-next.ensures)
     (λ c. search rules)
-    (λ c. let s = c.before.before.before.before.before.before.before.before.before.before.before.before.before.before in
-    both_written (parts s) s.requires c.before.before.before.before.before.before.put_pair-next.ensures
-    c.before.before.put_three_numbers.ensures))
+    (λ c. let s = c in
+    both_written (parts s.before.before.before.before.before.before.before.before.before.before.before.before.before.before) s.requires c.put_pair-next.ensures
+    c.put_three_numbers.ensures))

@@ -16,12 +16,12 @@ pub put_one_number_spec : {M : Type 1} → statement M
 put_one_number_spec = tie.close (tie.spec
     (λ c κs. pending_room (begun c.before.before.before.before))
     (λ c κs. pending_room (pending_after (begun c.before.before.before.before.before.before.before.before)
-    c.before.before.before.put_word-next.ensures))
+    c.put_word-next.ensures))
     (λ c κs. pending_room (pending_after (pending_after (begun
     c.before.before.before.before.before.before.before.before.before.before.before.before)
-    c.before.before.before.before.before.before.before.put_word-next.ensures) c.before.before.before.put_number-next2.ensures))
+    c.put_word-next.ensures) c.put_number-next2.ensures))
     (λ c. search rules)
     (λ c. pending_nothing (pending_after (pending_after (pending_after (begun
     c.before.before.before.before.before.before.before.before.before.before.before.before.before.before.before)
-    c.before.before.before.before.before.before.before.before.before.before.put_word-next.ensures)
-    c.before.before.before.before.before.before.put_number-next2.ensures) c.before.before.put_no_number.ensures)))
+    c.put_word-next.ensures)
+    c.put_number-next2.ensures) c.put_no_number.ensures)))

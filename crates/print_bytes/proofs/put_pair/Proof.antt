@@ -12,9 +12,9 @@ parts c = record { same = refl }
 
 pub put_pair_spec : {M : Type 1} → statement M
 put_pair_spec = tie.close (tie.spec
-    (λ c κs. first_room (parts c.before.before.before) c.before.before.before.requires)
-    (λ c κs. let s = c.before.before.before.before.before.before.before in
-    second_room (parts s) s.requires c.before.before.before.put_word-next.ensures)
+    (λ c κs. first_room (parts c.before.before.before) c.requires)
+    (λ c κs. let s = c in
+    second_room (parts s.before.before.before.before.before.before.before) s.requires c.put_word-next.ensures)
     (λ c. search rules)
-    (λ c. let s = c.before.before.before.before.before.before.before.before.before.before in
-    both_written (parts s) s.requires c.before.before.before.before.before.before.put_word-next.ensures c.before.before.put_number.ensures))
+    (λ c. let s = c in
+    both_written (parts s.before.before.before.before.before.before.before.before.before.before) s.requires c.put_word-next.ensures c.put_number.ensures))

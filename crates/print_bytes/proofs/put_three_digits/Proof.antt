@@ -7,10 +7,10 @@ use Rattle.print_bytes.proofs.put_three_digits.Tie as tie
 
 pub put_three_digits_spec : {M : Type 1} → statement M
 put_three_digits_spec = tie.close (tie.spec
-    (λ c κs. let s = c.before.before in (omega arith, first_room (number_parts s.args.n (omega arith)) s.requires.1))
-    (λ c κs. let s = c.before.before.before.before.before.before in
-    (omega arith, second_room (number_parts s.args.n (omega arith)) s.requires.1 c.before.before.before.put_two_digits-last.ensures))
-    (λ c. c.before.before.put_digit.auto.0 ∙ c.before.before.before.before.before.before.put_two_digits-last.auto.0)
-    (λ c. let s = c.before.before.before.before.before.before.before.before.before in
-    both_written (number_parts s.args.n (omega arith)) s.requires.1 c.before.before.before.before.before.before.put_two_digits-last.ensures
-    c.before.before.put_digit.ensures))
+    (λ c κs. let s = c in (omega arith, first_room (number_parts s.args.n (omega arith)) s.requires.1))
+    (λ c κs. let s = c in
+    (omega arith, second_room (number_parts s.args.n (omega arith)) s.requires.1 c.put_two_digits-last.ensures))
+    (λ c. c.put_digit.auto.page ∙ c.put_two_digits-last.auto.page)
+    (λ c. let s = c in
+    both_written (number_parts s.args.n (omega arith)) s.requires.1 c.put_two_digits-last.ensures
+    c.put_digit.ensures))

@@ -13,9 +13,9 @@ parts c = pair_line c.args.first.now c.args.a (one_number c.args.second.now c.ar
 
 pub put_two_numbers_spec : {M : Type 1} → statement M
 put_two_numbers_spec = tie.close (tie.spec
-    (λ c κs. let s = c.before.before.before.before.before in first_room (parts s) s.requires)
-    (λ c κs. let s = c.before.before.before.before.before.before.before.before.before in
-    second_room (parts s) s.requires c.before.before.before.put_pair-next.ensures)
+    (λ c κs. let s = c in first_room (parts s.before.before.before.before.before) s.requires)
+    (λ c κs. let s = c in
+    second_room (parts s.before.before.before.before.before.before.before.before.before) s.requires c.put_pair-next.ensures)
     (λ c. search rules)
-    (λ c. let s = c.before.before.before.before.before.before.before.before.before.before.before.before in
-    both_written (parts s) s.requires c.before.before.before.before.before.before.put_pair-next.ensures c.before.before.put_one_number.ensures))
+    (λ c. let s = c in
+    both_written (parts s.before.before.before.before.before.before.before.before.before.before.before.before) s.requires c.put_pair-next.ensures c.put_one_number.ensures))

@@ -24,10 +24,10 @@ loop-holds c =
 
 loop-again : tie.Need-loop-i-preserved invariant-loop decreases-loop
 loop-again c =
-    let l = c.before.before.loop-i in
-    let a = c.before.before.before.args in
+    let l = c.loop-i in
+    let a = c.args in
     let w = a.word.now in
-    let t : l.i < length w = c.before.loop-i-test.true in (
+    let t : l.i < length w = c.loop-i-test.true in (
       omega arith,
       rw (sym (add_assoc a.at l.i 1), add-one (a.at + l.i), add-one l.i)
           (pending_byte (rw (drop-cons w l.i 0 t) at l.invariant.1)),
@@ -35,8 +35,8 @@ loop-again c =
 
 returns : tie.Need-returns invariant-loop decreases-loop
 returns c =
-    let l = c.before.loop-i in
-    let w = c.before.before.args.word.now in
+    let l = c.loop-i in
+    let w = c.args.word.now in
     pending_nothing (pending_empty (rw (drop_of_length-le w c.loop-i-test.false) at l.invariant.1))
 
 pub put_word_spec : {M : Type 1} → statement M

@@ -17,19 +17,19 @@ above_whole : (z : ℤ) → lt_z z (pos 0) ≡ false → T (non_neg z) × (nat_a
 above_whole (pos n) e = (tt, refl)
 above_whole (negsuc n) e = absurd (subst T e tt)
 
-not_below : (c : tie.Else-x-lt0) → lt_z c.before.args.x (pos 0) ≡ false
-not_below c = simp (to_z-of_z c.before.ranges.x) at c.if-x-lt0.false
+not_below : (c : tie.Else-x-lt0) → lt_z c.args.x (pos 0) ≡ false
+not_below c = simp (to_z-of_z c.ranges.x) at c.if-x-lt0.false
 
 cast_result : tie.Need-overflow_cast-result
 cast_result c =
-    let x = c.before.args.x in
-    rw (to_z-of_z c.before.ranges.x) ((above_whole x (not_below c)).0, Fits-nat_abs tt c.before.ranges.x)
+    let x = c.args.x in
+    rw (to_z-of_z c.ranges.x) ((above_whole x (not_below c)).0, Fits-nat_abs tt c.ranges.x)
 
 returns : tie.Need-returns-then-x-lt0
-returns c = below_none c.before.args.x (simp (to_z-of_z c.before.ranges.x) at c.if-x-lt0.true)
+returns c = below_none c.args.x (simp (to_z-of_z c.ranges.x) at c.if-x-lt0.true)
 
 returns-2 : tie.Need-returns-else-x-lt0
-returns-2 c = rw (to_z-of_z c.before.ranges.x) (above_whole c.before.args.x (not_below c)).1
+returns-2 c = rw (to_z-of_z c.ranges.x) (above_whole c.args.x (not_below c)).1
 
 pub above_spec : {M : Type 1} → statement M
 above_spec = tie.close (tie.spec cast_result returns returns-2)

@@ -32,30 +32,30 @@ above_none : (z : ℤ) → lt_z z (pos 0) ≡ false → 0 ≡ dn z
 above_none (pos n) e = refl
 above_none (negsuc n) e = absurd (subst T e tt)
 
-is_below : (c : tie.Then-x-lt0) → lt_z c.before.args.x (pos 0) ≡ true
-is_below c = simp (to_z-of_z c.before.ranges.x) at c.if-x-lt0.true
+is_below : (c : tie.Then-x-lt0) → lt_z c.args.x (pos 0) ≡ true
+is_below c = simp (to_z-of_z c.ranges.x) at c.if-x-lt0.true
 
 cast_result : tie.Need-overflow_cast-result
-cast_result c = rw (to_z-of_z c.before.ranges.x) (sfits_widen tt c.before.ranges.x)
+cast_result c = rw (to_z-of_z c.ranges.x) (sfits_widen tt c.ranges.x)
 
 sub_result : tie.Need-overflow_sub-result
-sub_result c = rw (widened c.before.args.x c.before.ranges.x) (minus_fits c.before.args.x c.before.ranges.x)
+sub_result c = rw (widened c.args.x c.ranges.x) (minus_fits c.args.x c.ranges.x)
 
 cast_result_2 : tie.Need-overflow_cast-result-then-x-lt0
 cast_result_2 c =
-    let x = c.before.args.x in
-    let f = c.before.ranges.x in
+    let x = c.args.x in
+    let f = c.ranges.x in
     let p = fits_parts f in
     rw (widened x f, minus_is x f (is_below c)) (tt, record { fits = omega (arith, p.1) })
 
 returns : tie.Need-returns-then-x-lt0
 returns c =
-    let x = c.before.args.x in
-    let f = c.before.ranges.x in
+    let x = c.args.x in
+    let f = c.ranges.x in
     rw (widened x f, minus_is x f (is_below c)) refl
 
 returns-2 : tie.Need-returns-else-x-lt0
-returns-2 c = above_none c.before.args.x (simp (to_z-of_z c.before.ranges.x) at c.if-x-lt0.false)
+returns-2 c = above_none c.args.x (simp (to_z-of_z c.ranges.x) at c.if-x-lt0.false)
 
 pub below_spec : {M : Type 1} → statement M
 below_spec = tie.close (tie.spec cast_result sub_result cast_result_2 returns returns-2)

@@ -19,20 +19,20 @@ loop-holds : tie.Need-loop-j-init invariant-loop decreases-loop
 loop-holds c = (omega arith, counted_none c.args.plan.now c.args.counts.now c.requires.0)
 
 cast_slot : tie.Need-overflow_cast-slot invariant-loop decreases-loop
-cast_slot c = omega (arith, c.shared_slice_known-1.given c.before.before.loop-j.j)
+cast_slot c = omega (arith, c.shared_slice_known-1.given c.loop-j.j)
 
 add_counts : tie.Need-overflow_add-counts invariant-loop decreases-loop
 add_counts c =
-    let l = c.before.before.before.before.loop-j in
+    let l = c.loop-j in
     let counted = l.invariant.1 in
-    let slot = get_or c.before.before.before.before.before.args.plan.now l.j 0 in
-    omega (arith, counted_small counted slot (omega (arith, c.before.if-slot-counts.true, counted.long)), l.invariant.0)
+    let slot = get_or c.args.plan.now l.j 0 in
+    omega (arith, counted_small counted slot (omega (arith, c.if-slot-counts.true, counted.long)), l.invariant.0)
 
 loop-again : tie.Need-loop-j-preserved invariant-loop decreases-loop
 loop-again c =
-    let l = c.before.before.before.loop-j in
-    let plan = c.before.before.before.before.args.plan.now in
-    let less = c.before.before.loop-j-test.true in
+    let l = c.loop-j in
+    let plan = c.args.plan.now in
+    let less = c.loop-j-test.true in
     let counted : Counted plan l.j l.counts = l.invariant.1 in (
       omega arith,
       ⊎_elim
@@ -42,10 +42,10 @@ loop-again c =
     )
 
 same_length : tie.Need-shape_of-counts invariant-loop decreases-loop
-same_length c = omega (arith, ap length c.before.before.requires.0)
+same_length c = omega (arith, ap length c.requires.0)
 
 returns : tie.Need-returns invariant-loop decreases-loop
-returns c = counted_all c.loop-j-test.false c.before.loop-j.invariant.1
+returns c = counted_all c.loop-j-test.false c.loop-j.invariant.1
 
 pub count_slots_spec : {M : Type 1} → statement M
 count_slots_spec = tie.close (tie.spec invariant-loop decreases-loop loop-holds (λ c. omega arith) (λ c. omega arith) cast_slot (λ c. omega arith)

@@ -13,18 +13,18 @@ use Rattle.print_counts.proofs.least_of.Tie as tie
 
 entry_at_requires : tie.Need-entry_at-requires
 entry_at_requires c κs =
-    let w = boundaries_of c.before.before.before.args.span in
-    let end = c.before.before.end-end in
+    let w = boundaries_of c.args.span in
+    let end = c.end-end in
     rw c.boundaries.ensures (omega (arith, place_inside w end.result.0 end.result.0 (omega arith) (omega arith)))
 
 returns : tie.Need-returns
 returns c =
-    let s = c.before.before.before.before.before in
+    let s = c in
     let t = s.args.table.now in
-    let end = c.before.before.before.before.end-end in
-    let start = c.before.before.before.start-start in
-    c.below.ensures ∙ ap dn (to_z-of_z {w = w16} (record { sfits = c.before.entry_at.type-inv }) ∙ c.before.entry_at.ensures)
-    ∙ ap (λ (w : ℕ). dn (entry w t end.result.0 start.result.0)) c.before.before.boundaries.ensures
+    let end = c.end-end in
+    let start = c.start-start in
+    c.below.ensures ∙ ap dn (to_z-of_z {w = w16} (record { sfits = c.entry_at.type-inv }) ∙ c.entry_at.ensures)
+    ∙ ap (λ (w : ℕ). dn (entry w t end.result.0 start.result.0)) c.boundaries.ensures
     ∙ ap₂ (λ (x y : ℕ). dn (entry (boundaries_of s.args.span) t x y)) end.ensures start.ensures
 
 pub least_of_spec : {M : Type 1} → statement M

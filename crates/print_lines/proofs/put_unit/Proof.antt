@@ -23,60 +23,60 @@ unfolding unit_line text
 begun c = pending_whole (words (pairs c) (text "))")) (line_words (pairs c) (text "))")) c.requires
 
 abbrev start_1 : tie.After-put_number-next2 → tie.Start
-start_1 c = c.before.before.before.before.before.before.before.before
+start_1 c = c.before.before.before.before.before.before.before.before.before
 
-after_1 : (c : tie.After-put_number-next2) → Left (start_1 c) c.put_number-next2.new.0 c.put_number-next2.result 2
+after_1 : (c : tie.After-put_number-next2) → Left (start_1 c) c.put_number-next2.new.page c.put_number-next2.result 2
 unfolding text
 after_1 c =
-    pending_after (pending_after (begun c.before.before.before.before.before.before.before.before)
-    c.before.before.before.before.put_word-next.ensures) c.put_number-next2.ensures
+    pending_after (pending_after (begun c.before.before.before.before.before.before.before.before.before)
+    c.put_word-next.ensures) c.put_number-next2.ensures
 
 abbrev start_2 : tie.After-put_number-next4 → tie.Start
-start_2 c = start_1 c.before.before.before.before.before.before.before.before.before
+start_2 c = start_1 c.before.before.before.before.before.before.before.before.before.before
 
-after_2 : (c : tie.After-put_number-next4) → Left (start_2 c) c.put_number-next4.new.0 c.put_number-next4.result 4
+after_2 : (c : tie.After-put_number-next4) → Left (start_2 c) c.put_number-next4.new.page c.put_number-next4.result 4
 unfolding text
 after_2 c =
-    pending_after (pending_after (after_1 c.before.before.before.before.before.before.before.before.before)
-    c.before.before.before.before.put_word-next3.ensures) c.put_number-next4.ensures
+    pending_after (pending_after (after_1 c.before.before.before.before.before.before.before.before.before.before)
+    c.put_word-next3.ensures) c.put_number-next4.ensures
 
 abbrev start_3 : tie.After-put_number-next6 → tie.Start
-start_3 c = start_2 c.before.before.before.before.before.before.before.before.before
+start_3 c = start_2 c.before.before.before.before.before.before.before.before.before.before
 
-after_3 : (c : tie.After-put_number-next6) → Left (start_3 c) c.put_number-next6.new.0 c.put_number-next6.result 6
+after_3 : (c : tie.After-put_number-next6) → Left (start_3 c) c.put_number-next6.new.page c.put_number-next6.result 6
 unfolding text
 after_3 c =
-    pending_after (pending_after (after_2 c.before.before.before.before.before.before.before.before.before)
-    c.before.before.before.before.put_word-next5.ensures) c.put_number-next6.ensures
+    pending_after (pending_after (after_2 c.before.before.before.before.before.before.before.before.before.before)
+    c.put_word-next5.ensures) c.put_number-next6.ensures
 
 abbrev start_4 : tie.After-put_number-next8 → tie.Start
-start_4 c = start_3 c.before.before.before.before.before.before.before.before.before
+start_4 c = start_3 c.before.before.before.before.before.before.before.before.before.before
 
-after_4 : (c : tie.After-put_number-next8) → Left (start_4 c) c.put_number-next8.new.0 c.put_number-next8.result 8
+after_4 : (c : tie.After-put_number-next8) → Left (start_4 c) c.put_number-next8.new.page c.put_number-next8.result 8
 unfolding text
 after_4 c =
-    pending_after (pending_after (after_3 c.before.before.before.before.before.before.before.before.before)
-    c.before.before.before.before.put_word-next7.ensures) c.put_number-next8.ensures
+    pending_after (pending_after (after_3 c.before.before.before.before.before.before.before.before.before.before)
+    c.put_word-next7.ensures) c.put_number-next8.ensures
 
 pub put_unit_spec : {M : Type 1} → statement M
 unfolding text
 put_unit_spec = tie.close (tie.spec
     (λ c. refl)
-    (λ c κs. pending_room (begun c.before.before.before))
-    (λ c κs. pending_room (pending_after (begun c.before.before.before.before.before.before.before) c.before.before.before.put_word-next.ensures))
+    (λ c κs. pending_room (begun c.before.before.before.before.before.before.before.before))
+    (λ c κs. pending_room (pending_after (begun c.before.before.before.before.before.before.before.before.before.before.before.before.before.before) c.put_word-next.ensures))
     (λ c. refl)
-    (λ c κs. pending_room (after_1 c.before.before.before.before))
-    (λ c κs. pending_room (pending_after (after_1 c.before.before.before.before.before.before.before.before)
-    c.before.before.before.put_word-next3.ensures))
+    (λ c κs. pending_room (after_1 c.before.before.before.before.before.before.before.before.before.before.before.before.before.before.before))
+    (λ c κs. pending_room (pending_after (after_1 c.before.before.before.before.before.before.before.before.before.before.before.before.before.before.before.before.before.before.before)
+    c.put_word-next3.ensures))
     (λ c. refl)
-    (λ c κs. pending_room (after_2 c.before.before.before.before))
-    (λ c κs. pending_room (pending_after (after_2 c.before.before.before.before.before.before.before.before)
-    c.before.before.before.put_word-next5.ensures))
+    (λ c κs. pending_room (after_2 c.before.before.before.before.before.before.before.before.before.before.before.before.before.before.before.before.before.before.before))
+    (λ c κs. pending_room (pending_after (after_2 c.before.before.before.before.before.before.before.before.before.before.before.before.before.before.before.before.before.before.before.before.before.before.before.before.before)
+    c.put_word-next5.ensures))
     (λ c. refl)
-    (λ c κs. pending_room (after_3 c.before.before.before.before))
+    (λ c κs. pending_room (after_3 c.before.before.before.before.before.before.before.before.before.before.before.before.before.before.before.before.before.before))
     (λ c κs. pending_room (pending_after (after_3 c.before.before.before.before.before.before.before.before)
     c.before.before.before.put_word-next7.ensures))
     (λ c. refl)
     (λ c κs. pending_room (after_4 c.before.before.before.before))
-    (λ c. c.before.before.put_no_number.auto.0 ∙ (after_4 c.before.before.before.before.before.before.before).kept)
+    (λ c. c.before.before.put_no_number.auto.page ∙ (after_4 c.before.before.before.before.before.before.before).kept)
     (λ c. pending_nothing (pending_after (after_4 c.before.before.before.before.before.before.before) c.before.before.put_no_number.ensures)))

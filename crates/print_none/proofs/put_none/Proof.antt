@@ -20,38 +20,38 @@ begun c = pending_whole _ refl c.requires.1
 
 put_no_number_requires : tie.Need-put_no_number-next-requires
 unfolding none_head text
-put_no_number_requires c κs = pending_room (begun c.before.before.before.before)
+put_no_number_requires c κs = pending_room (begun c.before.before.before.before.before)
 
 put_steps_requires : tie.Need-put_steps-next2-requires
 unfolding none_head text
 put_steps_requires c κs =
-    let s = c.before.before.before.before.before.before.before.before in
-    (s.requires.0, pending_room (pending_after (begun s) c.before.before.before.put_no_number-next.ensures))
+    let s = c in
+    (s.requires.0, pending_room (pending_after (begun s.before.before.before.before.before.before.before.before.before) c.put_no_number-next.ensures))
 
 put_one_number_requires : tie.Need-put_one_number-requires
 unfolding none_head shortfall_line text
 put_one_number_requires c κs =
-    rw c.before.shortfall.ensures
+    rw c.shortfall.ensures
     (pending_room (pending_after (pending_after (begun
-    c.before.before.before.before.before.before.before.before.before.before.before.before.before.before.before)
-    c.before.before.before.before.before.before.before.before.before.before.put_no_number-next.ensures)
-    c.before.before.before.before.before.before.put_steps-next2.ensures))
+    c.before.before.before.before.before.before.before.before.before.before.before.before.before.before.before.before.before.before)
+    c.put_no_number-next.ensures)
+    c.put_steps-next2.ensures))
 
 same_length : tie.Need-shape_of-page
 same_length c =
-    c.before.before.put_one_number.auto.0 ∙ c.before.before.before.before.before.before.before.before.before.put_steps-next2.auto.0
-    ∙ c.before.before.before.before.before.before.before.before.before.before.before.before.before.put_no_number-next.auto.0
+    c.put_one_number.auto.page ∙ c.put_steps-next2.auto.page
+    ∙ c.put_no_number-next.auto.page
 
 returns : tie.Need-returns
 unfolding none_head shortfall_line text
 returns c =
     pending_nothing (pending_after (pending_after (pending_after (begun
-    c.before.before.before.before.before.before.before.before.before.before.before.before.before.before.before.before.before.before)
-    c.before.before.before.before.before.before.before.before.before.before.before.before.before.put_no_number-next.ensures)
-    c.before.before.before.before.before.before.before.before.before.put_steps-next2.ensures)
-    (rw c.before.before.before.before.shortfall.ensures at c.before.before.put_one_number.ensures))
+    c.before.before.before.before.before.before.before.before.before.before.before.before.before.before.before.before.before.before.before.before.before)
+    c.put_no_number-next.ensures)
+    c.put_steps-next2.ensures)
+    (rw c.shortfall.ensures at c.put_one_number.ensures))
 
 pub put_none_spec : {M : Type 1} → statement M
 put_none_spec = tie.close (tie.spec (λ c. refl) put_no_number_requires put_steps_requires (λ c. refl)
-    (λ c κs. c.before.before.before.before.before.before.before.before.before.before.before.before.before.requires.0)
+    (λ c κs. c.requires.0)
     (λ c. refl) put_one_number_requires same_length returns)

@@ -32,7 +32,7 @@ boundary c i = get_or c.args.ring.now i 0
 abbrev step : tie.After-entry_at-limit invariant-loop decreases-loop → ℤ
 step c =
     let s : tie.Start invariant-loop decreases-loop = c.before.before.before.before.before.before in
-    let i = c.before.before.before.before.loop-i.i in
+    let i = c.loop-i.i in
     limits s (boundary s i) (boundary s (i + 1))
 
 step_is : (c : tie.After-entry_at-limit invariant-loop decreases-loop) → to_z w16 (of_z w16 c.entry_at-limit.result) ≡ step c
@@ -42,7 +42,7 @@ step_small : (c : tie.After-entry_at-limit invariant-loop decreases-loop) → (u
 step_small c =
     let s : tie.Start invariant-loop decreases-loop = c.before.before.before.before.before.before in
     let f = s.requires in
-    let i = c.before.before.before.before.loop-i.i in
+    let i = c.loop-i.i in
     f.small (boundary s i) (boundary s (i + 1)) (f.inside i (omega (arith, f.some))) (f.inside (i + 1) (omega (arith, f.some)))
 
 -- the limit of the last step
@@ -56,85 +56,85 @@ closing_is c = to_z-of_z {w = w16} (record { sfits = c.entry_at-limit-2.type-inv
 
 closing_small : (c : tie.After-entry_at-limit-2 invariant-loop decreases-loop) → (up (closing c) ≤ max_count) × (dn (closing c) ≤ max_count)
 closing_small c =
-    let s = c.before.before.before.before.before.before in
+    let s = c in
     let f = s.requires in
     let last = length s.args.ring.now - 1 in
-    f.small (boundary s last) (boundary s 0) (f.inside last (omega (arith, f.some))) (f.inside 0 f.some)
+    f.small (boundary s.before.before.before.before.before.before last) (boundary s.before.before.before.before.before.before 0) (f.inside last (omega (arith, f.some))) (f.inside 0 f.some)
 
 loop-holds : tie.Need-loop-i-init invariant-loop decreases-loop
-loop-holds c = (omega arith, omega arith, omega arith, walked_none (limits c.before) c.before.args.ring.now c.before.requires.some)
+loop-holds c = (omega arith, omega arith, omega arith, walked_none (limits c.before) c.args.ring.now c.requires.some)
 
 cast_entry_at : tie.Need-overflow_cast-ring invariant-loop decreases-loop
-cast_entry_at c = omega (arith, c.shared_slice_known-in-loop-i-1.given c.before.before.loop-i.i)
+cast_entry_at c = omega (arith, c.shared_slice_known-in-loop-i-1.given c.loop-i.i)
 
 cast_entry_at_2 : tie.Need-overflow_cast-ring-in-loop-i invariant-loop decreases-loop
-cast_entry_at_2 c = omega (arith, c.shared_slice_known-in-loop-i-2-1.given (c.before.before.before.loop-i.i + 1))
+cast_entry_at_2 c = omega (arith, c.shared_slice_known-in-loop-i-2-1.given (c.loop-i.i + 1))
 
 entry_at_requires : tie.Need-entry_at-limit-requires invariant-loop decreases-loop
 entry_at_requires c κs =
-    let s = c.before.before.before.before.before in
-    let i = c.before.before.before.loop-i.i in
+    let s = c in
+    let i = c.loop-i.i in
     step_inside s.requires i (i + 1) (omega (arith, s.requires.some)) (omega (arith, s.requires.some))
 
 add_rise : tie.Need-overflow_add-rise invariant-loop decreases-loop
 add_rise c =
-    let l = c.before.before.before.before.before.loop-i in
-    let at = c.before in
-    omega (arith, l.invariant.0, l.invariant.1, c.above-rise.ensures, ap up (step_is at), (step_small at).0, at.before.before.before.before.before.before.requires.few)
+    let l = c.loop-i in
+    let at = c in
+    omega (arith, l.invariant.0, l.invariant.1, c.above-rise.ensures, ap up (step_is at.before), (step_small at.before).0, at.requires.few)
 
 add_fall : tie.Need-overflow_add-fall invariant-loop decreases-loop
 add_fall c =
-    let l = c.before.before.before.before.before.before.loop-i in
-    let at = c.before.before in
-    omega (arith, l.invariant.0, l.invariant.2, c.below-fall.ensures, ap dn (step_is at), (step_small at).1, at.before.before.before.before.before.before.requires.few)
+    let l = c.loop-i in
+    let at = c in
+    omega (arith, l.invariant.0, l.invariant.2, c.below-fall.ensures, ap dn (step_is at.before.before), (step_small at.before.before).1, at.requires.few)
 
 loop-again : tie.Need-loop-i-preserved invariant-loop decreases-loop
 loop-again c =
-    let l = c.before.before.before.before.before.before.loop-i in
-    let s = c.before.before.before.before.before.before.before.before in
-    let rise = c.before.above-rise.ensures ∙ ap up (step_is c.before.before) in
+    let l = c.loop-i in
+    let s = c in
+    let rise = c.above-rise.ensures ∙ ap up (step_is c.before.before) in
     let fall = c.below-fall.ensures ∙ ap dn (step_is c.before.before) in
     let small = step_small c.before.before in (
       omega arith,
       omega (arith, small.0),
       omega (arith, small.1),
-      rw (rise, fall) (walked_next (limits s) s.args.ring.now l.i l.rise l.fall (omega (arith, s.requires.some)) l.invariant.3),
+      rw (rise, fall) (walked_next (limits s.before.before.before.before.before.before.before.before) s.args.ring.now l.i l.rise l.fall (omega (arith, s.requires.some)) l.invariant.3),
     )
 
 cast_entry_at_3 : tie.Need-overflow_cast-ring-2 invariant-loop decreases-loop
-cast_entry_at_3 c = omega (arith, c.shared_slice_known-2-1.given (length c.before.before.before.before.args.ring.now - 1))
+cast_entry_at_3 c = omega (arith, c.shared_slice_known-2-1.given (length c.args.ring.now - 1))
 
 cast_entry_at_4 : tie.Need-overflow_cast-ring-3 invariant-loop decreases-loop
 cast_entry_at_4 c = omega (arith, c.shared_slice_known-3-1.given 0)
 
 entry_at_requires_2 : tie.Need-entry_at-limit-requires-2 invariant-loop decreases-loop
 entry_at_requires_2 c κs =
-    let s = c.before.before.before.before.before in
+    let s = c in
     step_inside s.requires (length s.args.ring.now - 1) 0 (omega (arith, s.requires.some)) s.requires.some
 
 add_excess : tie.Need-overflow_add-fall-2 invariant-loop decreases-loop
 add_excess c =
-    let l = c.before.before.before.before.before.loop-i in
-    let at = c.before in
-    let few = at.before.before.before.before.before.before.requires.few in
-    omega (arith, l.invariant.0, l.invariant.2, c.below.ensures, ap dn (closing_is at), (closing_small at).1, few)
+    let l = c.loop-i in
+    let at = c in
+    let few = at.requires.few in
+    omega (arith, l.invariant.0, l.invariant.2, c.below.ensures, ap dn (closing_is at.before), (closing_small at.before).1, few)
 
 add_excess_2 : tie.Need-overflow_add-rise-2 invariant-loop decreases-loop
 add_excess_2 c =
-    let l = c.before.before.before.before.before.before.loop-i in
-    let at = c.before.before in
-    let few = at.before.before.before.before.before.before.requires.few in
-    omega (arith, l.invariant.0, l.invariant.1, c.above.ensures, ap up (closing_is at), (closing_small at).0, few)
+    let l = c.loop-i in
+    let at = c in
+    let few = at.requires.few in
+    omega (arith, l.invariant.0, l.invariant.1, c.above.ensures, ap up (closing_is at.before.before), (closing_small at.before.before).0, few)
 
 returns : tie.Need-returns invariant-loop decreases-loop
 returns c =
-    let l = c.before.before.before.before.before.before.before.loop-i in
-    let s = c.before.before.before.before.before.before.before.before.before in
+    let l = c.loop-i in
+    let s = c in
     let e : l.i ≡ length s.args.ring.now - 1 = omega arith in
-    let rise = c.before.above.ensures ∙ ap up (closing_is c.before.before.before) in
-    let fall = c.before.before.below.ensures ∙ ap dn (closing_is c.before.before.before) in
+    let rise = c.above.ensures ∙ ap up (closing_is c.before.before.before) in
+    let fall = c.below.ensures ∙ ap dn (closing_is c.before.before.before) in
     c.excess.ensures
-    ∙ rw (rise, fall) (rw e at (walked_all (limits s) s.args.ring.now l.i l.rise l.fall (omega (arith, s.requires.some)) l.invariant.3))
+    ∙ rw (rise, fall) (rw e at (walked_all (limits s.before.before.before.before.before.before.before.before.before) s.args.ring.now l.i l.rise l.fall (omega (arith, s.requires.some)) l.invariant.3))
 
 pub shortfall_spec : {M : Type 1} → statement M
 shortfall_spec = tie.close (tie.spec invariant-loop decreases-loop (λ c. omega arith) loop-holds (λ c. omega arith) (λ c. omega arith) cast_entry_at

@@ -26,7 +26,7 @@ put_fits_spec = tie.close (tie.spec
     (λ c. refl)
     (λ c. omega arith)
     (λ c. refl)
-    (λ c κs. pending_room (begun c.before.before.before.before))
+    (λ c κs. pending_room (begun c.before.before.before.before.before.before.before.before.before.before.before.before.before))
     (λ c κs.
     let s = c.before.before.before.before.before.before.before.before in
     ((s.requires.0.0, s.requires.0.2), pending_room (pending_after (begun s) c.before.before.before.put_one_number-next.ensures)))

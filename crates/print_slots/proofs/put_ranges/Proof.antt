@@ -37,8 +37,8 @@ lines c = range_lines c.args.span (low c) (high c)
 loop-holds : tie.Need-loop-slot-init invariant-loop decreases-loop
 unfolding range_lines
 loop-holds c =
-    let s = c.before in
-    (omega arith, omega arith, pending_whole (map (line s) (from_to 1 s.args.span)) refl s.requires.1)
+    let s = c in
+    (omega arith, omega arith, pending_whole (map (line s.before) (from_to 1 s.args.span)) refl s.requires.1)
 
 -- back to the start of the loop's turn, and of the call
 abbrev turn : tie.After-greatest_of-greatest invariant-loop decreases-loop → tie.In-loop-slot invariant-loop decreases-loop
@@ -48,37 +48,37 @@ abbrev start : tie.In-loop-slot invariant-loop decreases-loop → tie.Start inva
 start c = c.before.before.before
 
 next : (c : tie.In-loop-slot invariant-loop decreases-loop)
-    → (let s = start c in let l = c.before.loop-slot in
+    → (let s = start c in let l = c.loop-slot in
     Pending s.args.page.now s.args.at (lines s) l.page l.next
     (line s l.slot ∷ map (line s) (run (l.slot + 1) (suc s.args.span - (l.slot + 1)))))
-next c = lines_next (line (start c)) c.before.loop-slot.slot (suc (start c).args.span) (omega arith) c.before.loop-slot.invariant.2
+next c = lines_next (line (start c)) c.loop-slot.slot (suc (start c).args.span) (omega arith) c.loop-slot.invariant.2
 
 -- what is handed over is the line of the slot
 same : (c : tie.After-greatest_of-greatest invariant-loop decreases-loop)
-    → (let t = (turn c).before.loop-slot.slot in range_line t c.before.least_of-least.result c.greatest_of-greatest.result ≡ line (start (turn c)) t)
+    → (let t = (turn c).loop-slot.slot in range_line t c.least_of-least.result c.greatest_of-greatest.result ≡ line (start (turn c)) t)
 unfolding range_line_at
-same c = ap₂ (range_line (turn c).before.loop-slot.slot) c.before.least_of-least.ensures c.greatest_of-greatest.ensures
+same c = ap₂ (range_line (turn c).loop-slot.slot) c.least_of-least.ensures c.greatest_of-greatest.ensures
 
 put_range_requires : tie.Need-put_range-next-requires invariant-loop decreases-loop
 put_range_requires c κs =
     let g : tie.After-greatest_of-greatest invariant-loop decreases-loop = c.before in
-    let l = (turn g).before.loop-slot in
+    let l = (turn g).loop-slot in
     subst (Room l.page l.next) (sym (same g)) (pending_room (next (turn g)))
 
 loop-again : tie.Need-loop-slot-preserved invariant-loop decreases-loop
 loop-again c =
     let g : tie.After-greatest_of-greatest invariant-loop decreases-loop = c.before.before.before.before in
-    let l = (turn g).before.loop-slot in
-    let put = c.before.before.put_range-next in (
+    let l = (turn g).loop-slot in
+    let put = c.put_range-next in (
       omega arith,
       omega arith,
-      pending_after (next (turn g)) (subst (λ line. Written l.page l.next line put.new.0 put.result) (same g) put.ensures),
+      pending_after (next (turn g)) (subst (λ line. Written l.page l.next line put.new.page put.result) (same g) put.ensures),
     )
 
 returns : tie.Need-returns invariant-loop decreases-loop
 returns c =
     let s : tie.Start invariant-loop decreases-loop = c.before.before.before in
-    lines_end (line s) c.before.loop-slot.slot (suc s.args.span) (omega arith) c.before.loop-slot.invariant.2
+    lines_end (line s) c.loop-slot.slot (suc s.args.span) (omega arith) c.loop-slot.invariant.2
 
 pub put_ranges_spec : {M : Type 1} → statement M
 put_ranges_spec = tie.close (tie.spec invariant-loop decreases-loop loop-holds (λ c κs. omega arith) (λ c κs. omega arith) (λ c. omega arith)

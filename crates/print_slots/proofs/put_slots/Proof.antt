@@ -42,8 +42,8 @@ lines c = slot_lines c.args.span (counts c) (low c) (high c)
 loop-holds : tie.Need-loop-t-init invariant-loop decreases-loop
 unfolding slot_lines
 loop-holds c =
-    let s = c.before.before in
-    (omega arith, omega arith, pending_whole (map (line s) (from_to 1 s.args.span)) refl s.requires.1)
+    let s = c in
+    (omega arith, omega arith, pending_whole (map (line s.before.before) (from_to 1 s.args.span)) refl s.requires.1)
 
 -- back to the start of the loop's turn, and of the call
 abbrev turn : tie.After-greatest_of invariant-loop decreases-loop → tie.In-loop-t invariant-loop decreases-loop
@@ -53,39 +53,39 @@ abbrev start : tie.In-loop-t invariant-loop decreases-loop → tie.Start invaria
 start c = c.before.before.before.before
 
 next : (c : tie.In-loop-t invariant-loop decreases-loop)
-    → (let s = start c in let l = c.before.loop-t in
+    → (let s = start c in let l = c.loop-t in
     Pending s.args.page.now s.args.at (lines s) l.page l.next
     (line s l.t ∷ map (line s) (run (l.t + 1) (suc s.args.span - (l.t + 1)))))
-next c = lines_next (line (start c)) c.before.loop-t.t (suc (start c).args.span) (omega arith) c.before.loop-t.invariant.2
+next c = lines_next (line (start c)) c.loop-t.t (suc (start c).args.span) (omega arith) c.loop-t.invariant.2
 
 -- what is handed over is the line of slot t
 same : (c : tie.After-greatest_of invariant-loop decreases-loop)
-    → (let s = start (turn c) in let t = (turn c).before.loop-t.t in
-    slot_line t (counts s t) c.before.least_of.result c.greatest_of.result ≡ line s t)
+    → (let s = start (turn c) in let t = (turn c).loop-t.t in
+    slot_line t (counts s t) c.least_of.result c.greatest_of.result ≡ line s t)
 unfolding slot_line_at
 same c =
-    let t = (turn c).before.loop-t.t in
-    ap₂ (λ l g. slot_line t (counts (start (turn c)) t) l g) c.before.least_of.ensures c.greatest_of.ensures
+    let t = (turn c).loop-t.t in
+    ap₂ (λ l g. slot_line t (counts (start (turn c)) t) l g) c.least_of.ensures c.greatest_of.ensures
 
 put_slot_requires : tie.Need-put_slot-next-requires invariant-loop decreases-loop
 put_slot_requires c κs =
-    let l = (turn c).before.loop-t in
+    let l = (turn c).loop-t in
     subst (Room l.page l.next) (sym (same c)) (pending_room (next (turn c)))
 
 loop-again : tie.Need-loop-t-preserved invariant-loop decreases-loop
 loop-again c =
     let g : tie.After-greatest_of invariant-loop decreases-loop = c.before.before.before in
-    let l = (turn g).before.loop-t in
-    let put = c.before.before.put_slot-next in (
+    let l = (turn g).loop-t in
+    let put = c.put_slot-next in (
       omega arith,
       omega arith,
-      pending_after (next (turn g)) (subst (λ line. Written l.page l.next line put.new.0 put.result) (same g) put.ensures),
+      pending_after (next (turn g)) (subst (λ line. Written l.page l.next line put.new.page put.result) (same g) put.ensures),
     )
 
 returns : tie.Need-returns invariant-loop decreases-loop
 returns c =
     let s : tie.Start invariant-loop decreases-loop = c.before.before.before.before in
-    lines_end (line s) c.before.loop-t.t (suc s.args.span) (omega arith) c.before.loop-t.invariant.2
+    lines_end (line s) c.loop-t.t (suc s.args.span) (omega arith) c.loop-t.invariant.2
 
 pub put_slots_spec : {M : Type 1} → statement M
 put_slots_spec = tie.close (tie.spec invariant-loop decreases-loop loop-holds (λ c. omega arith) (λ c. omega arith) (λ c. omega arith) (λ c κs. omega arith)

@@ -19,10 +19,10 @@ start c = c.before.before.before.before.before.before.before.before.before.befor
 
 -- the front of that array is the answer
 module _ (c : tie.After-put_plan-length) where
-  part : take c.put_plan-length.result c.put_plan-length.new.0 ≡ bytes (start c)
+  part : take c.put_plan-length.result c.put_plan-length.new.page ≡ bytes (start c)
   part = own_part max_page (start c).requires.1.1 c.put_plan-length.ensures
 
-  long : c.put_plan-length.result ≤ length c.put_plan-length.new.0
+  long : c.put_plan-length.result ≤ length c.put_plan-length.new.page
   long = own_long max_page (start c).requires.1.1 c.put_plan-length.ensures
 
   size : c.put_plan-length.result ≡ length (bytes (start c))
@@ -31,9 +31,9 @@ module _ (c : tie.After-put_plan-length) where
 write_requires : tie.Need-write-next-requires
 write_requires c κs =
     let p : tie.Then-holds = c.before.before.before.before.before.before.before.before.before.before.before.before.before.before in
-    let o = p.before.before.before in
-    let a = (start o).args in
-    rw (part o) (room a.page-1.now a.at (bytes (start o)) o.put_plan-length.result (size o) p.before.holds.result p.before.holds.ensures
+    let o = p in
+    let a = (start o.before.before.before).args in
+    rw (part o.before.before.before) (room a.page-1.now a.at (bytes (start o.before.before.before)) o.put_plan-length.result (size o.before.before.before) p.holds.result p.holds.ensures
     p.if-holds.true)
 
 returns : tie.Need-returns-then-holds
@@ -42,19 +42,19 @@ returns c =
     c.before.before.before.before.before.before.before.before.before.before.before.before.before.before.before.before.before in
     let o = p.before.before.before in
     let a = (start o).args in
-    let k = c.before.before.before.before.before.before.before.before.before.before.before.before.keep_plan.ensures in
+    let k = c.keep_plan.ensures in
     asked_yes a.page-1.now a.at (bytes (start o)) o.put_plan-length.result (size o) p.before.holds.result p.before.holds.ensures _ _ _ _ _ _
-    p.if-holds.true c.before.before.write-next.result (rw (part o) at c.before.before.write-next.ensures) refl (rw (k.0, k.1, k.2, k.3) refl)
+    p.if-holds.true c.write-next.result (rw (part o) at c.write-next.ensures) refl (rw (k.0, k.1, k.2, k.3) refl)
 
 returns-2 : tie.Need-returns-else-holds
 returns-2 c =
-    let o = c.before.before.before in
-    let a = (start o).args in
-    asked_no a.page-1.now a.at (bytes (start o)) o.put_plan-length.result (size o) c.before.holds.result c.before.holds.ensures _ _ _ _ _ _
+    let o = c in
+    let a = (start o.before.before.before).args in
+    asked_no a.page-1.now a.at (bytes (start o.before.before.before)) o.put_plan-length.result (size o.before.before.before) c.holds.result c.holds.ensures _ _ _ _ _ _
     c.if-holds.false refl refl refl
 
 pub print_plan_spec : {M : Type 1} → statement M
-print_plan_spec = tie.close (tie.spec (λ c. refl) (λ c κs. let s = c.before.before.before.before.before.before.before.before.before in
+print_plan_spec = tie.close (tie.spec (λ c. refl) (λ c κs. let s = c in
     (s.requires.0, own_room max_page s.requires.1.1))
     (λ c κs. tt)
     (λ c κs.
@@ -63,8 +63,8 @@ print_plan_spec = tie.close (tie.spec (λ c. refl) (λ c κs. let s = c.before.b
     (λ c. sym (length-take-le _ _ (long
     c.before.before.before.before.before.before.before.before.before.before.before.before.before.before.before.before.before)))
     write_requires
-    (λ c. c.before.before.before.before.before.before.before.before.before.before.before.before.keep_plan.auto.1.1.1.1.0)
-    (λ c. c.before.before.before.before.before.before.before.before.before.before.before.before.keep_plan.auto.1.1.1.1.1.0)
-    (λ c. c.before.before.before.before.before.before.before.before.before.before.before.before.keep_plan.auto.1.1.1.1.1.1.0)
-    (λ c. c.before.before.before.before.before.before.before.before.before.before.before.before.keep_plan.auto.1.1.1.1.1.1.1.0)
-    (λ c. c.before.before.write-next.auto.0) returns returns-2)
+    (λ c. c.keep_plan.auto.table)
+    (λ c. c.keep_plan.auto.plan)
+    (λ c. c.keep_plan.auto.earliest)
+    (λ c. c.keep_plan.auto.latest)
+    (λ c. c.write-next.auto.page) returns returns-2)

@@ -52,7 +52,7 @@ ends : (c : tie.After-solve-fit) → Settled (by_pass (passed (sheet c))) (sheet
 ends c = c.solve-fit.ensures
 
 own_cells : (c : tie.After-solve-fit) → length (after c).table-1 ≡ max_cells
-own_cells c = c.solve-fit.auto.1.1.1.1.1.1.1.0 ∙ length-replicate max_cells (pos 0)
+own_cells c = c.solve-fit.auto.table ∙ length-replicate max_cells (pos 0)
 
 -- ---- a plan was found
 
@@ -61,10 +61,10 @@ abbrev where_plan : tie.In-Fits → tie.After-solve-fit
 where_plan c = c.before.before.before.before.before.before.before.before
 
 abbrev plan_w : tie.In-Fits → ℕ
-plan_w c = c.before.before.boundaries-w.result
+plan_w c = c.boundaries-w.result
 
 plan_w_is : (c : tie.In-Fits) → plan_w c ≡ boundaries_of (start (where_plan c)).args.span
-plan_w_is c = c.before.before.boundaries-w.ensures
+plan_w_is c = c.boundaries-w.ensures
 
 plan_found : (c : tie.In-Fits) → let p = where_plan c in
     (t : List ℤ) × (passed (sheet p) ≡ finished t) × PlanFronts (sheet p) (plan_w c) (length (lists (start p)).first) t (after p)
@@ -78,10 +78,10 @@ abbrev where_ring : tie.In-None-2 → tie.After-solve-fit
 where_ring c = c.before.before.before.before.before.before.before.before
 
 abbrev ring_w : tie.In-None-2 → ℕ
-ring_w c = c.before.before.boundaries-w.result
+ring_w c = c.boundaries-w.result
 
 ring_w_is : (c : tie.In-None-2) → ring_w c ≡ boundaries_of (start (where_ring c)).args.span
-ring_w_is c = c.before.before.boundaries-w.ensures
+ring_w_is c = c.boundaries-w.ensures
 
 -- the ring's length, as the reply has it
 abbrev steps : tie.In-None-2 → ℕ
@@ -134,13 +134,13 @@ print_ring_requires c κs =
     let p = where_ring told in
     let s = start p in
     let f = ring_found told in
-    let filled = c.before.before.before.before.before.before.fill_limits in
+    let filled = c.fill_limits in
     ring_asked (lists s) (before s) s.requires.0 (ring_w told) (ring_w_is told) (after p) f.0 f.1 f.2 (steps told) f.3 (after p).table-1 (own_cells p)
-    filled.new.1.1.1.1.1.1.1.0 filled.ensures
+    filled.new.t filled.ensures
 
 returns : tie.Need-returns-in-Fits
 returns c =
-    let printed = c.before.before.before.before.before.before.before.before.before in
+    let printed = c in
     let told : tie.In-Fits = printed.before.before.before.before.before.before.before.before.before.before in
     let p = where_plan told in
     let s = start p in
@@ -155,10 +155,10 @@ returns-2 c =
     let p = where_ring told in
     let s = start p in
     let f = ring_found told in
-    let filled = c.before.before.before.before.before.before.before.before.before.before.before.before.fill_limits in
+    let filled = c.fill_limits in
     ring_shown (lists s) (before s) s.requires.0 (ring_w told) (ring_w_is told) (after p) f.0 f.1 f.2 (steps told) f.3 (after p).table-1 (own_cells p)
-    s.args.loader.now filled.new.1.1.1.1.1.1.1.0 filled.ensures s.args.page.now s.args.at _ _ _ _
-    c.before.before.before.before.before.print_ring.ensures
+    s.args.loader.now filled.new.t filled.ensures s.args.page.now s.args.at _ _ _ _
+    c.print_ring.ensures
 
 pub print_solved_spec : {M : Type 1} → statement M
 print_solved_spec = tie.close (tie.spec (λ c. refl) (λ c. refl) (λ c. refl) (λ c. refl) (λ c. refl) solve_requires boundaries_requires mul_cells
@@ -168,15 +168,15 @@ print_solved_spec = tie.close (tie.spec (λ c. refl) (λ c. refl) (λ c. refl) (
     (λ c. (plan_found c.before.before).2.firsts-1.long) (λ c. sym (length-take-le _ _ (plan_found c.before.before.before).2.firsts-1.long))
     (λ c. (plan_found c.before.before.before).2.lasts-1.long)
     (λ c. sym (length-take-le _ _ (plan_found c.before.before.before.before).2.lasts-1.long)) print_plan_requires
-    (λ c. c.in-None.keys2) (λ c. sym (where_ring c.before.before).solve-fit.auto.1.1.1.1.1.1.1.0) fill_limits_requires
-    (λ c. sym (c.before.before.fill_limits.auto.1.1.1.1.1.1.1.0 ∙ own_cells (where_ring c.before.before.before.before.before)))
+    (λ c. c.in-None.keys2) (λ c. sym (where_ring c.before.before).solve-fit.auto.table) fill_limits_requires
+    (λ c. sym (c.fill_limits.auto.t ∙ own_cells (where_ring c.before.before.before.before.before)))
     (λ c. (ring_found c.before.before.before.before.before).3.long)
     (λ c. sym (length-take-le _ _ (ring_found c.before.before.before.before.before.before).3.long)) print_ring_requires
-    (λ c. c.before.before.before.before.before.before.before.before.before.print_plan.auto.1.1.1.1.1.1.0)
-    (λ c. c.before.before.before.before.before.before.before.before.before.print_plan.auto.1.1.1.1.1.1.1.0)
-    (λ c. c.before.before.before.before.before.before.before.before.before.print_plan.auto.1.1.1.1.1.1.1.1.0)
-    (λ c. c.before.before.before.before.before.before.before.before.before.print_plan.auto.1.1.1.1.1.1.1.1.1.0)
-    (λ c. c.before.before.before.before.before.before.before.before.before.print_plan.auto.1.1.1.1.1.1.1.1.1.1.0) returns
-    (λ c. c.before.before.before.before.before.print_ring.auto.1.1.1.0)
-    (λ c. c.before.before.before.before.before.print_ring.auto.1.1.1.1.0)
-    (λ c. c.before.before.before.before.before.print_ring.auto.1.1.1.1.1.0) returns-2)
+    (λ c. c.print_plan.auto.table)
+    (λ c. c.print_plan.auto.plan)
+    (λ c. c.print_plan.auto.earliest)
+    (λ c. c.print_plan.auto.latest)
+    (λ c. c.print_plan.auto.page) returns
+    (λ c. c.print_ring.auto.table)
+    (λ c. c.print_ring.auto.ring)
+    (λ c. c.print_ring.auto.page) returns-2)

@@ -36,12 +36,12 @@ start c = c.before.before.before.before.before.before.before
 
 -- the next line is that of unit j
 next : (c : tie.In-loop-j invariant-loop decreases-loop)
-    → (let s = start c in let a = s.args in let l = c.before.loop-j in
+    → (let s = start c in let a = s.args in let l = c.loop-j in
     Pending a.page.now a.at (unit_lines a.span a.loader.now a.plan.now a.earliest.now a.latest.now) l.page l.next
     (line s l.j ∷ map (line s) (run (l.j + 1) (length a.plan.now - (l.j + 1)))))
 next c =
     let s = start c in
-    lines_next (line s) c.before.loop-j.j (length s.args.plan.now) c.loop-j-test.true c.before.loop-j.invariant.1
+    lines_next (line s) c.loop-j.j (length s.args.plan.now) c.loop-j-test.true c.loop-j.invariant.1
 
 put_placed_requires : tie.Need-put_placed-next-requires invariant-loop decreases-loop
 unfolding unit_line_at
@@ -50,12 +50,12 @@ put_placed_requires c κs = pending_room (next c.before.before.before.before.bef
 loop-again : tie.Need-loop-j-preserved invariant-loop decreases-loop
 unfolding unit_line_at
 loop-again c =
-    (omega arith, pending_after (next c.before.before.before.before.before.before.before.before) c.before.before.put_placed-next.ensures)
+    (omega arith, pending_after (next c.before.before.before.before.before.before.before.before) c.put_placed-next.ensures)
 
 returns : tie.Need-returns invariant-loop decreases-loop
 returns c =
     let s : tie.Start invariant-loop decreases-loop = c.before.before.before.before.before.before.before in
-    lines_end (line s) c.before.loop-j.j (length s.args.plan.now) c.loop-j-test.false c.before.loop-j.invariant.1
+    lines_end (line s) c.loop-j.j (length s.args.plan.now) c.loop-j-test.false c.loop-j.invariant.1
 
 pub put_units_spec : {M : Type 1} → statement M
 put_units_spec = tie.close (tie.spec invariant-loop decreases-loop loop-holds (λ c. omega arith) (λ c. omega arith) (λ c. omega arith) (λ c. omega arith)

@@ -13,10 +13,10 @@ left_over page at bytes h true e = sym (le-leb (at + bytes) page (omega (arith, 
 left_over page at bytes h false e = sym (lt-leb (at + bytes) page (omega (arith, leb-false bytes (page - at) e)))
 
 returns : tie.Need-returns-then-page-at
-returns c = let a = c.before.args in sym (lt-leb (a.at + a.bytes) a.page (omega (arith, c.if-page-at.true)))
+returns c = let a = c.args in sym (lt-leb (a.at + a.bytes) a.page (omega (arith, c.if-page-at.true)))
 
 returns-2 : tie.Need-returns
-returns-2 c = let a = c.before.args in left_over a.page a.at a.bytes c.if-page-at.false (leb a.bytes (a.page - a.at)) refl
+returns-2 c = let a = c.args in left_over a.page a.at a.bytes c.if-page-at.false (leb a.bytes (a.page - a.at)) refl
 
 pub holds_spec : {M : Type 1} → statement M
 holds_spec = tie.close (tie.spec returns returns-2)

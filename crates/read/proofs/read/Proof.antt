@@ -67,50 +67,50 @@ short : (c : tie.Else-text-gt-MAX_BYTES) → length (start c).args.text.now ≤ 
 short c = c.if-text-gt-MAX_BYTES.false
 
 -- of a sheet that the pass found: its numbers, and what the arrays hold
-answered : (c : tie.In-Sheet) → let s = c.before.asked-in-Sheet-1.given.0.0 in
+answered : (c : tie.In-Sheet) → let s = c.asked-in-Sheet-1.given.0.0 in
     let a = (start (told_short c)).args in
     read s.span s.units s.rules ≡ pass_reply a.house a.text.now
-answered c = sym (ap reply_of c.before.asked-in-Sheet-1.given.1) ∙ (asked c).ask_text-asked.ensures.0
+answered c = sym (ap reply_of c.asked-in-Sheet-1.given.1) ∙ (asked c).ask_text-asked.ensures.0
 
 kept : (c : tie.In-Sheet) → let a = (start (told_short c)).args in
-    KeptNumbers a.house c.before.asked-in-Sheet-1.given.0.0 a.text.now cleared (arrays (asked c))
+    KeptNumbers a.house c.asked-in-Sheet-1.given.0.0 a.text.now cleared (arrays (asked c))
 kept c =
     let a = (start (told_short c)).args in
-    subst (λ (r : Reading). Kept a.house r a.text.now cleared (arrays (asked c))) c.before.asked-in-Sheet-1.given.1 (asked c).ask_text-asked.ensures.1
+    subst (λ (r : Reading). Kept a.house r a.text.now cleared (arrays (asked c))) c.asked-in-Sheet-1.given.1 (asked c).ask_text-asked.ensures.1
 
-fitting : (c : tie.Else-not-lists_fit) → let s = (fits_told c).before.asked-in-Sheet-1.given.0.0 in
+fitting : (c : tie.Else-not-lists_fit) → let s = (fits_told c).asked-in-Sheet-1.given.0.0 in
     lists_fit s.units s.rules (sizes_of (lent (start (told_short (fits_told c))))) ≡ true
-fitting c = sym c.before.lists_fit.ensures ∙ not-false _ c.if-not-lists_fit.false
+fitting c = sym c.lists_fit.ensures ∙ not-false _ c.if-not-lists_fit.false
 
 returns : tie.Need-returns-then-text-gt-MAX_BYTES
 returns c =
-    let z = c.before.before.before.before.before.before.before.before.before in
+    let z = c in
     let a = z.args in
-    let e = answer_long a.house a.text.now (sizes_of (lent z)) c.if-text-gt-MAX_BYTES.true in
-    (e, rooms_kept a.house a.text.now (lent z) 1 0 e)
+    let e = answer_long a.house a.text.now (sizes_of (lent z.before.before.before.before.before.before.before.before.before)) c.if-text-gt-MAX_BYTES.true in
+    (e, rooms_kept a.house a.text.now (lent z.before.before.before.before.before.before.before.before.before) 1 0 e)
 
 returns-2 : tie.Need-returns-then-not-lists_fit
 returns-2 c =
-    let d = c.before.before in
-    let z = start (told_short d) in
+    let d = c in
+    let z = start (told_short d.before.before) in
     let a = z.args in
-    let e = answer_rooms a.house a.text.now (sizes_of (lent z)) (short (told_short d)) _ _ _
-    (answered d) (sym c.before.lists_fit.ensures ∙ not-true _ c.if-not-lists_fit.true) in
+    let e = answer_rooms a.house a.text.now (sizes_of (lent z)) (short (told_short d.before.before)) _ _ _
+    (answered d.before.before) (sym c.lists_fit.ensures ∙ not-true _ c.if-not-lists_fit.true) in
     (e, rooms_kept a.house a.text.now (lent z) 12 0 e)
 
 fill_requires : tie.Need-fill-requires
 fill_requires c κs =
-    let f = c.before.before.before.before.before.before.before.before.before.before.before.before.before.before in
-    let d = fits_told f in
-    (arrays_hold _ _ _ cleared (arrays (asked d)) cleared_hold (kept d), rooms_hold _ _ (lent (start (told_short d))) (fitting f))
+    let f = c in
+    let d = fits_told f.before.before.before.before.before.before.before.before.before.before.before.before.before.before in
+    (arrays_hold _ _ _ cleared (arrays (asked d)) cleared_hold (kept d), rooms_hold _ _ (lent (start (told_short d))) (fitting f.before.before.before.before.before.before.before.before.before.before.before.before.before.before))
 
 returns-3 : tie.Need-returns-in-Refused
 returns-3 c =
-    let d = c.before.before.before.before.before.before.before.before.before.before.before.before.before.before.before.before.before.before in
-    let z = start d in
+    let d = c in
+    let z = start d.before.before.before.before.before.before.before.before.before.before.before.before.before.before.before.before.before.before in
     let a = z.args in
-    let e = answer_no a.house a.text.now (sizes_of (lent z)) (short d) _ _
-    (sym (ap reply_of c.before.asked-1.given.1) ∙ c.before.before.before.before.before.before.before.before.before.before.ask_text-asked.ensures.0) in
+    let e = answer_no a.house a.text.now (sizes_of (lent z)) (short d.before.before.before.before.before.before.before.before.before.before.before.before.before.before.before.before.before.before) _ _
+    (sym (ap reply_of c.asked-1.given.1) ∙ c.ask_text-asked.ensures.0) in
     (e, rooms_kept a.house a.text.now (lent z) _ _ e)
 
 returns-4 : tie.Need-returns-else-not-lists_fit
@@ -127,19 +127,19 @@ returns-4 c =
 pub read_spec : {M : Type 1} → statement M
 read_spec = tie.close (tie.spec returns (λ c. refl) (λ c. refl) (λ c. refl) (λ c. refl) (λ c. refl) (λ c. refl) (λ c. refl) (λ c κs. cleared_hold)
     (λ c. c.in-Refused.keys1) (λ c. c.in-Sheet.keys2) (λ c κs. tt) returns-2
-    (λ c. sym (asked (fits_told c.before)).ask_text-asked.auto.1.1.0)
-    (λ c. sym (asked (fits_told c.before.before)).ask_text-asked.auto.1.1.1.0)
-    (λ c. sym (asked (fits_told c.before.before.before)).ask_text-asked.auto.1.1.1.1.0)
-    (λ c. sym (asked (fits_told c.before.before.before.before)).ask_text-asked.auto.1.1.1.1.1.0)
-    (λ c. sym (asked (fits_told c.before.before.before.before.before)).ask_text-asked.auto.1.1.1.1.1.1.0)
-    (λ c. sym (asked (fits_told c.before.before.before.before.before.before)).ask_text-asked.auto.1.1.1.1.1.1.1.0)
-    (λ c. sym (asked (fits_told c.before.before.before.before.before.before.before)).ask_text-asked.auto.1.1.1.1.1.1.1.1.0)
+    (λ c. sym (asked (fits_told c.before)).ask_text-asked.auto.numbers)
+    (λ c. sym (asked (fits_told c.before.before)).ask_text-asked.auto.firsts)
+    (λ c. sym (asked (fits_told c.before.before.before)).ask_text-asked.auto.lasts)
+    (λ c. sym (asked (fits_told c.before.before.before.before)).ask_text-asked.auto.froms)
+    (λ c. sym (asked (fits_told c.before.before.before.before.before)).ask_text-asked.auto.tos)
+    (λ c. sym (asked (fits_told c.before.before.before.before.before.before)).ask_text-asked.auto.lows)
+    (λ c. sym (asked (fits_told c.before.before.before.before.before.before.before)).ask_text-asked.auto.highs)
     fill_requires returns-3
-    (λ c. (fill_call c).fill.auto.1.1.1.1.1.1.1.1.0)
-    (λ c. (fill_call c).fill.auto.1.1.1.1.1.1.1.1.1.0)
-    (λ c. (fill_call c).fill.auto.1.1.1.1.1.1.1.1.1.1.0)
-    (λ c. (fill_call c).fill.auto.1.1.1.1.1.1.1.1.1.1.1.0)
-    (λ c. (fill_call c).fill.auto.1.1.1.1.1.1.1.1.1.1.1.1.0)
-    (λ c. (fill_call c).fill.auto.1.1.1.1.1.1.1.1.1.1.1.1.1.0)
-    (λ c. (fill_call c).fill.auto.1.1.1.1.1.1.1.1.1.1.1.1.1.1.0)
+    (λ c. (fill_call c).fill.auto.loader)
+    (λ c. (fill_call c).fill.auto.first)
+    (λ c. (fill_call c).fill.auto.last)
+    (λ c. (fill_call c).fill.auto.from)
+    (λ c. (fill_call c).fill.auto.to)
+    (λ c. (fill_call c).fill.auto.low)
+    (λ c. (fill_call c).fill.auto.high)
     returns-4)

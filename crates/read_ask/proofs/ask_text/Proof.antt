@@ -13,19 +13,19 @@ tables_of h j g k e f c = record { is_grid = f ∙ ap grid (sym e); is_classes =
 -- what our own arm hands on, and what the partner's does
 ours : tie.Need-pass-requires
 ours c κs =
-    let told = c.before.before.before.before.before.before.before.before.before.before in
-    let p = told.before.before.before.before.before.before.before.before.before.before.before.requires in (
-      tables_of _ _ _ _ told.enum_told-1.given.1 c.before.before.before.before.before.before.before.before.before.table-grid.ensures
-          told.before.before.class_table-table.ensures,
+    let told = c in
+    let p = told.requires in (
+      tables_of _ _ _ _ told.enum_told-1.given.1 c.table-grid.ensures
+          told.class_table-table.ensures,
       p,
     )
 
 partners : tie.Need-pass-requires-in-Partner
 partners c κs =
-    let told = c.before.before.before.before.before.before.before.before.before.before in
-    let p = told.before.before.before.before.before.before.before.before.before.before.before.requires in (
-      tables_of _ _ _ _ told.enum_told-in-Partner-1.given.1 c.before.before.before.before.before.before.before.before.before.table-grid-in-Partner.ensures
-          told.before.before.class_table-table.ensures,
+    let told = c in
+    let p = told.requires in (
+      tables_of _ _ _ _ told.enum_told-in-Partner-1.given.1 c.table-grid-in-Partner.ensures
+          told.class_table-table.ensures,
       p,
     )
 
@@ -38,19 +38,19 @@ partner_pass c = c.before.before.before.before.before.before.before.before.befor
 
 pub ask_text_spec : {M : Type 1} → statement M
 ask_text_spec = tie.close (tie.spec (λ c κs. tt) (λ c. c.in-Ours.keys1) (λ c κs. tt) ours (λ c. c.in-Partner.keys2) (λ c κs. tt) partners
-    (λ c. (our_pass c).pass.auto.1.1.1.1.0)
-    (λ c. (our_pass c).pass.auto.1.1.1.1.1.0)
-    (λ c. (our_pass c).pass.auto.1.1.1.1.1.1.0)
-    (λ c. (our_pass c).pass.auto.1.1.1.1.1.1.1.0)
-    (λ c. (our_pass c).pass.auto.1.1.1.1.1.1.1.1.0)
-    (λ c. (our_pass c).pass.auto.1.1.1.1.1.1.1.1.1.0)
-    (λ c. (our_pass c).pass.auto.1.1.1.1.1.1.1.1.1.1.0)
+    (λ c. (our_pass c).pass.auto.numbers)
+    (λ c. (our_pass c).pass.auto.firsts)
+    (λ c. (our_pass c).pass.auto.lasts)
+    (λ c. (our_pass c).pass.auto.froms)
+    (λ c. (our_pass c).pass.auto.tos)
+    (λ c. (our_pass c).pass.auto.lows)
+    (λ c. (our_pass c).pass.auto.highs)
     (λ c. (our_pass c).pass.ensures)
-    (λ c. (partner_pass c).pass-in-Partner.auto.1.1.1.1.0)
-    (λ c. (partner_pass c).pass-in-Partner.auto.1.1.1.1.1.0)
-    (λ c. (partner_pass c).pass-in-Partner.auto.1.1.1.1.1.1.0)
-    (λ c. (partner_pass c).pass-in-Partner.auto.1.1.1.1.1.1.1.0)
-    (λ c. (partner_pass c).pass-in-Partner.auto.1.1.1.1.1.1.1.1.0)
-    (λ c. (partner_pass c).pass-in-Partner.auto.1.1.1.1.1.1.1.1.1.0)
-    (λ c. (partner_pass c).pass-in-Partner.auto.1.1.1.1.1.1.1.1.1.1.0)
+    (λ c. (partner_pass c).pass-in-Partner.auto.numbers)
+    (λ c. (partner_pass c).pass-in-Partner.auto.firsts)
+    (λ c. (partner_pass c).pass-in-Partner.auto.lasts)
+    (λ c. (partner_pass c).pass-in-Partner.auto.froms)
+    (λ c. (partner_pass c).pass-in-Partner.auto.tos)
+    (λ c. (partner_pass c).pass-in-Partner.auto.lows)
+    (λ c. (partner_pass c).pass-in-Partner.auto.highs)
     (λ c. (partner_pass c).pass-in-Partner.ensures))

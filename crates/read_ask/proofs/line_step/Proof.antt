@@ -26,7 +26,7 @@ unfolding step_of
 returns c =
     let z = start c.before.before.before in
     let a = z.args in
-    line_stepped a.house (numbers z) a.s a.line-1 _ _ (arrays z) _ a.heads-1.now a.nexts-1.now c.before.line-1.given.1 refl tt refl
+    line_stepped a.house (numbers z) a.s a.line-1 _ _ (arrays z) _ a.heads-1.now a.nexts-1.now c.line-1.given.1 refl tt refl
 
 returns-2 : tie.Need-returns-in-Note
 unfolding step_of
@@ -41,15 +41,15 @@ returns-3 c =
     let a = z.args in
     let r = c.sheet_step in
     let stays = sheet_stays a.s _ _ _ z.pre.0 a.house (numbers z) _ r.result r.ensures in
-    line_stepped a.house (numbers z) a.s a.line-1 _ _ (arrays z) _ a.heads-1.now a.nexts-1.now c.before.before.line-in-Sheet-1.given.1
+    line_stepped a.house (numbers z) a.s a.line-1 _ _ (arrays z) _ a.heads-1.now a.nexts-1.now c.line-in-Sheet-1.given.1
     stays.0 stays.1 (kept_sheet r.result (arrays z) a.s _)
 
 returns-4 : tie.Need-returns-in-Unit
 unfolding step_of
 returns-4 c =
-    let d = c.before.before.before.before.before.before.before.before.before.before in
-    let l = d.before.before.before.before.before.before.before in
-    let z = start l.before.before in
+    let d = c in
+    let l = d in
+    let z = start l.before.before.before.before.before.before.before.before.before.before.before.before.before.before.before.before.before.before.before in
     let a = z.args in
     let r = d.unit_step in
     let e = r.ensures in
@@ -58,9 +58,9 @@ returns-4 c =
 
 returns-5 : tie.Need-returns-in-Rule
 returns-5 c =
-    let d = c.before.before.before.before.before.before.before.before in
-    let l = d.before.before.before.before.before.before in
-    let z = start l.before.before in
+    let d = c in
+    let l = d in
+    let z = start l.before.before.before.before.before.before.before.before.before.before.before.before.before.before.before.before in
     let a = z.args in
     let r = d.rule_step in
     let e = r.ensures in
@@ -78,14 +78,14 @@ rule_step_requires c κs = let p = (start c.before.before.before.before.before.b
 pub line_step_spec : {M : Type 1} → statement M
 line_step_spec = tie.close (tie.spec (λ c. c.in-Refused.keys1) (λ c. c.in-Note.keys2) (λ c. c.in-Sheet.keys3) (λ c κs. tt) (λ c. c.in-Unit.keys4)
     unit_step_requires (λ c. c.in-Rule.keys5) rule_step_requires returns returns-2 returns-3
-    (λ c. c.before.before.before.before.before.before.before.before.before.before.unit_step.auto.1.1.1.1.1.0)
-    (λ c. c.before.before.before.before.before.before.before.before.before.before.unit_step.auto.1.1.1.1.1.1.0)
-    (λ c. c.before.before.before.before.before.before.before.before.before.before.unit_step.auto.1.1.1.1.1.1.1.0)
-    (λ c. c.before.before.before.before.before.before.before.before.before.before.unit_step.auto.1.1.1.1.1.1.1.1.0)
-    (λ c. c.before.before.before.before.before.before.before.before.before.before.unit_step.auto.1.1.1.1.1.1.1.1.1.0)
+    (λ c. c.unit_step.auto.numbers)
+    (λ c. c.unit_step.auto.firsts)
+    (λ c. c.unit_step.auto.lasts)
+    (λ c. c.unit_step.auto.heads)
+    (λ c. c.unit_step.auto.nexts)
     returns-4
-    (λ c. c.before.before.before.before.before.before.before.before.rule_step.auto.1.1.1.1.1.0)
-    (λ c. c.before.before.before.before.before.before.before.before.rule_step.auto.1.1.1.1.1.1.0)
-    (λ c. c.before.before.before.before.before.before.before.before.rule_step.auto.1.1.1.1.1.1.1.0)
-    (λ c. c.before.before.before.before.before.before.before.before.rule_step.auto.1.1.1.1.1.1.1.1.0)
+    (λ c. c.rule_step.auto.froms)
+    (λ c. c.rule_step.auto.tos)
+    (λ c. c.rule_step.auto.lows)
+    (λ c. c.rule_step.auto.highs)
     returns-5)

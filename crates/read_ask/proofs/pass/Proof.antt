@@ -72,16 +72,16 @@ sizes : (c : tie.At-loop-at invariant-loop decreases-loop) → SameSizes (held c
 sizes c = arrays_sizes _ _ _ _ _ _ _ c.loop-at.invariant.0
 
 -- where a line starts before the last line feed, and where none does any more
-in_whole : (c : tie.In-loop-at invariant-loop decreases-loop) → c.before.loop-at.at < whole_lines (text c.before)
-in_whole c = omega (arith, c.loop-at-test.true, c.before.before.before.lines_end-whole.ensures)
+in_whole : (c : tie.In-loop-at invariant-loop decreases-loop) → c.loop-at.at < whole_lines (text c.before)
+in_whole c = omega (arith, c.loop-at-test.true, c.lines_end-whole.ensures)
 
-past_whole : (c : tie.After-loop-at invariant-loop decreases-loop) → whole_lines (text c.before) ≤ c.before.loop-at.at
-past_whole c = omega (arith, c.loop-at-test.false, c.before.before.before.lines_end-whole.ensures)
+past_whole : (c : tie.After-loop-at invariant-loop decreases-loop) → whole_lines (text c.before) ≤ c.loop-at.at
+past_whole c = omega (arith, c.loop-at-test.false, c.lines_end-whole.ensures)
 
 loop-holds : tie.Need-loop-at-init invariant-loop decreases-loop
 loop-holds c =
-    let z = c.before.before.before.before.before.before.before.before.before.before in (
-      asking_start z.args.house z.args.text.now c.empty-s.result (lent z) c.empty-s.ensures,
+    let z = c in (
+      asking_start z.args.house z.args.text.now c.empty-s.result (lent z.before.before.before.before.before.before.before.before.before.before) c.empty-s.ensures,
       rw c.empty-s.ensures (record {
         few_slots = omega arith;
         few_units = omega arith;
@@ -143,15 +143,15 @@ last_line_requires c κs =
 
 returns-2 : tie.Need-returns-then-at-text invariant-loop decreases-loop
 returns-2 c =
-    let l = c.before in
-    let h = l.before.before in
+    let l = c in
+    let h = l in
     let q = c.last_Line in
-    (asking_last _ _ _ _ _ _ _ h.loop-at.invariant.0 (start h).requires.1.in_loader (past_whole l.before) l.if-at-text.true q.result q.ensures, tt)
+    (asking_last _ _ _ _ _ _ _ h.loop-at.invariant.0 (start h.before.before.before).requires.1.in_loader (past_whole l.before.before) l.if-at-text.true q.result q.ensures, tt)
 
 returns-4 : tie.Need-returns invariant-loop decreases-loop
 returns-4 c =
-    let l = c.before.before in
-    let i = l.before.before.loop-at.invariant.0 in
+    let l = c in
+    let i = l.loop-at.invariant.0 in
     let none = l.if-at-text.false in (
       asking_sheet _ _ _ _ _ _ _ i none c.if-s-eq0.false,
       record {
@@ -173,8 +173,8 @@ pass_spec = tie.close (tie.spec invariant-loop decreases-loop (λ c κs. tt) (λ
     (λ c. let r = stepped c.before.before.before in r.line_step-step.kept.1.1.1.1.1.1.1.0 ∙ (sizes (at_head (found r))).to)
     (λ c. let r = stepped c.before.before.before in r.line_step-step.kept.1.1.1.1.1.1.1.1.0 ∙ (sizes (at_head (found r))).low)
     (λ c. let r = stepped c.before.before.before in r.line_step-step.kept.1.1.1.1.1.1.1.1.1.0 ∙ (sizes (at_head (found r))).high)
-    (λ c. (refuses c.before.before.before _ c.before.step-1.given.1, tt))
-    (λ c. c.in-On.keys2) add_n loop-less (λ c. goes_on_lem c.before.before.before _ c.before.step-in-On-1.given.1) last_line_requires
+    (λ c. (refuses c.before.before.before _ c.step-1.given.1, tt))
+    (λ c. c.in-On.keys2) add_n loop-less (λ c. goes_on_lem c.before.before.before _ c.step-in-On-1.given.1) last_line_requires
     (λ c. (sizes c.before.before.before).loader) (λ c. (sizes c.before.before.before).first) (λ c. (sizes c.before.before.before).last)
     (λ c. (sizes c.before.before.before).from)
     (λ c. (sizes c.before.before.before).to) (λ c. (sizes c.before.before.before).low) (λ c. (sizes c.before.before.before).high)
@@ -183,7 +183,7 @@ pass_spec = tie.close (tie.spec invariant-loop decreases-loop (λ c κs. tt) (λ
     (λ c. (sizes c.before.before.before.before).last) (λ c. (sizes c.before.before.before.before).from)
     (λ c. (sizes c.before.before.before.before).to) (λ c. (sizes c.before.before.before.before).low)
     (λ c. (sizes c.before.before.before.before).high)
-    (λ c. (asking_none _ _ _ _ _ _ _ c.before.before.before.before.loop-at.invariant.0 c.before.before.if-at-text.false c.if-s-eq0.true, tt))
+    (λ c. (asking_none _ _ _ _ _ _ _ c.loop-at.invariant.0 c.if-at-text.false c.if-s-eq0.true, tt))
     (λ c. (sizes c.before.before.before.before).loader) (λ c. (sizes c.before.before.before.before).first)
     (λ c. (sizes c.before.before.before.before).last) (λ c. (sizes c.before.before.before.before).from)
     (λ c. (sizes c.before.before.before.before).to) (λ c. (sizes c.before.before.before.before).low)

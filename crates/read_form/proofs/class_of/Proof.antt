@@ -17,8 +17,8 @@ at table b e h = ap (λ (k : List ℕ). get_or k b 0) e ∙ list_of_at class_of 
 
 returns : tie.Need-returns
 returns c =
-    let a = c.before.args in
-    let e = at a.table.now a.b c.before.requires (search rules) in
+    let a = c.args in
+    let e = at a.table.now a.b c.requires (search rules) in
     (e, omega (arith, class_small a.b))
 
 pub class_of_spec : {M : Type 1} → statement M

@@ -7,7 +7,7 @@ use Rattle.read_form.proofs.kind_of_code.Tie as tie
 
 last : tie.Need-returns-in_default
 last c =
-    let q = c.before.args.state in
+    let q = c.args.state in
     let r = c.in_default.rest in
     simp (ne_eqb q 0 r.0.0.0.0.1, ne_eqb q 1 r.0.0.0.1, ne_eqb q 2 r.0.0.1, ne_eqb q 3 r.0.1, ne_eqb q 4 r.1)
 

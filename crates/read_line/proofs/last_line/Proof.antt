@@ -28,7 +28,7 @@ module _ (c : tie.After-kind_of_code-kind) where
       let t = begun.requires.2 in
       let l = drop a.at a.text.now in
       let line = rest_line a.text.now a.at begun.requires.0 in
-      let end = c.before.next_state-end.ensures ∙ ap₂ (λ g q. entry_of g q (class_of line_feed)) t.is_grid (c.before.before.run-state.ensures.1 h t) in
+      let end = c.next_state-end.ensures ∙ ap₂ (λ g q. entry_of g q (class_of line_feed)) t.is_grid (c.run-state.ensures.1 h t) in
       c.kind_of_code-kind.ensures ∙ ap kind_of_code (end ∙ grid_reads h l (ap feedless (sym line) ∙ first_feedless l)) ∙ kind_back (kind_of h l)
 
   whole : let a = begun.args in take (length a.text.now - a.at) (drop a.at a.text.now) ≡ drop a.at a.text.now
@@ -37,9 +37,9 @@ module _ (c : tie.After-kind_of_code-kind) where
 pub last_line_spec : {M : Type 1} → statement M
 last_line_spec = tie.close (tie.spec (λ c κs. search rules) (λ c κs. search rules) (λ c κs. search rules) (λ c. search rules) (λ c. search rules)
     (λ c. search rules)
-    (λ c κs e. let k = c.before in
-    let a = (begun k).args in
-    omega (arith, ap length (whole k), note_bytes a.house (drop a.at a.text.now) (sym (kind_is k) ∙ e)))
-    (λ c. let k = c.before.before in
-    let a = (begun k).args in
-    ap Refused (c.unended.ensures ∙ ap₂ unended_fault (kind_is k) (whole k)) ∙ line_unended a.house (drop a.at a.text.now)))
+    (λ c κs e. let k = c in
+    let a = (begun k.before).args in
+    omega (arith, ap length (whole k.before), note_bytes a.house (drop a.at a.text.now) (sym (kind_is k.before) ∙ e)))
+    (λ c. let k = c in
+    let a = (begun k.before.before).args in
+    ap Refused (c.unended.ensures ∙ ap₂ unended_fault (kind_is k.before.before) (whole k.before.before)) ∙ line_unended a.house (drop a.at a.text.now)))

@@ -18,23 +18,23 @@ decreases-loop text n₀ n = n
 
 loop-again : tie.Need-loop-n-preserved invariant-loop decreases-loop
 loop-again c =
-    let l = c.before.before.before.loop-n in
-    let t = c.before.before.before.before.args.text.now in
+    let l = c.loop-n in
+    let t = c.args.text.now in
     let e : suc (l.n - 1) ≡ l.n = omega arith in
     (omega arith, sym (whole_other t (l.n - 1) (omega arith) (ne_eqb _ _ c.if-text-n-eq10.false)) ∙ ap (λ n. whole_lines (take n t)) e ∙ l.invariant.1)
 
 returns-2 : tie.Need-returns-then-text-n-eq10 invariant-loop decreases-loop
 returns-2 c =
-    let l = c.before.before.before.loop-n in
-    let t = c.before.before.before.before.args.text.now in
+    let l = c.loop-n in
+    let t = c.args.text.now in
     let e : suc (l.n - 1) ≡ l.n = omega arith in
     sym e ∙ sym (whole_feed t (l.n - 1) (omega arith) (eq-eqb _ _ c.if-text-n-eq10.true)) ∙ ap (λ n. whole_lines (take n t)) e ∙ l.invariant.1
 
 returns : tie.Need-returns-after-loop-n invariant-loop decreases-loop
 unfolding whole_lines
 returns c =
-    let l = c.before.loop-n in
-    let t = c.before.before.args.text.now in
+    let l = c.loop-n in
+    let t = c.args.text.now in
     let e : l.n ≡ 0 = omega arith in
     e ∙ ap (λ n. whole_lines (take n t)) (sym e) ∙ l.invariant.1
 

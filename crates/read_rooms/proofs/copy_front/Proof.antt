@@ -10,8 +10,8 @@ use Rattle.read_rooms.proofs.copy_front.Tie as tie
 
 returns : tie.Need-returns
 returns c =
-    let call = c.before.before in
-    let a = call.before.before.before.before.before.args in
+    let call = c in
+    let a = call.args in
     call.copy_list.ensures ∙ ap (λ (k : ℕ). on_front (take k a.array.now) a.room-1.now) (sub-zero a.n)
 
 pub copy_front_spec : {M : Type 1} → statement M

@@ -28,13 +28,13 @@ call_6 c = c.before.before.before.before
 
 returns : tie.Need-returns
 returns c =
-    let s₆ = c.before.before in
-    let s₅ = s₆.before.before.before.before in
-    let s₄ = s₅.before.before.before.before in
-    let s₃ = s₄.before.before.before.before in
-    let s₂ = s₃.before.before.before.before in
-    let s₁ = s₂.before.before.before.before in
-    let s₀ = s₁.before.before.before.before in
+    let s₆ = c in
+    let s₅ = s₆ in
+    let s₄ = s₅ in
+    let s₃ = s₄ in
+    let s₂ = s₃ in
+    let s₁ = s₂ in
+    let s₀ = s₁ in
     rooms_same s₀.copy_front.ensures s₁.copy_front-2.ensures s₂.copy_front-3.ensures s₃.copy_front-4.ensures s₄.copy_front-5.ensures
     s₅.copy_front-6.ensures s₆.copy_front-7.ensures
 

@@ -18,18 +18,18 @@ abbrev decreases-loop : tie.decreases-loop-i
 decreases-loop text at grid table state₀ i₀ state i = length text - i
 
 -- the state that follows is the grid's
-next : (c : tie.After-next_state-state invariant-loop decreases-loop) → let l = c.before.before.before in
-    let a = l.before.before.args in
+next : (c : tie.After-next_state-state invariant-loop decreases-loop) → let l = c in
+    let a = l.args in
     (h : House) → Tables h a.grid.now a.table.now → c.next_state-state.result ≡ next_of h l.loop-i.state (class_of (get_or a.text.now l.loop-i.i 0))
 next c h t =
-    let l = c.before.before.before in
-    c.next_state-state.ensures ∙ ap (λ g. entry_of g l.loop-i.state (class_of (get_or l.before.before.args.text.now l.loop-i.i 0))) t.is_grid
+    let l = c in
+    c.next_state-state.ensures ∙ ap (λ g. entry_of g l.loop-i.state (class_of (get_or l.args.text.now l.loop-i.i 0))) t.is_grid
 
 again : tie.Need-loop-i-preserved invariant-loop decreases-loop
 again c =
-    let l = c.before.before.before in
-    let z = l.before.before in
-    let s = c.before.before.loop-i-test.true in
+    let l = c in
+    let z = l in
+    let s = c.loop-i-test.true in
     let p = z.requires.1 in (
       omega arith,
       subst (λ q. q < state_count) (sym (next c p.0 p.1))
@@ -38,8 +38,8 @@ again c =
     )
 
 pub run_spec : {M : Type 1} → statement M
-run_spec = tie.close (tie.spec invariant-loop decreases-loop (λ c. (c.before.requires.0, start_inside.1, λ h t. refl))
-    (λ c. omega arith) (λ c κs. (c.before.before.before.before.requires.1, c.before.before.loop-i.invariant.1))
+run_spec = tie.close (tie.spec invariant-loop decreases-loop (λ c. (c.requires.0, start_inside.1, λ h t. refl))
+    (λ c. omega arith) (λ c κs. (c.requires.1, c.loop-i.invariant.1))
     (λ c. omega arith) (λ c. omega arith) again
-    (λ c. let l = c.before in
+    (λ c. let l = c in
     (l.loop-i.invariant.1, λ h t. sym (run_done h _ _ _ c.loop-i-test.false) ∙ l.loop-i.invariant.2 h t)))

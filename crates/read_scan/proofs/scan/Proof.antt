@@ -33,21 +33,21 @@ abbrev begun : tie.At-loop-stop invariant-loop decreases-loop → tie.Start inva
 begun c = c.before.before
 
 -- the number at a stop that is not the line feed
-number : (c : tie.Else-stop-lt-ENDS invariant-loop decreases-loop) → let s = c.before.before in
-    let a = (begun (head s)).args in
+number : (c : tie.Else-stop-lt-ENDS invariant-loop decreases-loop) → let s = c in
+    let a = (begun (head s.before.before)).args in
     (h : House) → Tables h a.grid.now a.table.now
-    → AtNumber h a.text.now (head s).loop-stop.i (head s).loop-stop.state s.to_stop-stop.result.place s.to_stop-stop.result.state
-number c h t = (c.before.before.to_stop-stop.ensures h t).at_number c.if-stop-lt-ENDS.false
+    → AtNumber h a.text.now (head s.before.before).loop-stop.i (head s.before.before).loop-stop.state s.to_stop-stop.result.place s.to_stop-stop.result.state
+number c h t = (c.to_stop-stop.ensures h t).at_number c.if-stop-lt-ENDS.false
 
 -- one of the houses whose tables they are
-some_number : (c : tie.Else-stop-lt-ENDS invariant-loop decreases-loop) → let s = c.before.before in
-    let a = (begun (head s)).args in
-    AtNumber (begun (head s)).pre.1.0 a.text.now (head s).loop-stop.i (head s).loop-stop.state s.to_stop-stop.result.place s.to_stop-stop.result.state
+some_number : (c : tie.Else-stop-lt-ENDS invariant-loop decreases-loop) → let s = c in
+    let a = (begun (head s.before.before)).args in
+    AtNumber (begun (head s.before.before)).pre.1.0 a.text.now (head s.before.before).loop-stop.i (head s.before.before).loop-stop.state s.to_stop-stop.result.place s.to_stop-stop.result.state
 some_number c = let p = (begun (head c.before.before)).pre.1 in number c p.0 p.1
 
-number_place : (c : tie.Else-stop-lt-ENDS invariant-loop decreases-loop) → c.before.before.to_stop-stop.result.state - ends < stops - ends
+number_place : (c : tie.Else-stop-lt-ENDS invariant-loop decreases-loop) → c.to_stop-stop.result.state - ends < stops - ends
 number_place c =
-    let r = c.before.before.to_stop-stop.result.state in
+    let r = c.to_stop-stop.result.state in
     let n = number_inside r (some_number c).begun in
     omega (arith, n.0, n.1)
 
@@ -103,16 +103,16 @@ module _ (c : tie.After-struct_known-in-loop-stop-2-1 invariant-loop decreases-l
 
 pub scan_spec : {M : Type 1} → statement M
 scan_spec = tie.close (tie.spec invariant-loop decreases-loop
-    (λ c. let z = c.before in
+    (λ c. let z = c in
     (resumes_start _ _ z.requires.0, z.requires.2, λ h t. record { end = refl; run = refl; gathered = refl }))
     (λ c κs. (c.loop-stop.invariant.0, (begun c).requires.1)) (λ c κs. search rules)
-    (λ c. let s = c.before.before.before in
-    let l = (head s).loop-stop in (
-      λ h t. gathered_all h _ _ _ _ _ _ _ (l.invariant.2 h t) _ _ _ ((s.to_stop-stop.ensures h t).at_feed c.before.if-stop-lt-ENDS.true) c.kind_of_code.ensures,
+    (λ c. let s = c in
+    let l = (head s.before.before.before).loop-stop in (
+      λ h t. gathered_all h _ _ _ _ _ _ _ (l.invariant.2 h t) _ _ _ ((s.to_stop-stop.ensures h t).at_feed c.if-stop-lt-ENDS.true) c.kind_of_code.ensures,
       l.invariant.1,
     ))
     (λ c κs. let n = some_number c in (n.feed, n.first_digit))
-    (λ c. omega (arith, number_place c.before.before)) (λ c. number_place c.before.before)
+    (λ c. omega (arith, number_place c.before.before)) (λ c. number_place c.before.before.before)
     (λ c. less c.before)
     (λ c. let p = (at_head c.before).loop-stop.plain in again c.before false (sym (ap (λ b. p && b) (not-true _ c.if-not-number.true) ∙ and-false p)))
     (λ c. less c.before)

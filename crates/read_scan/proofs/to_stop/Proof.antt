@@ -21,27 +21,27 @@ follows : (g : List (List ℕ)) (k : List ℕ) (q b r : ℕ) → r ≡ entry_of 
 follows g k q b r e h t = e ∙ ap (λ f. entry_of f q (class_of b)) t.is_grid
 
 -- one of the houses
-on : (c : tie.In-loop-state invariant-loop decreases-loop) → let z = c.before.before.before.before.before in
-    Scanning z.requires.1.0 z.args.text.now z.args.at z.args.from c.before.loop-state.i c.before.loop-state.state
-on c = let p = c.before.before.before.before.before.requires.1 in (c.before.loop-state.invariant.1 p.0 p.1).on c.loop-state-test.true
+on : (c : tie.In-loop-state invariant-loop decreases-loop) → let z = c in
+    Scanning z.requires.1.0 z.args.text.now z.args.at z.args.from c.loop-state.i c.loop-state.state
+on c = let p = c.requires.1 in (c.loop-state.invariant.1 p.0 p.1).on c.loop-state-test.true
 
-inside : (c : tie.In-loop-state invariant-loop decreases-loop) → c.before.loop-state.i < length c.before.before.before.before.before.args.text.now
+inside : (c : tie.In-loop-state invariant-loop decreases-loop) → c.loop-state.i < length c.args.text.now
 inside c = feed_here _ _ (on c).resumes.feed
 
 begins : (c : tie.Start invariant-loop decreases-loop) → c.args.at < length c.args.text.now
 begins c = feed_here _ _ c.requires.0.feed
 
 pub to_stop_spec : {M : Type 1} → statement M
-to_stop_spec = tie.close (tie.spec invariant-loop decreases-loop (λ c. begins c.before.before) (λ c κs. let z = c.before.before in (z.requires.1, z.requires.0.known))
+to_stop_spec = tie.close (tie.spec invariant-loop decreases-loop (λ c. begins c.before.before) (λ c κs. let z = c in (z.requires.1, z.requires.0.known))
     (λ c. omega (arith, begins c.before.before.before))
-    (λ c. let z = c.before.before.before in (
+    (λ c. let z = c in (
       omega arith,
       λ h t. past_byte h _ _ _ _ _ _ (scanning_start h _ _ _ z.requires.0) (follows _ _ _ _ _ c.next_state-state.ensures h t),
     ))
-    (λ c. inside c.before) (λ c κs. (c.before.before.before.before.before.before.requires.1, (on c.before).resumes.known))
+    (λ c. inside c.before) (λ c κs. (c.requires.1, (on c.before).resumes.known))
     (λ c. omega (arith, inside c.before.before)) (λ c. omega (arith, inside c.before.before))
-    (λ c. let l = c.before.before.before in (
+    (λ c. let l = c in (
       omega arith,
-      λ h t. past_byte h _ _ _ _ _ _ ((l.loop-state.invariant.1 h t).on c.before.before.loop-state-test.true) (follows _ _ _ _ _ c.next_state-state-in-loop-state.ensures h t),
+      λ h t. past_byte h _ _ _ _ _ _ ((l.loop-state.invariant.1 h t).on c.loop-state-test.true) (follows _ _ _ _ _ c.next_state-state-in-loop-state.ensures h t),
     ))
-    (λ c. omega (arith, c.before.loop-state.invariant.0)) (λ c h t. (c.before.loop-state.invariant.1 h t).stopped c.loop-state-test.false))
+    (λ c. omega (arith, c.loop-state.invariant.0)) (λ c h t. (c.loop-state.invariant.1 h t).stopped c.loop-state-test.false))

@@ -22,34 +22,34 @@ fitted c = c.before.before.before.before.before
 
 -- what they say
 window : (c : tie.Else-not-is_window) → let a = (start c).args in rising 1 a.s.span (last_place a.house a.s.span) a.first a.last ≡ true
-window c = sym c.before.is_window_lem.ensures ∙ not-false _ c.if-not-is_window.false
+window c = sym c.is_window_lem.ensures ∙ not-false _ c.if-not-is_window.false
 
 order : (c : tie.Else-not-is_window) → eqb (start c).args.s.span 0 ≡ false
 order c = let a = (start c).args in window_span a.s.span (last_place a.house a.s.span) a.first a.last (window c)
 
 new : (c : tie.Else-not-is_new) → let a = (start (fitted c)).args in is_new (take a.s.units a.numbers.now) a.loader ≡ true
-new c = sym c.before.is_new.ensures ∙ not-false _ c.if-not-is_new.false
+new c = sym c.is_new.ensures ∙ not-false _ c.if-not-is_new.false
 
 returns : tie.Need-returns-then-not-is_window
 returns c =
-    let t = c.before in
-    let a = t.before.before.before.before.before.before.before.args in
-    let no = sym t.before.is_window_lem.ensures ∙ not-true _ t.if-not-is_window.true in
+    let t = c in
+    let a = t.args in
+    let no = sym t.is_window_lem.ensures ∙ not-true _ t.if-not-is_window.true in
     (ap No c.window_fault.ensures ∙ no_window_lem a.house a.s.span a.first a.last _ no, (tt, (refl, (refl, refl))))
 
 returns-2 : tie.Need-returns-then-not-is_new
 returns-2 c =
-    let d = c.before.before.before.before.before in
-    (simp (order d, window d, sym c.before.is_new.ensures ∙ not-true _ c.if-not-is_new.true), (tt, (refl, (refl, refl))))
+    let d = c in
+    (simp (order d.before.before, window d.before.before, sym c.is_new.ensures ∙ not-true _ c.if-not-is_new.true), (tt, (refl, (refl, refl))))
 
 returns-3 : tie.Need-returns-then-n-lt-MAX_UNITS
 returns-3 c =
-    let k = c.before.before.before.before.link.ensures in
-    let t = c.before.before.before.before.before.before.before in
-    let d = fitted t.before in
+    let k = c.link.ensures in
+    let t = c in
+    let d = fitted t.before.before.before.before.before.before.before.before in
     let z = start d in
     let a = z.args in (
-      simp (order d, window d, new t.before, lt-ltb _ _ t.if-n-lt-MAX_UNITS.true),
+      simp (order d, window d, new t.before.before.before.before.before.before.before.before, lt-ltb _ _ t.if-n-lt-MAX_UNITS.true),
       (
         unit_chained a.s a.numbers.now a.heads-1.now a.nexts-1.now _ _ a.loader z.requires.0 t.if-n-lt-MAX_UNITS.true k.0 k.1,
         (refl, (refl, refl)),

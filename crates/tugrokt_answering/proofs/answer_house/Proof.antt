@@ -26,10 +26,10 @@ module _ (c : tie.After-answer-length) where
   short : length bytes ≤ max_page
   short = omega (arith, c.answer-length.ensures.written.moved, answer_short _ _ _ _ _ _ c.answer-length.ensures (length-replicate {A = ℕ} max_page 0))
 
-  part : take c.answer-length.result c.answer-length.new.1.1.1.0 ≡ bytes
+  part : take c.answer-length.result c.answer-length.new.page ≡ bytes
   part = own_part max_page short c.answer-length.ensures.written
 
-  long : c.answer-length.result ≤ length c.answer-length.new.1.1.1.0
+  long : c.answer-length.result ≤ length c.answer-length.new.page
   long = own_long max_page short c.answer-length.ensures.written
 
   size : c.answer-length.result ≡ length bytes
@@ -40,22 +40,22 @@ write_requires c κs =
     let p : tie.Then-holds = c.before.before in
     let o : tie.After-answer-length = p.before.before in
     let a = (start o).args in
-    rw (part o) (room a.page-1.now a.place (bytes o) _ (size o) _ p.before.holds.ensures p.if-holds.true)
+    rw (part o) (room a.page-1.now a.place (bytes o) _ (size o) _ p.holds.ensures p.if-holds.true)
 
 returns : tie.Need-returns-then-holds
 returns c =
     let p : tie.Then-holds = c.before.before.before.before.before in
     let o : tie.After-answer-length = p.before.before in
     let a = (start o).args in
-    let h = held a.page-1.now a.place (bytes o) _ (size o) _ p.before.holds.ensures p.if-holds.true _ _
-    (rw (part o) at c.before.before.write-next.ensures) in
+    let h = held a.page-1.now a.place (bytes o) _ (size o) _ p.holds.ensures p.if-holds.true _ _
+    (rw (part o) at c.write-next.ensures) in
     record { bytes = bytes o; answers = o.answer-length.ensures.answers; told = ap (writing_of a.place) h.0; page_left = h.1 }
 
 returns-2 : tie.Need-returns-else-holds
 returns-2 c =
     let o : tie.After-answer-length = c.before.before in
     let a = (start o).args in
-    let h = not_held a.page-1.now a.place (bytes o) _ (size o) _ c.before.holds.ensures c.if-holds.false in
+    let h = not_held a.page-1.now a.place (bytes o) _ (size o) _ c.holds.ensures c.if-holds.false in
     record { bytes = bytes o; answers = o.answer-length.ensures.answers; told = ap (writing_of a.place) h.0; page_left = h.1 }
 
 pub answer_house_spec : {M : Type 1} → statement M

@@ -20,4 +20,4 @@ found_rises one two k found e = subst Rises (sym e) (rises one two k (found_line
 
 pub line_of_spec : {M : Type 1} → statement M
 line_of_spec = tie.close (tie.spec (λ c κs. tt) (λ c κs. found_rises _ _ _ _ c.find_line-found.ensures)
-    (λ c. record { told = c.Numbers-of.ensures ∙ ap line_of c.before.find_line-found.ensures }))
+    (λ c. record { told = c.Numbers-of.ensures ∙ ap line_of c.find_line-found.ensures }))

@@ -6,15 +6,15 @@ use Rattle.tugrokt_merging.proofs.merge.Tie as tie
 
 returns : tie.Need-returns
 returns c =
-    let called = c.before.before.before.before.before.before.before.before.before.before.before.before.before.before.before.merge-reply in
+    let called = c.merge-reply in
     record { told = c.Numbers-of.ensures ∙ ap reading_of called.ensures.0; left = called.ensures.1 }
 
 pub merge_spec : {M : Type 1} → statement M
 merge_spec = tie.close (tie.spec (λ c κs. tt) (λ c κs. tt)
-    (λ c. c.before.before.before.before.before.before.before.before.before.before.before.before.before.before.loader-1.given)
-    (λ c. c.before.before.before.before.before.before.before.before.before.before.before.before.first-1.given)
-    (λ c. c.before.before.before.before.before.before.before.before.before.before.last-1.given)
-    (λ c. c.before.before.before.before.before.before.before.before.from-1.given)
-    (λ c. c.before.before.before.before.before.before.to-1.given)
-    (λ c. c.before.before.before.before.low-1.given)
-    (λ c. c.before.before.high-1.given) returns)
+    (λ c. c.loader-1.given)
+    (λ c. c.first-1.given)
+    (λ c. c.last-1.given)
+    (λ c. c.from-1.given)
+    (λ c. c.to-1.given)
+    (λ c. c.low-1.given)
+    (λ c. c.high-1.given) returns)

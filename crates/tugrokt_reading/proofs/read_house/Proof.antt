@@ -6,15 +6,15 @@ use Rattle.tugrokt_reading.proofs.read_house.Tie as tie
 
 returns : tie.Need-returns
 returns c =
-    let called = c.before.before.before.before.before.before.before.before.before.before.before.before.before.before.before.read-reply in
+    let called = c.read-reply in
     record { told = c.Numbers-of.ensures ∙ ap reading_of called.ensures.0; left = called.ensures.1 }
 
 pub read_house_spec : {M : Type 1} → statement M
 read_house_spec = tie.close (tie.spec (λ c κs. tt) (λ c κs. tt)
-    (λ c. c.before.before.before.before.before.before.before.before.before.before.before.before.before.before.loader-1.given)
-    (λ c. c.before.before.before.before.before.before.before.before.before.before.before.before.first-1.given)
-    (λ c. c.before.before.before.before.before.before.before.before.before.before.last-1.given)
-    (λ c. c.before.before.before.before.before.before.before.before.from-1.given)
-    (λ c. c.before.before.before.before.before.before.to-1.given)
-    (λ c. c.before.before.before.before.low-1.given)
-    (λ c. c.before.before.high-1.given) returns)
+    (λ c. c.loader-1.given)
+    (λ c. c.first-1.given)
+    (λ c. c.last-1.given)
+    (λ c. c.from-1.given)
+    (λ c. c.to-1.given)
+    (λ c. c.low-1.given)
+    (λ c. c.high-1.given) returns)

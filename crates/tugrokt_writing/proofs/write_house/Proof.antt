@@ -6,8 +6,8 @@ use Rattle.tugrokt_writing.proofs.write_house.Tie as tie
 
 returns : tie.Need-returns
 returns c =
-    let called = c.before.before.before.write_sheet-written in
+    let called = c.write_sheet-written in
     record { told = c.Numbers-of.ensures ∙ ap (writing_of _) called.ensures.0; page_left = called.ensures.1 }
 
 pub write_house_spec : {M : Type 1} → statement M
-write_house_spec = tie.close (tie.spec (λ c κs. tt) (λ c κs. tt) (λ c. c.before.before.page-1.given) returns)
+write_house_spec = tie.close (tie.spec (λ c κs. tt) (λ c κs. tt) (λ c. c.page-1.given) returns)

@@ -16,13 +16,13 @@ returns : tie.Need-returns-in-No
 returns c =
     let d : tie.After-ask_lists-asked = c.before.before.before in
     let s : tie.Start = d.before.before.before.before.before.before.before.before in
-    asked_lists s.args.house (lists s) _ d.ask_lists-asked.ensures _ _ (ap verdict_of c.before.asked-1.given.1)
+    asked_lists s.args.house (lists s) _ d.ask_lists-asked.ensures _ _ (ap verdict_of c.asked-1.given.1)
 
 returns-2 : tie.Need-returns-in-Yes
 returns-2 c =
     let d : tie.After-ask_lists-asked = c.before.before.before in
     let s : tie.Start = d.before.before.before.before.before.before.before.before in
-    asked_house s.args.house (lists s) _ d.ask_lists-asked.ensures (ap verdict_of c.before.enum_told-1.given.1) _ c.ask_house.ensures
+    asked_house s.args.house (lists s) _ d.ask_lists-asked.ensures (ap verdict_of c.enum_told-1.given.1) _ c.ask_house.ensures
 
 pub ask_spec : {M : Type 1} → statement M
 ask_spec = tie.close (tie.spec (λ c κs. search rules) (λ c. search rules) (λ c. search rules) (λ c κs. search rules) returns returns-2)

@@ -31,10 +31,10 @@ start c = c.before.before.before.before.before.before.before.before.before.befor
 
 -- the front of that array is the text
 module _ (c : tie.After-put_sheet-length) where
-  part : take c.put_sheet-length.result c.put_sheet-length.new.1.0 ≡ bytes (start c)
+  part : take c.put_sheet-length.result c.put_sheet-length.new.page ≡ bytes (start c)
   part = own_part max_text (short (start c)) c.put_sheet-length.ensures
 
-  long : c.put_sheet-length.result ≤ length c.put_sheet-length.new.1.0
+  long : c.put_sheet-length.result ≤ length c.put_sheet-length.new.page
   long = own_long max_text (short (start c)) c.put_sheet-length.ensures
 
   size : c.put_sheet-length.result ≡ length (bytes (start c))
@@ -48,21 +48,21 @@ write_requires c κs =
     let p : tie.Then-holds = c.before.before in
     let o : tie.After-put_sheet-length = p.before.before.before in
     let a = (start o).args in
-    rw (part o) (room a.page-1.now a.at (bytes (start o)) _ (size o) _ p.before.holds.ensures p.if-holds.true)
+    rw (part o) (room a.page-1.now a.at (bytes (start o)) _ (size o) _ p.holds.ensures p.if-holds.true)
 
 returns : tie.Need-returns-then-holds
 returns c =
     let p : tie.Then-holds = c.before.before.before.before.before in
     let o : tie.After-put_sheet-length = p.before.before.before in
     let a = (start o).args in
-    held a.page-1.now a.at (bytes (start o)) _ (size o) _ p.before.holds.ensures p.if-holds.true _ _
-    (rw (part o) at c.before.before.write-next.ensures)
+    held a.page-1.now a.at (bytes (start o)) _ (size o) _ p.holds.ensures p.if-holds.true _ _
+    (rw (part o) at c.write-next.ensures)
 
 returns-2 : tie.Need-returns-else-holds
 returns-2 c =
     let o : tie.After-put_sheet-length = c.before.before.before in
     let a = (start o).args in
-    not_held a.page-1.now a.at (bytes (start o)) _ (size o) _ c.before.holds.ensures c.if-holds.false
+    not_held a.page-1.now a.at (bytes (start o)) _ (size o) _ c.holds.ensures c.if-holds.false
 
 pub write_copy_spec : {M : Type 1} → statement M
 write_copy_spec = tie.close (tie.spec (λ c. search rules) put_sheet_requires (λ c κs. search rules)

@@ -35,7 +35,7 @@ returns c =
     let s = start c.before.before.before in
     let a = s.args in
     let yes = sym (le-leb (a.at + length (bytes s)) (length a.page.now) (room s).fits) in
-    held a.page.now a.at (bytes s) (length (bytes s)) refl true yes refl _ _ c.before.before.put_sheet-next.ensures
+    held a.page.now a.at (bytes s) (length (bytes s)) refl true yes refl _ _ c.put_sheet-next.ensures
 
 pub write_in_place_spec : {M : Type 1} → statement M
 write_in_place_spec = tie.close (tie.spec (λ c κs. ((start c).requires.0, room (start c))) (λ c. search rules) returns)

@@ -20,20 +20,20 @@ write_text_requires : tie.Need-write_text-requires
 write_text_requires c κs =
     let d : tie.After-ask-asked = c.before.before.before in
     let s = start d in
-    sheet_listed s.args.house (lists s) _ d.ask-asked.ensures (ap verdict_of c.before.enum_told-1.given.1)
+    sheet_listed s.args.house (lists s) _ d.ask-asked.ensures (ap verdict_of c.enum_told-1.given.1)
 
 returns : tie.Need-returns-in-No
 returns c =
     let d : tie.After-ask-asked = c.before.before.before in
     let s = start d in
-    refused_lists s.args.house (lists s) _ d.ask-asked.ensures s.args.page.now s.args.at _ _ (ap verdict_of c.before.asked-1.given.1)
+    refused_lists s.args.house (lists s) _ d.ask-asked.ensures s.args.page.now s.args.at _ _ (ap verdict_of c.asked-1.given.1)
 
 returns-2 : tie.Need-returns-in-Yes
 returns-2 c =
     let d : tie.After-ask-asked = c.before.before.before.before.before.before in
     let s = start d in
     passed_lists s.args.house (lists s) _ d.ask-asked.ensures s.args.page.now s.args.at
-    (ap verdict_of c.before.before.before.before.enum_told-1.given.1) _ _ c.before.before.write_text.ensures
+    (ap verdict_of c.enum_told-1.given.1) _ _ c.write_text.ensures
 
 pub write_sheet_spec : {M : Type 1} → statement M
 write_sheet_spec = tie.close (tie.spec (λ c κs. search rules) (λ c. search rules) (λ c. search rules) write_text_requires returns (λ c. search rules) returns-2)

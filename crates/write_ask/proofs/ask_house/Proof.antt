@@ -17,24 +17,24 @@ abbrev verdict : tie.Start → House → Verdict
 verdict c house = let a = c.args in first_no (end_questions house a.span a.last.now a.low.now)
 
 -- past a yes to 17, question 18 decides
-past_carried : (c : tie.Else-carried-ne0) → let s = c.before.before.before.before.before.before in
-    verdict s Partner ≡ first_no (ask_each 18 (λ k. eqb k 0) s.args.low.now ∷ [])
+past_carried : (c : tie.Else-carried-ne0) → let s = c in
+    verdict s.before.before.before.before.before.before Partner ≡ first_no (ask_each 18 (λ k. eqb k 0) s.args.low.now ∷ [])
 past_carried c =
-    let a = c.before.before.before.before.before.before.args in
-    each_yes 17 (λ t. leb t a.span) a.last.now _ c.before.first_past-carried.ensures _ (eq-eqb _ _ c.if-carried-ne0.false)
+    let a = c.args in
+    each_yes 17 (λ t. leb t a.span) a.last.now _ c.first_past-carried.ensures _ (eq-eqb _ _ c.if-carried-ne0.false)
 
 returns : tie.Need-returns-then-carried-ne0
 returns c =
-    let s = c.before.before.before.before.before.before in
+    let s = c in
     let a = s.args in
-    sym (ap (verdict s) c.before.before.enum_told-in-Partner-1.given.1
-    ∙ each_no 17 (λ t. leb t a.span) a.last.now _ c.before.first_past-carried.ensures _ (ne_eqb _ _ c.if-carried-ne0.true))
+    sym (ap (verdict s.before.before.before.before.before.before) c.enum_told-in-Partner-1.given.1
+    ∙ each_no 17 (λ t. leb t a.span) a.last.now _ c.first_past-carried.ensures _ (ne_eqb _ _ c.if-carried-ne0.true))
 
 returns-2 : tie.Need-returns-then-with_low-ne0
 returns-2 c =
-    let s = c.before.before.before.before.before.before.before.before in
-    sym (ap (verdict s) c.before.before.before.before.enum_told-in-Partner-1.given.1 ∙ past_carried c.before.before
-    ∙ each_no 18 (λ k. eqb k 0) s.args.low.now _ (c.before.first_past-with_low.ensures ∙ fault_past s.args.low.now) [] (ne_eqb _ _ c.if-with_low-ne0.true))
+    let s = c in
+    sym (ap (verdict s.before.before.before.before.before.before.before.before) c.enum_told-in-Partner-1.given.1 ∙ past_carried c.before.before
+    ∙ each_no 18 (λ k. eqb k 0) s.args.low.now _ (c.first_past-with_low.ensures ∙ fault_past s.args.low.now) [] (ne_eqb _ _ c.if-with_low-ne0.true))
 
 returns-3 : tie.Need-returns-in-Ours
 unfolding first_no
@@ -43,9 +43,9 @@ returns-3 c = sym (ap (verdict c.before.before.before.before) c.enum_told-1.give
 returns-4 : tie.Need-returns-else-with_low-ne0
 unfolding first_no
 returns-4 c =
-    let s = c.before.before.before.before.before.before.before.before in
-    sym (ap (verdict s) c.before.before.before.before.enum_told-in-Partner-1.given.1 ∙ past_carried c.before.before
-    ∙ each_yes 18 (λ k. eqb k 0) s.args.low.now _ (c.before.first_past-with_low.ensures ∙ fault_past s.args.low.now) [] (eq-eqb _ _ c.if-with_low-ne0.false))
+    let s = c in
+    sym (ap (verdict s.before.before.before.before.before.before.before.before) c.enum_told-in-Partner-1.given.1 ∙ past_carried c.before.before
+    ∙ each_yes 18 (λ k. eqb k 0) s.args.low.now _ (c.first_past-with_low.ensures ∙ fault_past s.args.low.now) [] (eq-eqb _ _ c.if-with_low-ne0.false))
 
 pub ask_house_spec : {M : Type 1} → statement M
 ask_house_spec = tie.close (tie.spec (λ c. search rules) (λ c. search rules) (λ c κs. search rules) returns (λ c κs. search rules) returns-2 returns-3

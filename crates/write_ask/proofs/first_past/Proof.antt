@@ -23,23 +23,23 @@ passes c = (λ x. leb x c.args.most)
 
 loop-again : tie.Need-loop-j-preserved invariant-loop decreases-loop
 loop-again c =
-    let s = c.before.before.before.before in
-    let l = c.before.before.before.loop-j in
-    (omega arith, l.invariant.1 ∙ fault_next (passes s) 0 s.args.xs.now l.j (omega arith) (le-leb _ _ c.if-xs-j.true))
+    let s = c in
+    let l = c.loop-j in
+    (omega arith, l.invariant.1 ∙ fault_next (passes s.before.before.before.before) 0 s.args.xs.now l.j (omega arith) (le-leb _ _ c.if-xs-j.true))
 
 returns : tie.Need-returns-else-xs-j invariant-loop decreases-loop
 returns c =
-    let s = c.before.before.before.before in
-    let l = c.before.before.before.loop-j in
-    sym (l.invariant.1 ∙ fault_found (passes s) 0 s.args.xs.now l.j (omega arith) (lt-leb _ _ c.if-xs-j.false))
+    let s = c in
+    let l = c.loop-j in
+    sym (l.invariant.1 ∙ fault_found (passes s.before.before.before.before) 0 s.args.xs.now l.j (omega arith) (lt-leb _ _ c.if-xs-j.false))
 
 returns-2 : tie.Need-returns invariant-loop decreases-loop
 returns-2 c =
-    let s = c.before.before in
-    let l = c.before.loop-j in
-    sym (l.invariant.1 ∙ fault_none (passes s) 0 s.args.xs.now l.j (omega arith))
+    let s = c in
+    let l = c.loop-j in
+    sym (l.invariant.1 ∙ fault_none (passes s.before.before) 0 s.args.xs.now l.j (omega arith))
 
 pub first_past_spec : {M : Type 1} → statement M
 first_past_spec = tie.close (tie.spec invariant-loop decreases-loop (λ c. (omega arith, refl)) (λ c. omega arith) (λ c. omega arith)
-    (λ c. omega (arith, c.shared_slice_known-1.given c.before.before.loop-j.j)) (λ c. omega arith) (λ c. omega arith)
+    (λ c. omega (arith, c.shared_slice_known-1.given c.loop-j.j)) (λ c. omega arith) (λ c. omega arith)
     loop-again (λ c. omega arith) returns returns-2)

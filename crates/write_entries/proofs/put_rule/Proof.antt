@@ -18,35 +18,35 @@ line c house = let a = c.args in rule_text house (rule_with a.from a.to a.low a.
 put_four_numbers_requires : tie.Need-put_four_numbers-requires
 unfolding rule_text text
 put_four_numbers_requires c κs =
-    let s = c.before.before.before.before.before.before.before.before.before in
-    subst (λ house. Room s.args.page.now s.args.at (line s house)) c.before.before.before.before.before.before.enum_told-1.given.1
+    let s = c in
+    subst (λ house. Room s.args.page.now s.args.at (line s.before.before.before.before.before.before.before.before.before.before.before.before.before.before house)) c.enum_told-1.given.1
     s.requires.1
 
 put_three_numbers_requires : tie.Need-put_three_numbers-requires
 unfolding rule_text text
 put_three_numbers_requires c κs =
-    let s = c.before.before.before.before.before.before.before.before.before in
-    rw c.before.before.hours.ensures
-    (subst (λ house. Room s.args.page.now s.args.at (line s house)) c.before.before.before.before.before.before.enum_told-in-Partner-1.given.1
+    let s = c in
+    rw c.hours.ensures
+    (subst (λ house. Room s.args.page.now s.args.at (line s.before.before.before.before.before.before.before.before.before.before.before.before.before house)) c.enum_told-in-Partner-1.given.1
     s.requires.1)
 
 returns : tie.Need-returns-in-Ours
 unfolding rule_text text
 returns c =
-    let s = c.before.before.before.before.before.before.before.before.before.before.before.before in
-    let put = c.before.before.put_four_numbers in
-    subst (λ house. Written s.args.page.now s.args.at (line s house) put.new.0 put.result)
-    (sym c.before.before.before.before.before.before.before.before.before.enum_told-1.given.1)
+    let s = c in
+    let put = c.put_four_numbers in
+    subst (λ house. Written s.args.page.now s.args.at (line s.before.before.before.before.before.before.before.before.before.before.before.before.before.before.before.before.before house) put.new.page put.result)
+    (sym c.enum_told-1.given.1)
     put.ensures
 
 returns-2 : tie.Need-returns-in-Partner
 unfolding rule_text text
 returns-2 c =
-    let s = c.before.before.before.before.before.before.before.before.before.before.before.before in
-    let put = c.before.before.put_three_numbers in
-    subst (λ house. Written s.args.page.now s.args.at (line s house) put.new.0 put.result)
-    (sym c.before.before.before.before.before.before.before.before.before.enum_told-in-Partner-1.given.1)
-    (rw c.before.before.before.before.before.hours.ensures at put.ensures)
+    let s = c in
+    let put = c.put_three_numbers in
+    subst (λ house. Written s.args.page.now s.args.at (line s.before.before.before.before.before.before.before.before.before.before.before.before.before.before.before.before house) put.new.page put.result)
+    (sym c.enum_told-in-Partner-1.given.1)
+    (rw c.hours.ensures at put.ensures)
 
 pub put_rule_spec : {M : Type 1} → statement M
 unfolding text

@@ -17,31 +17,31 @@ line c house = let a = c.args in span_text house a.span
 put_one_number_requires : tie.Need-put_one_number-requires
 unfolding span_text text
 put_one_number_requires c κs =
-    let s = c.before.before.before.before.before.before in
-    subst (λ house. Room s.args.page.now s.args.at (line s house)) c.before.before.before.enum_told-1.given.1 s.requires
+    let s = c in
+    subst (λ house. Room s.args.page.now s.args.at (line s.before.before.before.before.before.before.before.before house)) c.enum_told-1.given.1 s.requires
 
 put_one_number_requires_2 : tie.Need-put_one_number-requires-in-Partner
 unfolding span_text text
 put_one_number_requires_2 c κs =
-    let s = c.before.before.before.before.before.before in
-    subst (λ house. Room s.args.page.now s.args.at (line s house)) c.before.before.before.enum_told-in-Partner-1.given.1 s.requires
+    let s = c in
+    subst (λ house. Room s.args.page.now s.args.at (line s.before.before.before.before.before.before.before.before house)) c.enum_told-in-Partner-1.given.1 s.requires
 
 returns : tie.Need-returns-in-Ours
 unfolding span_text text
 returns c =
-    let s = c.before.before.before.before.before.before.before.before.before in
-    let put = c.before.before.put_one_number in
-    subst (λ house. Written s.args.page.now s.args.at (line s house) put.new.0 put.result)
-    (sym c.before.before.before.before.before.before.enum_told-1.given.1)
+    let s = c in
+    let put = c.put_one_number in
+    subst (λ house. Written s.args.page.now s.args.at (line s.before.before.before.before.before.before.before.before.before.before.before house) put.new.page put.result)
+    (sym c.enum_told-1.given.1)
     put.ensures
 
 returns-2 : tie.Need-returns-in-Partner
 unfolding span_text text
 returns-2 c =
-    let s = c.before.before.before.before.before.before.before.before.before in
-    let put = c.before.before.put_one_number-in-Partner in
-    subst (λ house. Written s.args.page.now s.args.at (line s house) put.new.0 put.result)
-    (sym c.before.before.before.before.before.before.enum_told-in-Partner-1.given.1)
+    let s = c in
+    let put = c.put_one_number-in-Partner in
+    subst (λ house. Written s.args.page.now s.args.at (line s.before.before.before.before.before.before.before.before.before.before.before house) put.new.page put.result)
+    (sym c.enum_told-in-Partner-1.given.1)
     put.ensures
 
 pub put_span_spec : {M : Type 1} → statement M

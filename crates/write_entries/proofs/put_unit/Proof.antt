@@ -17,33 +17,33 @@ line c house = let a = c.args in unit_text house (unit_with a.loader a.first a.l
 put_own_unit_requires : tie.Need-put_own_unit-requires
 unfolding unit_text
 put_own_unit_requires c κs =
-    let s = c.before.before.before.before in
-    subst (λ house. Room s.args.page.now s.args.at (line s house)) c.before.enum_told-1.given.1 s.requires.1
+    let s = c in
+    subst (λ house. Room s.args.page.now s.args.at (line s.before.before.before.before house)) c.enum_told-1.given.1 s.requires.1
 
 put_job_requires : tie.Need-put_job-requires
 unfolding unit_text
 put_job_requires c κs =
-    let s = c.before.before.before.before.before in
+    let s = c in
     rw c.hours.ensures
-    (subst (λ house. Room s.args.page.now s.args.at (line s house)) c.before.before.enum_told-in-Partner-1.given.1 s.requires.1)
+    (subst (λ house. Room s.args.page.now s.args.at (line s.before.before.before.before.before house)) c.enum_told-in-Partner-1.given.1 s.requires.1)
 
 returns : tie.Need-returns-in-Ours
 unfolding unit_text
 returns c =
-    let s = c.before.before.before.before.before.before.before in
-    let put = c.before.before.put_own_unit in
-    subst (λ house. Written s.args.page.now s.args.at (line s house) put.new.0 put.result)
-    (sym c.before.before.before.before.enum_told-1.given.1)
+    let s = c in
+    let put = c.put_own_unit in
+    subst (λ house. Written s.args.page.now s.args.at (line s.before.before.before.before.before.before.before house) put.new.page put.result)
+    (sym c.enum_told-1.given.1)
     put.ensures
 
 returns-2 : tie.Need-returns-in-Partner
 unfolding unit_text
 returns-2 c =
-    let s = c.before.before.before.before.before.before.before.before in
-    let put = c.before.before.put_job in
-    subst (λ house. Written s.args.page.now s.args.at (line s house) put.new.0 put.result)
-    (sym c.before.before.before.before.before.enum_told-in-Partner-1.given.1)
-    (rw c.before.before.before.hours.ensures at put.ensures)
+    let s = c in
+    let put = c.put_job in
+    subst (λ house. Written s.args.page.now s.args.at (line s.before.before.before.before.before.before.before.before house) put.new.page put.result)
+    (sym c.enum_told-in-Partner-1.given.1)
+    (rw c.hours.ensures at put.ensures)
 
 pub put_unit_spec : {M : Type 1} → statement M
 put_unit_spec = tie.close (tie.spec (λ c. search rules) put_own_unit_requires (λ c. search rules) (λ c κs. search rules) put_job_requires

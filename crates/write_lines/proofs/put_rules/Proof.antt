@@ -42,14 +42,14 @@ rules_length s =
 
 -- the next line is that of rule j
 next : (c : tie.In-loop-j invariant-loop decreases-loop)
-    → (let s = start c.before in let a = s.args in let l = c.before.loop-j in
+    → (let s = start c.before in let a = s.args in let l = c.loop-j in
     Pending a.page.now a.at (rule_texts a.house (rules s)) l.page l.next
     (rule_text a.house (rule_with (get_or a.from.now l.j 0) (get_or a.to.now l.j 0) (get_or a.low.now l.j 0) (get_or a.high.now l.j 0))
     ∷ map (rule_text a.house) (drop (l.j + 1) (rules s))))
 next c =
     let s = start c.before in
     let a = s.args in
-    let l = c.before.loop-j in
+    let l = c.loop-j in
     texts_next (rule_text a.house) no_rule (rules s) l.j _
     (rules_of_at a.from.now a.to.now a.low.now a.high.now s.requires.0.0.paired s.requires.0.1 s.requires.0.2 l.j
     c.loop-j-test.true)
@@ -58,16 +58,16 @@ next c =
 put_rule_requires : tie.Need-put_rule-next-requires invariant-loop decreases-loop
 put_rule_requires c κs =
     let turn : tie.In-loop-j invariant-loop decreases-loop = c.before.before.before.before.before in
-    ((start turn.before).pre.0.0.each turn.before.loop-j.j turn.loop-j-test.true, pending_room (next turn))
+    ((start turn.before).pre.0.0.each turn.loop-j.j turn.loop-j-test.true, pending_room (next turn))
 
 loop-again : tie.Need-loop-j-preserved invariant-loop decreases-loop
 loop-again c =
-    (omega arith, pending_after (next c.before.before.before.before.before.before.before.before) c.before.before.put_rule-next.ensures)
+    (omega arith, pending_after (next c.before.before.before.before.before.before.before.before) c.put_rule-next.ensures)
 
 returns : tie.Need-returns invariant-loop decreases-loop
 returns c =
     let s = start c.before in
-    texts_end (rule_text s.args.house) no_rule (rules s) c.before.loop-j.j (omega (arith, rules_length s, c.loop-j-test.false)) c.before.loop-j.invariant.1
+    texts_end (rule_text s.args.house) no_rule (rules s) c.loop-j.j (omega (arith, rules_length s, c.loop-j-test.false)) c.loop-j.invariant.1
 
 pub put_rules_spec : {M : Type 1} → statement M
 put_rules_spec = tie.close (tie.spec invariant-loop decreases-loop loop-holds (λ c. omega arith) (λ c. omega arith) (λ c. omega arith) (λ c. omega arith)

@@ -44,14 +44,14 @@ put_rules_requires c κs =
     let s = start k in
     let a = listed_agree (lists s) s.requires.0 in (
       (listed_rules (lists s) s.requires.0, a.lows, a.highs),
-      pending_room (pending_after (pending_after (begun s) k.put_span-next.ensures) c.before.before.before.put_units-next2.ensures),
+      pending_room (pending_after (pending_after (begun s) k.put_span-next.ensures) c.put_units-next2.ensures),
     )
 
 returns : tie.Need-returns
 returns c =
     let k : tie.After-put_span-next = c.before.before.before.before.before.before.before.before.before.before in
     pending_nothing (pending_after (pending_after (pending_after (begun (start k)) k.put_span-next.ensures)
-    c.before.before.before.before.before.before.put_units-next2.ensures) c.before.before.put_rules.ensures)
+    c.put_units-next2.ensures) c.put_rules.ensures)
 
 pub put_sheet_spec : {M : Type 1} → statement M
 put_sheet_spec = tie.close (tie.spec cast_put_span (λ c κs. pending_room (begun c.before.before.before.before.before.before.before.before.before))

@@ -44,14 +44,14 @@ units_length s =
 
 -- the next line is that of unit j
 next : (c : tie.In-loop-j invariant-loop decreases-loop)
-    → (let s = start c.before in let a = s.args in let l = c.before.loop-j in
+    → (let s = start c.before in let a = s.args in let l = c.loop-j in
     Pending a.page.now a.at (unit_texts a.house (units s)) l.page l.next
     (unit_text a.house (unit_with (get_or a.loader.now l.j 0) (get_or a.first.now l.j 0) (get_or a.last.now l.j 0))
     ∷ map (unit_text a.house) (drop (l.j + 1) (units s))))
 next c =
     let s = start c.before in
     let a = s.args in
-    let l = c.before.loop-j in
+    let l = c.loop-j in
     texts_next (unit_text a.house) no_unit (units s) l.j _
     (units_of_at a.loader.now a.first.now a.last.now s.requires.0.0 s.requires.0.1.paired l.j c.loop-j-test.true)
     (omega (arith, units_length s, c.loop-j-test.true)) l.invariant.1
@@ -59,16 +59,16 @@ next c =
 put_unit_requires : tie.Need-put_unit-next-requires invariant-loop decreases-loop
 put_unit_requires c κs =
     let turn : tie.In-loop-j invariant-loop decreases-loop = c.before.before.before.before in
-    ((start turn.before).pre.0.1.each turn.before.loop-j.j turn.loop-j-test.true, pending_room (next turn))
+    ((start turn.before).pre.0.1.each turn.loop-j.j turn.loop-j-test.true, pending_room (next turn))
 
 loop-again : tie.Need-loop-j-preserved invariant-loop decreases-loop
 loop-again c =
-    (omega arith, pending_after (next c.before.before.before.before.before.before.before) c.before.before.put_unit-next.ensures)
+    (omega arith, pending_after (next c.before.before.before.before.before.before.before) c.put_unit-next.ensures)
 
 returns : tie.Need-returns invariant-loop decreases-loop
 returns c =
     let s = start c.before in
-    texts_end (unit_text s.args.house) no_unit (units s) c.before.loop-j.j (omega (arith, units_length s, c.loop-j-test.false)) c.before.loop-j.invariant.1
+    texts_end (unit_text s.args.house) no_unit (units s) c.loop-j.j (omega (arith, units_length s, c.loop-j-test.false)) c.loop-j.invariant.1
 
 pub put_units_spec : {M : Type 1} → statement M
 put_units_spec = tie.close (tie.spec invariant-loop decreases-loop loop-holds (λ c. omega arith) (λ c. omega arith) (λ c. omega arith) (λ c. omega arith)

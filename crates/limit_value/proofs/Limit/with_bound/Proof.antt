@@ -13,7 +13,7 @@ use Rattle.limit_value.proofs.Limit.with_bound.Tie as tie
 returns : tie.Need-returns
 unfolding with_bound
 returns c =
-    let a = c.before.before.args in
+    let a = c.args in
     let fv : SFits w16 a.self.value = search rules in
     let fb : SFits w16 a.bound = search rules in
     let fr : SFits w16 c.lesser.result = search rules in

@@ -10,8 +10,8 @@ use Rattle.limit_value.proofs.Limit.with_high.Tie as tie
 
 returns : tie.Need-returns
 returns c =
-    let fits : SFits w16 c.before.signed.result = search rules in
-    c.with_bound.ensures ∙ ap (with_bound c.before.before.args.self) (to_z-of_z fits ∙ c.before.signed.ensures)
+    let fits : SFits w16 c.signed.result = search rules in
+    c.with_bound.ensures ∙ ap (with_bound c.args.self) (to_z-of_z fits ∙ c.signed.ensures)
 
 pub with_high_spec : {M : Type 1} → statement M
 with_high_spec = tie.close (tie.spec (λ c κs. search rules) (λ c κs. search rules) returns)

@@ -10,8 +10,8 @@ use Rattle.limit_value.proofs.Limit.with_low.Tie as tie
 
 returns : tie.Need-returns
 returns c =
-    let fits : SFits w16 c.before.minus.result = search rules in
-    c.with_bound.ensures ∙ ap (with_bound c.before.before.args.self) (to_z-of_z fits ∙ c.before.minus.ensures)
+    let fits : SFits w16 c.minus.result = search rules in
+    c.with_bound.ensures ∙ ap (with_bound c.args.self) (to_z-of_z fits ∙ c.minus.ensures)
 
 pub with_low_spec : {M : Type 1} → statement M
 with_low_spec = tie.close (tie.spec (λ c κs. search rules) (λ c κs. search rules) returns)

@@ -16,19 +16,19 @@ use Rattle.limit_places.specs.LentTableLaws.{place_inside}
 use Rattle.limits.proofs.fill.apply_rule.Statement.{statement}
 use Rattle.limits.proofs.fill.apply_rule.Tie as tie
 
-ahead_inside : (c : tie.After-forward_place-ahead) → c.forward_place-ahead.result < length c.before.args.t.now
+ahead_inside : (c : tie.After-forward_place-ahead) → c.forward_place-ahead.result < length c.args.t.now
 ahead_inside c =
-    let s = c.before in
+    let s = c in
     let a = s.args in
     omega (arith, c.forward_place-ahead.ensures, place_inside a.w (a.from - 1) a.to (omega arith) s.requires.2, s.requires.5)
 
 behind_inside : (c : tie.After-back_place-behind) (z : ℤ)
-    → let t = c.before.before.before.before.before.args.t.now in
-    (c.back_place-behind.result < length t) × (c.back_place-behind.result < length (set t c.before.before.before.before.forward_place-ahead.result z))
+    → let t = c.args.t.now in
+    (c.back_place-behind.result < length t) × (c.back_place-behind.result < length (set t c.forward_place-ahead.result z))
 behind_inside c z =
-    let s = c.before.before.before.before.before in
+    let s = c in
     let a = s.args in
-    let long = length-set a.t.now c.before.before.before.before.forward_place-ahead.result z in
+    let long = length-set a.t.now c.forward_place-ahead.result z in
     let inside = place_inside a.w a.to (a.from - 1) s.requires.2 (omega arith) in
     (omega (arith, c.back_place-behind.ensures, s.requires.5), omega (arith, c.back_place-behind.ensures, s.requires.5))
 
@@ -40,14 +40,14 @@ taken t i j x z bound l e f g h = rw (h, g, f, e) refl
 
 returns : tie.Need-returns
 returns c =
-    let second = c.before.before.before in
-    let first = second.before.before.before.before in
-    let a = first.before.args in
+    let second = c in
+    let first = second in
+    let a = first.args in
     let t = a.t.now in
     let ahead = first.forward_place-ahead in
-    let high = second.before.before.with_high-fewer in
+    let high = second.with_high-fewer in
     let back = second.back_place-behind in
-    let low = c.before.with_low-more in
+    let low = c.with_low-more in
     let z = to_z w16 (of_z w16 high.result.value) in
     let u = set t ahead.result z in
     let fx : SFits w16 (get_or t ahead.result (pos 0)) = search rules in
@@ -63,7 +63,7 @@ returns c =
 pub apply_rule_spec : {M : Type 1} → statement M
 apply_rule_spec = tie.close (tie.spec (λ c κs. search rules) (λ c. omega (arith, ahead_inside c)) ahead_inside (λ c κs. search rules)
     (λ c. omega (arith, ahead_inside c.before.before.before)) (λ c. ahead_inside c.before.before.before) (λ c κs. search rules)
-    (λ c. omega (arith, (behind_inside c (pos 0)).0)) (λ c. (behind_inside c (to_z w16 (of_z w16 c.before.before.with_high-fewer.result.value))).1)
+    (λ c. omega (arith, (behind_inside c (pos 0)).0)) (λ c. (behind_inside c (to_z w16 (of_z w16 c.with_high-fewer.result.value))).1)
     (λ c κs. search rules) (λ c. omega (arith, (behind_inside c.before.before.before (pos 0)).0))
-    (λ c. (behind_inside c.before.before.before (to_z w16 (of_z w16 c.before.before.before.before.before.with_high-fewer.result.value))).1)
+    (λ c. (behind_inside c.before.before.before (to_z w16 (of_z w16 c.with_high-fewer.result.value))).1)
     (λ c. search rules) returns)

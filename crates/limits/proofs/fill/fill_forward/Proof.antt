@@ -33,22 +33,22 @@ decreases-loop n w t₀ most a₀ t a = w - a
 
 mul_row : tie.Need-overflow_mul-row invariant-loop2 decreases-loop2 invariant-loop decreases-loop
 mul_row c =
-    let s = c.before.before.before in
-    omega (arith, row_inside c.before.loop-a.a s.args.w (omega arith), s.requires.1)
+    let s = c in
+    omega (arith, row_inside c.loop-a.a s.args.w (omega arith), s.requires.1)
 
 inside : (c : tie.In-loop-b invariant-loop2 decreases-loop2 invariant-loop decreases-loop)
-    → c.before.before.before.loop-a.a * c.before.before.before.before.before.args.w + (c.before.loop-b.b - 1) < length c.before.loop-b.t
+    → c.loop-a.a * c.args.w + (c.loop-b.b - 1) < length c.loop-b.t
 inside c =
-    let w = c.before.before.before.before.before.args.w in
-    let r = c.before.before.before.loop-a in
-    omega (arith, place_inside w r.a (c.before.loop-b.b - 1) (omega arith) (omega arith), r.invariant.long)
+    let w = c.args.w in
+    let r = c.loop-a in
+    omega (arith, place_inside w r.a (c.loop-b.b - 1) (omega arith) (omega arith), r.invariant.long)
 
 loop2_again : tie.Need-loop-b-preserved invariant-loop2 decreases-loop2 invariant-loop decreases-loop
 loop2_again c =
-    let s = c.before.before.before.before.before in
-    let l = c.before.loop-b in
-    let a = c.before.before.before.loop-a.a in
-    let most = c.before.before.before.before.signed-most in
+    let s = c in
+    let l = c.loop-b in
+    let a = c.loop-a.a in
+    let most = c.signed-most in
     let f : SFits w16 most.result = search rules in
     let e : to_z w16 (of_z w16 most.result) ≡ pos s.args.n = to_z-of_z f ∙ most.ensures in
     let long = length-set l.t (a * s.args.w + (l.b - 1)) (to_z w16 (of_z w16 most.result)) in (
@@ -61,28 +61,28 @@ loop2_again c =
 
 loop-again : tie.Need-loop-a-preserved invariant-loop2 decreases-loop2 invariant-loop decreases-loop
 loop-again c =
-    let s = c.before.before.before.before.before in
-    let l = c.before.loop-b in
-    let r = c.before.before.before.loop-a in
+    let s = c in
+    let l = c.loop-b in
+    let r = c.loop-a in
     put_row s.args.n s.args.w s.args.t.now l.t r.a l.b (omega arith) (l.invariant.3 s.args.t.now s.requires.1 r.invariant)
 
 whole : (c : tie.After-loop-a invariant-loop2 decreases-loop2 invariant-loop decreases-loop)
-    → let a = c.before.before.before.args in TableFilled a.w (with_forward a.n (entry a.w a.t.now)) a.t.now c.before.loop-a.t
+    → let a = c.args in TableFilled a.w (with_forward a.n (entry a.w a.t.now)) a.t.now c.loop-a.t
 whole c =
-    let a = c.before.before.before.args in
+    let a = c.args in
     let f = entry a.w a.t.now in
-    let l = c.before.loop-a in
+    let l = c.loop-a in
     swept_last a.w f (with_forward a.n f) a.t.now l.t l.a a.w (omega arith) l.invariant
 
 returns : tie.Need-returns invariant-loop2 decreases-loop2 invariant-loop decreases-loop
 returns c =
-    let s = c.before.before.before in
+    let s = c in
     let a = s.args in
-    filled_is a.w (with_forward a.n (entry a.w a.t.now)) a.t.now c.before.loop-a.t s.requires.1 (whole c)
+    filled_is a.w (with_forward a.n (entry a.w a.t.now)) a.t.now c.loop-a.t s.requires.1 (whole c)
 
 pub fill_forward_spec : {M : Type 1} → statement M
 fill_forward_spec = tie.close (tie.spec invariant-loop2 decreases-loop2 invariant-loop decreases-loop (λ c. omega arith) (λ c κs. c.requires.0)
-    (λ c. put_first c.before.args.n c.before.args.w c.before.args.t.now) mul_row (λ c. (refl, omega arith, omega arith, λ T h s. s))
-    (λ c. omega arith) (λ c. omega arith) (λ c. omega (arith, inside c, c.before.before.before.loop-a.invariant.long))
-    (λ c. omega (arith, inside c, c.before.before.before.loop-a.invariant.long)) (λ c. inside c) (λ c. omega arith) loop2_again (λ c. omega arith)
+    (λ c. put_first c.args.n c.args.w c.args.t.now) mul_row (λ c. (refl, omega arith, omega arith, λ T h s. s))
+    (λ c. omega arith) (λ c. omega arith) (λ c. omega (arith, inside c, c.loop-a.invariant.long))
+    (λ c. omega (arith, inside c, c.loop-a.invariant.long)) (λ c. inside c) (λ c. omega arith) loop2_again (λ c. omega arith)
     (λ c. omega arith) loop-again (λ c. (whole c).long) returns)

@@ -54,36 +54,36 @@ room c = subst (λ (w : ℕ). w * w ≤ length c.args.t.now) (wide c) c.requires
 
 boundaries_requires : tie.Need-boundaries-w-requires invariant-loop decreases-loop
 boundaries_requires c κs =
-    let s = c.before.before.before.before.before.before in
+    let s = c in
     let a = s.args in
     accepted_span a.span a.first.now a.last.now a.from.now a.to.now a.low.now a.high.now s.requires.ok s.requires.agree
 
 -- the windows inside
 inside : (c : tie.After-windows_inside invariant-loop decreases-loop)
     → let s = opened c.before.before in
-    TableFilled (boundaries_of s.args.span) (inside_weights (units s)) s.args.t.now c.windows_inside.new.1.1.1.0
+    TableFilled (boundaries_of s.args.span) (inside_weights (units s)) s.args.t.now c.windows_inside.new.t
 inside c =
     let s = opened c.before.before in
-    is_filled (boundaries_of s.args.span) (inside_weights (units s)) s.args.t.now c.windows_inside.new.1.1.1.0 (room s)
-    (rw c.before.before.boundaries-w.ensures at c.windows_inside.ensures)
+    is_filled (boundaries_of s.args.span) (inside_weights (units s)) s.args.t.now c.windows_inside.new.t (room s)
+    (rw c.boundaries-w.ensures at c.windows_inside.ensures)
 
 fill_forward_requires : tie.Need-fill_forward-requires invariant-loop decreases-loop
 fill_forward_requires c κs =
-    let sized = c.before.before.before.before in
-    let s = opened sized in
+    let sized = c in
+    let s = opened sized.before.before.before.before in
     ((fillable_windows s.requires).few, rw sized.boundaries-w.ensures (omega (arith, room s, (inside c.before.before).long)))
 
 -- the limits without rules
 plain : (c : tie.After-fill_forward invariant-loop decreases-loop)
     → let s = opened c.before.before.before.before.before in
-    TableFilled (boundaries_of s.args.span) (limit (ruled s.args.span (units s) [])) s.args.t.now c.fill_forward.new.1.1.0
+    TableFilled (boundaries_of s.args.span) (limit (ruled s.args.span (units s) [])) s.args.t.now c.fill_forward.new.t
 plain c =
-    let sized = c.before.before.before.before.before in
-    let s = opened sized in
+    let sized = c in
+    let s = opened sized.before.before.before.before.before in
     let a = s.args in
     let w = boundaries_of a.span in
-    let t = c.before.before.before.windows_inside.new.1.1.1.0 in
-    let u = c.fill_forward.new.1.1.0 in
+    let t = c.windows_inside.new.t in
+    let u = c.fill_forward.new.t in
     let fit = fillable_windows s.requires in
     let f = inside c.before.before.before in
     let g = is_filled w (with_forward (length a.first.now) (entry w t)) t u (omega (arith, room s, f.long))
@@ -96,7 +96,7 @@ loop-holds c =
     let s = opened c.before.before.before.before.before.before in
     let a = s.args in
     let p = plain c.before in
-    let u = c.before.fill_forward.new.1.1.0 in (
+    let u = c.fill_forward.new.t in (
       omega arith,
       omega (arith, room s, p.long),
       subst (λ (q : Sheet). TableFilled (boundaries_of a.span) (limit q) u u)
@@ -105,48 +105,48 @@ loop-holds c =
     )
 
 shared_slice_read_apply_rule_2 : tie.Need-bounds-to-k invariant-loop decreases-loop
-shared_slice_read_apply_rule_2 c = omega (arith, (fillable_lists (entry_of c.before.before.before).pre).stretches, c.before.before.before.loop-k.invariant.0)
+shared_slice_read_apply_rule_2 c = omega (arith, (fillable_lists (entry_of c.before.before.before).pre).stretches, c.loop-k.invariant.0)
 
 shared_slice_read_apply_rule_3 : tie.Need-bounds-low-k invariant-loop decreases-loop
 shared_slice_read_apply_rule_3 c =
-    let at = c.before.before.before.before in
-    omega (arith, (fillable_lists (entry_of at).requires).lows, at.loop-k.invariant.0)
+    let at = c in
+    omega (arith, (fillable_lists (entry_of at.before.before.before.before).requires).lows, at.loop-k.invariant.0)
 
 shared_slice_read_apply_rule_4 : tie.Need-bounds-high-k invariant-loop decreases-loop
 shared_slice_read_apply_rule_4 c =
-    omega (arith, (fillable_lists (entry_of c.before.before.before.before.before).pre).highs, c.before.before.before.before.before.loop-k.invariant.0)
+    omega (arith, (fillable_lists (entry_of c.before.before.before.before.before).pre).highs, c.loop-k.invariant.0)
 
 apply_rule_requires : tie.Need-apply_rule-requires invariant-loop decreases-loop
 apply_rule_requires c κs =
-    let at = c.before.before.before.before.before.before in
-    let s = entry_of at in
+    let at = c in
+    let s = entry_of at.before.before.before.before.before.before in
     let a = s.args in
     let l = at.loop-k in
     let fit = fillable_rule s.requires (l.k - 1) (omega (arith, l.invariant.0)) in
-    rw (sized at).boundaries-w.ensures (fit.starts, fit.ordered, fit.ends, fit.low, fit.high, omega (arith, l.invariant.1, l.invariant.2.long))
+    rw (sized at.before.before.before.before.before.before).boundaries-w.ensures (fit.starts, fit.ordered, fit.ends, fit.low, fit.high, omega (arith, l.invariant.1, l.invariant.2.long))
 
 loop-again : tie.Need-loop-k-preserved invariant-loop decreases-loop
 loop-again c =
-    let turn = c.before.before.before.before in
-    let at = turn.before.before.before.before in
-    let s = entry_of at in
+    let turn = c in
+    let at = turn in
+    let s = entry_of at.before.before.before.before.before.before.before.before in
     let a = s.args in
     let l = at.loop-k in
-    let u = at.before.before.fill_forward.new.1.1.0 in (
+    let u = at.fill_forward.new.t in (
       omega (arith, l.invariant.0),
       l.invariant.1,
-      rule_line_lem s.requires u l.t c.before.apply_rule.new.1.1.1.1.1.0 l.k l.invariant.1 (omega arith) l.invariant.0 l.invariant.2
-          (rw (sized at).boundaries-w.ensures at c.before.apply_rule.ensures),
+      rule_line_lem s.requires u l.t c.apply_rule.new.t l.k l.invariant.1 (omega arith) l.invariant.0 l.invariant.2
+          (rw (sized at.before.before.before.before.before.before.before.before).boundaries-w.ensures at c.apply_rule.ensures),
     )
 
 whole : (c : tie.After-loop-k invariant-loop decreases-loop)
     → let s = entry_of c.before in
-    TableFilled (boundaries_of s.args.span) (limit (sheet s)) s.args.t.now c.before.loop-k.t
+    TableFilled (boundaries_of s.args.span) (limit (sheet s)) s.args.t.now c.loop-k.t
 whole c =
     let s = entry_of c.before in
     let a = s.args in
-    let l = c.before.loop-k in
-    let u = c.before.before.before.fill_forward.new.1.1.0 in
+    let l = c.loop-k in
+    let u = c.fill_forward.new.t in
     let e : l.k ≡ 0 = omega arith in
     filled_over (boundaries_of a.span) (limit (ruled a.span (units s) [])) (limit (sheet s)) a.t.now u l.t (plain c.before.before.before)
     (subst (λ (r : Sheet). TableFilled (boundaries_of a.span) (limit r) u l.t)
@@ -157,13 +157,13 @@ returns : tie.Need-returns invariant-loop decreases-loop
 returns c =
     let s = entry_of c.before in
     let t = s.args.t.now in
-    filled_is (boundaries_of s.args.span) (limit (sheet s)) t c.before.loop-k.t (room s) (whole c)
+    filled_is (boundaries_of s.args.span) (limit (sheet s)) t c.loop-k.t (room s) (whole c)
     ∙ ap (λ (w : ℕ). table_of w (limit (sheet s)) ++ drop (w * w) t) (sym (wide s))
 
 pub fill_limits_spec : {M : Type 1} → statement M
 fill_limits_spec = tie.close (tie.spec invariant-loop decreases-loop boundaries_requires
-    (λ c κs. rw c.before.boundaries-w.ensures (room (opened c.before), fillable_windows (opened c.before).pre)) fill_forward_requires loop-holds
+    (λ c κs. rw c.boundaries-w.ensures (room (opened c.before), fillable_windows (opened c.before).pre)) fill_forward_requires loop-holds
     (λ c. omega arith)
-    (λ c. omega arith) (λ c. omega (arith, c.before.before.loop-k.invariant.0)) (λ c. omega arith) shared_slice_read_apply_rule_2 (λ c. omega arith)
+    (λ c. omega arith) (λ c. omega (arith, c.loop-k.invariant.0)) (λ c. omega arith) shared_slice_read_apply_rule_2 (λ c. omega arith)
     shared_slice_read_apply_rule_3 (λ c. omega arith) shared_slice_read_apply_rule_4 apply_rule_requires (λ c. omega arith) loop-again
     (λ c. (whole c).long) returns)

@@ -5,14 +5,14 @@ use Rattle.tugrokt.proofs.printing.tugrokt_print.Tie as tie
 
 returns : tie.Need-returns
 returns c =
-    let called = c.before.before.before.before.before.before.before.before.before.before.before.before.print-printed in
+    let called = c.print-printed in
     record { reply = reply_of called.result; call = called.ensures; told = c.Numbers-of.ensures }
 
 pub tugrokt_print_spec : {M : Type 1} → statement M
 tugrokt_print_spec = tie.close (tie.spec (λ c κs. tt) (λ c κs. tt)
-    (λ c. c.before.before.before.before.before.before.before.before.before.before.before.table-1.given)
-    (λ c. c.before.before.before.before.before.before.before.before.before.before.plan-1.given)
-    (λ c. c.before.before.before.before.before.before.before.before.earliest-1.given)
-    (λ c. c.before.before.before.before.before.before.latest-1.given)
-    (λ c. c.before.before.before.before.ring-1.given)
-    (λ c. c.before.before.page-1.given) returns)
+    (λ c. c.table-1.given)
+    (λ c. c.plan-1.given)
+    (λ c. c.earliest-1.given)
+    (λ c. c.latest-1.given)
+    (λ c. c.ring-1.given)
+    (λ c. c.page-1.given) returns)

@@ -8,7 +8,7 @@ use Rattle.tugrokt.proofs.seating.tugrokt_seat.Tie as tie
 
 returns : tie.Need-returns
 returns c =
-    let called = c.before.before.before.before.before.before.before.before.seat-answer in
+    let called = c.seat-answer in
     record {
       reply = seat_reply called.result;
       left = called.ensures.0;
@@ -17,7 +17,7 @@ returns c =
 
 pub tugrokt_seat_spec : {M : Type 1} → statement M
 tugrokt_seat_spec = tie.close (tie.spec (λ c κs. tt) (λ c κs. tt)
-    (λ c. c.before.before.before.before.before.before.before.table-1.given)
-    (λ c. c.before.before.before.before.before.before.plan-1.given)
-    (λ c. c.before.before.before.before.earliest-1.given)
-    (λ c. c.before.before.latest-1.given) returns)
+    (λ c. c.table-1.given)
+    (λ c. c.plan-1.given)
+    (λ c. c.earliest-1.given)
+    (λ c. c.latest-1.given) returns)
