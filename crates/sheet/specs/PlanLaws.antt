@@ -46,7 +46,12 @@ in_windows_seated (w ∷ ws) [] h = absurd h
 in_windows_seated (w ∷ ws) (x ∷ xs) h =
     let r = in_windows_seated ws xs (right (within w.first w.last x) (in_windows ws xs) h) in
     let first = (within_iff w.first w.last x).0 (left (within w.first w.last x) (in_windows ws xs) h) in
-    record { size = ap suc r.size; inside = λ j. elim j [ zero ↦ λ l. first | suc k ↦ λ l. r.inside k (omega arith) ] }
+    record { size = ap suc r.size; inside = go first r }
+  where
+    go : (within_first : (w.first ≤ x) × (x ≤ w.last)) → Seated ws xs → (j : ℕ) → j < length (w ∷ ws)
+        → ((get_or (w ∷ ws) j no_window).first ≤ get_or (x ∷ xs) j 0) × (get_or (x ∷ xs) j 0 ≤ (get_or (w ∷ ws) j no_window).last)
+    go f r zero l = f
+    go f r (suc k) l = r.inside k (omega arith)
 
 pub seated_in_windows : (ws : List Window) (x : List ℕ) → Seated ws x → T (in_windows ws x)
 seated_in_windows [] [] h = tt

@@ -40,7 +40,7 @@ abbrev given : tie.Start → Columns
 given z = let a = z.args in columns a.from.now a.to.now a.low.now a.high.now
 
 abbrev room : tie.Start → Columns
-room z = let a = z.args in columns a.froms-1.now a.tos-1.now a.lows-1.now a.highs-1.now
+room z = let a = z.args in columns a.froms.now a.tos.now a.lows.now a.highs.now
 
 abbrev Is : tie.Start → WrittenSheet → WrittenSheet → Type 0
 Is z wa wb = let a = z.args in BothRead wa wb a.a a.b a.numbers.now (given z) (room z)

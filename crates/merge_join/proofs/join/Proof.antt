@@ -45,13 +45,13 @@ both_call c = c.before.before.before.before.before.before.before.before.before.b
 abbrev lent : tie.Start → ListRooms (List ℕ)
 lent z =
     let a = z.args in
-    rooms a.numbers-1.now a.firsts-1.now a.lasts-1.now a.froms-1.now a.tos-1.now a.lows-1.now a.highs-1.now
+    rooms a.numbers.now a.firsts.now a.lasts.now a.froms.now a.tos.now a.lows.now a.highs.now
 
 abbrev own : tie.Start → ListRooms (List ℕ)
 own z =
     let a = z.args in
     let none : List ℕ = replicate (max_rules + max_rules) 0 in
-    rooms a.numbers-1.now a.firsts-1.now a.lasts-1.now none none none none
+    rooms a.numbers.now a.firsts.now a.lasts.now none none none none
 
 abbrev after_first : tie.After-read_behind-first → ListRooms (List ℕ)
 after_first c =
@@ -100,7 +100,7 @@ long z = holds_both (lent z) z.requires
 
 -- both sheets stand in the arrays, the columns for the combined rules as they are lent
 abbrev room : tie.Start → Rules.Columns
-room z = let a = z.args in Rules.columns a.froms-1.now a.tos-1.now a.lows-1.now a.highs-1.now
+room z = let a = z.args in Rules.columns a.froms.now a.tos.now a.lows.now a.highs.now
 
 reads_both : (c : tie.In-Sheet-second) → let k = second_told c in let d = second_call k in let z = start (first_told d) in let m = after_second k in
     BothRead (sheet_in Ours z.args.one.now) (sheet_in Ours z.args.two.now) (sheet_a d) (sheet_b c) m.loader

@@ -33,7 +33,7 @@ loop-again c =
     let a = l.args in
     let other =
     ⊎_elim (λ w. same_from a.froms.now a.tos.now a.f a.t (l.loop-n.n - 1) w.0.true ∙ w.2.false)
-    (λ w. other_from a.froms.now a.tos.now a.f a.t (l.loop-n.n - 1) w.false) c.else-froms-n.branch in
+    (λ w. other_from a.froms.now a.tos.now a.f a.t (l.loop-n.n - 1) w.false) c.else-froms-n.branch-raw in
     (omega arith, last_failed (test l.before.before.before.before) (length a.froms.now) l.loop-n.n (omega arith) other ∙ l.loop-n.invariant.1)
 
 returns-2 : tie.Need-returns invariant-loop decreases-loop

@@ -33,7 +33,7 @@ loop-again c =
     let a = l.args in
     let other =
     ⊎_elim (λ w. same_from a.froms.now a.tos.now a.f a.t l.loop-j.j w.0.true ∙ w.2.false)
-    (λ w. other_from a.froms.now a.tos.now a.f a.t l.loop-j.j w.false) c.else-froms-j.branch in
+    (λ w. other_from a.froms.now a.tos.now a.f a.t l.loop-j.j w.false) c.else-froms-j.branch-raw in
     (omega arith, first_failed (test l.before.before.before.before) a.n l.loop-j.j (omega arith) other ∙ l.loop-j.invariant.1)
 
 returns-2 : tie.Need-returns invariant-loop decreases-loop

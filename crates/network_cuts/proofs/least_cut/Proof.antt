@@ -39,7 +39,7 @@ next c =
       search_no s h (omega arith) (omega (arith, s.before)) (subst decided w.0.false c.admits.ensures),
       omega (arith, s.after, s.before),
     ))
-    c.if-admits.branch
+    c.if-admits.branch-raw
 
 add_middle : tie.Need-overflow_add-middle invariant-loop decreases-loop
 add_middle c = let s = (next c.before.before).0 in omega (arith, s.end, s.order, c.requires.0)

@@ -59,7 +59,7 @@ loop-again c =
     let t : c.match-s.lower ≡ true = w.2 in
     let n = subst made e s.settle-s.ensures in
     (omega arith, n.0, rw t (swept_lower a.w a.f.0 a.v.0 a.l.0 a.d.now a.m.now a.z.now l.lower l.b l.z z' i.2 n)))
-    c.match-s.branch
+    c.match-s.branch-raw
 
 -- ---- behind the loop every boundary before the window is settled
 abbrev Done : Type 0

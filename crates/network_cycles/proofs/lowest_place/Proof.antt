@@ -38,7 +38,7 @@ loop-again c =
     let e = ap (λ (n : ℕ). get_or xs n 0) p.1 in
     let t = p.0.false in
     (omega (arith, p.1), omega arith, refl, lowest_next xs l.low l.j c.if-c-j.low l.invariant.3 (omega (arith, e)) (omega (arith, e, t))))
-    c.if-c-j.branch
+    c.if-c-j.branch-raw
 
 returns : tie.Need-returns invariant-loop decreases-loop
 returns c =

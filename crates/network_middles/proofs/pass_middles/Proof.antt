@@ -14,10 +14,10 @@ Looped = tie.After-run_middles-outcome
 
 ran_here : (c : Looped) →
     let a = c.before.before.before.args in
-    Ran a.w a.t-1.now (pass_from (a.to - a.from) a.from a.w a.t-1.now) c.run_middles-outcome.result c.run_middles-outcome.new.t
+    Ran a.w a.t.now (pass_from (a.to - a.from) a.from a.w a.t.now) c.run_middles-outcome.result c.run_middles-outcome.new.t
 ran_here c =
     let a = c.before.before.before.args in
-    subst (λ (w : ℕ). Ran w a.t-1.now (pass_from (a.to - a.from) a.from w a.t-1.now) c.run_middles-outcome.result c.run_middles-outcome.new.t)
+    subst (λ (w : ℕ). Ran w a.t.now (pass_from (a.to - a.from) a.from w a.t.now) c.run_middles-outcome.result c.run_middles-outcome.new.t)
     c.before.capped.ensures c.run_middles-outcome.ensures
 
 run_middles_requires : tie.Need-run_middles-outcome-requires

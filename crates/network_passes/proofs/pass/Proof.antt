@@ -14,14 +14,14 @@ pass_middles_requires : tie.Need-pass_middles-requires
 pass_middles_requires c κs =
     let st = c in
     let a = st.args in
-    let S = stays_small a.w a.t-1.now st.requires.3 in
-    (st.requires.0, st.requires.1, st.requires.2, omega arith, omega arith, subst (λ (k : ℕ). StaysSmall a.w 0 k a.t-1.now) (sym (sub-zero a.w)) S)
+    let S = stays_small a.w a.t.now st.requires.3 in
+    (st.requires.0, st.requires.1, st.requires.2, omega arith, omega arith, subst (λ (k : ℕ). StaysSmall a.w 0 k a.t.now) (sym (sub-zero a.w)) S)
 
 returns : tie.Need-returns
 returns c =
     let a = c.args in
     let q = c.pass_middles in
-    subst (λ (k : ℕ). After a.w a.t-1.now (pass_from k 0 a.w a.t-1.now) q.result q.new.t) (sub-zero a.w) q.ensures
+    subst (λ (k : ℕ). After a.w a.t.now (pass_from k 0 a.w a.t.now) q.result q.new.t) (sub-zero a.w) q.ensures
 
 pub pass_spec : {M : Type 1} → statement M
 pass_spec = tie.close (tie.spec pass_middles_requires (λ c. search rules) returns)

@@ -16,14 +16,14 @@ pass_middles_requires : tie.Need-pass_middles-requires
 pass_middles_requires c κs =
     let st = c in
     let a = st.args in
-    let S = small_one a.w a.m a.t-1.now st.requires.3 in
-    (omega arith, st.requires.1, st.requires.2, omega arith, omega arith, subst (λ (k : ℕ). StaysSmall a.w a.m k a.t-1.now) (sym (one a.m)) S)
+    let S = small_one a.w a.m a.t.now st.requires.3 in
+    (omega arith, st.requires.1, st.requires.2, omega arith, omega arith, subst (λ (k : ℕ). StaysSmall a.w a.m k a.t.now) (sym (one a.m)) S)
 
 returns : tie.Need-returns
 returns c =
     let a = c.args in
     let q = c.pass_middles in
-    subst (λ (k : ℕ). After a.w a.t-1.now (pass_from k a.m a.w a.t-1.now) q.result q.new.t) (one a.m) q.ensures
+    subst (λ (k : ℕ). After a.w a.t.now (pass_from k a.m a.w a.t.now) q.result q.new.t) (one a.m) q.ensures
 
 pub pass_middle_spec : {M : Type 1} → statement M
 pass_middle_spec = tie.close (tie.spec (λ c. search rules) pass_middles_requires (λ c. search rules) returns)

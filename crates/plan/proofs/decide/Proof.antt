@@ -17,7 +17,7 @@ lists c =
     written_lists a.span a.loader.now a.first.now a.last.now a.from.now a.to.now a.low.now a.high.now
 
 abbrev before : tie.Start → DecideRooms
-before c = let a = c.args in decide_rooms a.table-1.now a.ring-1.now
+before c = let a = c.args in decide_rooms a.table.now a.ring.now
 
 -- back to the start, from the questions' answer
 abbrev start : tie.After-ask-asked → tie.Start

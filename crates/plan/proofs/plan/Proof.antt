@@ -17,7 +17,7 @@ lists c =
     written_lists a.span a.loader.now a.first.now a.last.now a.from.now a.to.now a.low.now a.high.now
 
 abbrev before : tie.Start → Rooms
-before c = let a = c.args in lent a.table-1.now a.plan-1.now a.earliest-1.now a.latest-1.now a.ring-1.now
+before c = let a = c.args in lent a.table.now a.plan.now a.earliest.now a.latest.now a.ring.now
 
 -- back to the start, from the questions' answer
 abbrev start : tie.After-ask-asked → tie.Start

@@ -73,7 +73,7 @@ moved c =
     let h = c.loop-l-test.true in
     ⊎_elim (λ w. rw (w.3, w.4) (cutting_mark l.invariant.0 h w.2.result.0 w.0.true w.2.ensures))
     (λ w. rw (w.1, w.2, c.larger-low.ensures) (cutting_skip l.invariant.0 h (omega (arith, w.0.false))))
-    c.if-known-gt0.branch
+    c.if-known-gt0.branch-raw
 
 loop-again : tie.Need-loop-l-preserved invariant-loop decreases-loop
 loop-again c =

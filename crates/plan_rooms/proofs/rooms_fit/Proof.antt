@@ -16,13 +16,13 @@ of_arm w n e h = h ∙ ap (lengths_fit w n) (sym e)
 returns : tie.Need-returns-else-table_fits
 returns c =
     let f = c in
-    of_arm _ _ f.rooms-1.given.1 (fails_here _ _ (sym f.table_fits.ensures ∙ c.if-table_fits.false))
+    of_arm _ _ f.rooms.given.1 (fails_here _ _ (sym f.table_fits.ensures ∙ c.if-table_fits.false))
 
 returns-2 : tie.Need-returns-else-seats_fit
 returns-2 c =
     let g = c in
     let f = g in
-    of_arm _ _ f.rooms-1.given.1
+    of_arm _ _ f.rooms.given.1
     (holds_here _ _ _ (sym f.table_fits.ensures ∙ g.if-table_fits.true) (fails_here _ _ (sym g.seats_fit.ensures ∙ c.if-seats_fit.false)))
 
 returns-3 : tie.Need-returns-else-table_fits-2
@@ -39,7 +39,7 @@ returns-5 : tie.Need-returns-then-seats_fit
 returns-5 c =
     let g = c in
     let f = g in
-    of_arm _ _ f.rooms-1.given.1
+    of_arm _ _ f.rooms.given.1
     (holds_here _ _ _ (sym f.table_fits.ensures ∙ g.if-table_fits.true) (holds_here _ _ _ (sym g.seats_fit.ensures ∙ c.if-seats_fit.true) refl))
 
 returns-6 : tie.Need-returns-then-table_fits-2

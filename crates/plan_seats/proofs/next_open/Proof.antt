@@ -47,7 +47,7 @@ loop-again : tie.Need-loop-p-preserved invariant-loop decreases-loop
 loop-again c =
     let l = c in
     let st = l in
-    let failed = ⊎_elim (λ w. free _ _ w.0.true ∙ w.2.false) (λ w. seated _ _ w.false) c.else-plan-unit-eq0.branch in
+    let failed = ⊎_elim (λ w. free _ _ w.0.true ∙ w.2.false) (λ w. seated _ _ w.false) c.else-plan-unit-eq0.branch-raw in
     (omega arith, first_failed (test st.before.before.before.before.before) (size st.before.before.before.before.before) l.loop-p.p (omega arith) failed ∙ l.loop-p.invariant.1)
 
 returns-2 : tie.Need-returns invariant-loop decreases-loop

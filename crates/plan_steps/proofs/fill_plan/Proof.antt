@@ -9,7 +9,7 @@ narrow_requires c κs =
     let p = c.requires in
     let u = c.seat_units-looked in
     let s = p.0.0 in
-    let N = narrowable s a.w a.first.now a.last.now a.table.now p.0.1 a.plan-1.now u.new.plan (u.ensures s p.0.1).0 in
+    let N = narrowable s a.w a.first.now a.last.now a.table.now p.0.1 a.plan.now u.new.plan (u.ensures s p.0.1).0 in
     ((s, N), (p.1.1, p.1.2))
 
 returns : tie.Need-returns
@@ -17,10 +17,10 @@ returns c s R =
     let a = c.args in
     let u = c.seat_units-looked in
     let n = c.narrow in
-    let N = narrowable s a.w a.first.now a.last.now a.table.now R a.plan-1.now u.new.plan (u.ensures s R).0 in
+    let N = narrowable s a.w a.first.now a.last.now a.table.now R a.plan.now u.new.plan (u.ensures s R).0 in
     record {
       seen = (u.ensures s R).1;
-      seats = seats_are s a.w a.first.now a.last.now a.table.now R a.plan-1.now u.new.plan (u.ensures s R).0;
+      seats = seats_are s a.w a.first.now a.last.now a.table.now R a.plan.now u.new.plan (u.ensures s R).0;
       early = n.ensures.0 s N;
       late = n.ensures.1 s N;
     }

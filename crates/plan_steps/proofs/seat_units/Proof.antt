@@ -16,7 +16,7 @@ seat_requires : tie.Need-seat-requires
 seat_requires c κs =
     let a = c.args in
     let p = c.requires in
-    seatable p.0.0 a.w a.first.now a.last.now a.table.now p.0.1 (a.w - 0) (omega arith) a.plan-1.now p.1
+    seatable p.0.0 a.w a.first.now a.last.now a.table.now p.0.1 (a.w - 0) (omega arith) a.plan.now p.1
 
 returns : tie.Need-returns
 returns c s R =

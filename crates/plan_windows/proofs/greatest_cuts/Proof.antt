@@ -73,7 +73,7 @@ returns c =
     let a = st.args in
     turned_greatest a.w a.d.now a.m.now (table r.before.before.before.before.before.before.before) (added r.before.before.before.before.before.before.before) st.requires.0.0 (long r.before.before.before.before.before.before.before).0 (long r.before.before.before.before.before.before.before).1
     r.mirror.ensures r.mirror-2.ensures
-    a.first.now a.last.now a.plan.now st.requires.0.1 a.out-1.now l.new.out l.ensures
+    a.first.now a.last.now a.plan.now st.requires.0.1 a.out.now l.new.out l.ensures
 
 pub greatest_cuts_spec : {M : Type 1} → statement M
 greatest_cuts_spec = tie.close (tie.spec (λ c. search rules) mirror_requires (λ c. search rules) mirror_requires_2 (λ c. search rules)

@@ -54,7 +54,7 @@ returns c =
     let mk = cut in
     let st = start mk.before.before.before.before.before.before.before.before.before in
     let a = st.args in
-    cuts_least st.requires.0.1 a.d.now a.m.now st.requires.1 mk.mark.ensures (cuts cut.before.before.before.before.before.before) cut.cut_windows.ensures a.out-1.now
+    cuts_least st.requires.0.1 a.d.now a.m.now st.requires.1 mk.mark.ensures (cuts cut.before.before.before.before.before.before) cut.cut_windows.ensures a.out.now
     rd.read_marks.new.out rd.read_marks.ensures
 
 pub least_cuts_spec : {M : Type 1} → statement M

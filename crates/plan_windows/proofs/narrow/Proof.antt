@@ -63,8 +63,8 @@ returns c =
     let a = (start r.before.before.before.before.before.before.before.before.before.before.before).args in
     let e = cut.least_cuts in
     let l = c.greatest_cuts in (
-      λ s h. earliest_room_lem h (added r.before.before.before.before.before.before.before.before.before.before.before) (long r.before.before.before.before.before.before.before.before.before.before.before) r.cut_arcs.ensures a.earliest-1.now e.new.out e.ensures,
-      λ s h. latest_room_lem h (added r.before.before.before.before.before.before.before.before.before.before.before) (long r.before.before.before.before.before.before.before.before.before.before.before) r.cut_arcs.ensures a.latest-1.now l.new.out l.ensures,
+      λ s h. earliest_room_lem h (added r.before.before.before.before.before.before.before.before.before.before.before) (long r.before.before.before.before.before.before.before.before.before.before.before) r.cut_arcs.ensures a.earliest.now e.new.out e.ensures,
+      λ s h. latest_room_lem h (added r.before.before.before.before.before.before.before.before.before.before.before) (long r.before.before.before.before.before.before.before.before.before.before.before) r.cut_arcs.ensures a.latest.now l.new.out l.ensures,
     )
 
 pub narrow_spec : {M : Type 1} → statement M

@@ -17,7 +17,7 @@ lists c =
 abbrev before : tie.Start → Rooms
 before c =
     let a = c.args in
-    lent a.table-1.now a.plan-1.now a.earliest-1.now a.latest-1.now a.ring-1.now
+    lent a.table.now a.plan.now a.earliest.now a.latest.now a.ring.now
 
 -- back to the start, from the questions' answer
 abbrev start : tie.After-ask-asked → tie.Start

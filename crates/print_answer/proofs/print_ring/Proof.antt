@@ -35,7 +35,7 @@ write_requires c κs =
     let p : tie.Then-holds = c.before.before.before.before.before.before.before.before.before in
     let o = c in
     let a = (start o.before.before.before.before.before.before.before.before.before.before.before.before).args in
-    rw (part o.before.before.before.before.before.before.before.before.before.before.before.before) (room a.page-1.now a.at (bytes (start o.before.before.before.before.before.before.before.before.before.before.before.before)) o.put_none-length.result (size o.before.before.before.before.before.before.before.before.before.before.before.before) p.holds.result p.holds.ensures
+    rw (part o.before.before.before.before.before.before.before.before.before.before.before.before) (room a.page.now a.at (bytes (start o.before.before.before.before.before.before.before.before.before.before.before.before)) o.put_none-length.result (size o.before.before.before.before.before.before.before.before.before.before.before.before) p.holds.result p.holds.ensures
     p.if-holds.true)
 
 returns : tie.Need-returns-then-holds
@@ -43,7 +43,7 @@ returns c =
     let p : tie.Then-holds = c.before.before.before.before.before.before.before.before.before.before.before.before in
     let o = c in
     let a = (start o.before.before.before.before.before.before.before.before.before.before.before.before.before.before.before).args in
-    asked_yes a.page-1.now a.at (bytes (start o.before.before.before.before.before.before.before.before.before.before.before.before.before.before.before)) o.put_none-length.result (size o.before.before.before.before.before.before.before.before.before.before.before.before.before.before.before) p.holds.result p.holds.ensures _ _ _ _ _ _
+    asked_yes a.page.now a.at (bytes (start o.before.before.before.before.before.before.before.before.before.before.before.before.before.before.before)) o.put_none-length.result (size o.before.before.before.before.before.before.before.before.before.before.before.before.before.before.before) p.holds.result p.holds.ensures _ _ _ _ _ _
     p.if-holds.true c.write-next.result (rw (part o.before.before.before.before.before.before.before.before.before.before.before.before.before.before.before) at c.write-next.ensures) refl
     (rw (
       c.clear.ensures,
@@ -54,7 +54,7 @@ returns-2 : tie.Need-returns-else-holds
 returns-2 c =
     let o = c in
     let a = (start o.before.before.before).args in
-    asked_no a.page-1.now a.at (bytes (start o.before.before.before)) o.put_none-length.result (size o.before.before.before) c.holds.result c.holds.ensures _ _ _ _ _ _
+    asked_no a.page.now a.at (bytes (start o.before.before.before)) o.put_none-length.result (size o.before.before.before) c.holds.result c.holds.ensures _ _ _ _ _ _
     c.if-holds.false refl refl refl
 
 pub print_ring_spec : {M : Type 1} → statement M

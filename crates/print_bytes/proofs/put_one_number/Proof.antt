@@ -8,7 +8,7 @@ use Rattle.print_bytes.proofs.put_one_number.Statement.{statement}
 use Rattle.print_bytes.proofs.put_one_number.Tie as tie
 
 begun : (c : tie.Start) → let a = c.args in
-    Pending a.page-1.now a.at (form_line (one_number a.first.now a.end.now) (a.a ∷ [])) a.page-1.now a.at
+    Pending a.page.now a.at (form_line (one_number a.first.now a.end.now) (a.a ∷ [])) a.page.now a.at
     (a.first.now ∷ digits a.a ∷ form_line (no_number a.end.now) [] ∷ [])
 begun c = pending_whole _ (line_words ((c.args.first.now, c.args.a) ∷ []) c.args.end.now) c.requires
 

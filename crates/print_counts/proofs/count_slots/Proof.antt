@@ -38,7 +38,7 @@ loop-again c =
       ⊎_elim
           (λ w. subst (Counted plan (l.j + 1)) (sym w.2) (counted_store less counted (omega (arith, w.0.true, counted.long))))
           (λ w. subst (Counted plan (l.j + 1)) (sym w.1) (counted_pass less counted (omega (arith, w.0.false, counted.long))))
-          c.if-slot-counts.branch,
+          c.if-slot-counts.branch-raw,
     )
 
 same_length : tie.Need-shape_of-counts invariant-loop decreases-loop

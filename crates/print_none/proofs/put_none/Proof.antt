@@ -13,7 +13,7 @@ use Rattle.print_none.proofs.put_none.Tie as tie
 begun : (c : tie.Start) →
     let a = c.args in
     let d = entry a.w a.limits.now in
-    Pending a.page-1.now a.at (none_page d a.ring.now) a.page-1.now a.at
+    Pending a.page.now a.at (none_page d a.ring.now) a.page.now a.at
     (none_head ∷ joined (ring_lines d a.ring.now) ∷ shortfall_line (shortfall_of d a.ring.now) ∷ [])
 unfolding none_page
 begun c = pending_whole _ refl c.requires.1

@@ -15,7 +15,7 @@ begun : (c : tie.Start) →
     let a = c.args in
     let low = least_from (boundaries_of a.span) a.table.now in
     let high = greatest_from (boundaries_of a.span) a.table.now in
-    Pending a.page-1.now a.at (fits_page a.span a.units low high) a.page-1.now a.at
+    Pending a.page.now a.at (fits_page a.span a.units low high) a.page.now a.at
     (fits_head a.units ∷ range_lines a.span low high ∷ [])
 unfolding fits_page
 begun c = pending_whole _ refl c.requires.1

@@ -19,8 +19,8 @@ start c = c.before.before.before.before.before.before.before
 begun : (c : tie.After-count_slots) →
     let a = (start c).args in
     let w = boundaries_of a.span in
-    Pending a.page-1.now a.at
-    (table_page a.span a.loader.now a.plan.now a.earliest.now a.latest.now a.table.now) a.page-1.now a.at
+    Pending a.page.now a.at
+    (table_page a.span a.loader.now a.plan.now a.earliest.now a.latest.now a.table.now) a.page.now a.at
     (plan_head (length a.plan.now) ∷ unit_lines a.span a.loader.now a.plan.now a.earliest.now a.latest.now
     ∷ slot_lines a.span (λ t. get_or c.count_slots.new.counts t 0) (least_from w a.table.now) (greatest_from w a.table.now) ∷ [])
 begun c =

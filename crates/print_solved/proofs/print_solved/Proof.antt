@@ -30,7 +30,7 @@ lists c =
 abbrev before : tie.Start → Rooms
 before c =
     let a = c.args in
-    lent a.table-1.now a.plan-1.now a.earliest-1.now a.latest-1.now a.ring-1.now
+    lent a.table.now a.plan.now a.earliest.now a.latest.now a.ring.now
 
 -- the call's own arrays after planning
 abbrev after : tie.After-solve-fit → Rooms
@@ -51,7 +51,7 @@ said c = fit_reply c.solve-fit.result
 ends : (c : tie.After-solve-fit) → Settled (by_pass (passed (sheet c))) (sheet c) own_rooms (said c) (after c)
 ends c = c.solve-fit.ensures
 
-own_cells : (c : tie.After-solve-fit) → length (after c).table-1 ≡ max_cells
+own_cells : (c : tie.After-solve-fit) → length (after c).table ≡ max_cells
 own_cells c = c.solve-fit.auto.table ∙ length-replicate max_cells (pos 0)
 
 -- ---- a plan was found
@@ -88,7 +88,7 @@ abbrev steps : tie.In-None-2 → ℕ
 steps c = c.fit-1.given.0.0
 
 ring_found : (c : tie.In-None-2) → let p = where_ring c in
-    (r : List ℕ) × T (is_ring (sheet p) r) × (passed (sheet p) ≡ stopped) × Front (steps c) r (after p).ring-1
+    (r : List ℕ) × T (is_ring (sheet p) r) × (passed (sheet p) ≡ stopped) × Front (steps c) r (after p).ring
 ring_found c =
     let p = where_ring c in
     let s = start p in
@@ -126,7 +126,7 @@ fill_limits_requires c κs =
     let s = start p in
     let f = ring_found told in
     limits_fillable (lists s) (before s) s.requires.0 (ring_w told) (ring_w_is told) (after p) f.0 f.1 f.2 (steps told) f.3
-    (after p).table-1 (own_cells p)
+    (after p).table (own_cells p)
 
 print_ring_requires : tie.Need-print_ring-requires
 print_ring_requires c κs =
@@ -135,7 +135,7 @@ print_ring_requires c κs =
     let s = start p in
     let f = ring_found told in
     let filled = c.fill_limits in
-    ring_asked (lists s) (before s) s.requires.0 (ring_w told) (ring_w_is told) (after p) f.0 f.1 f.2 (steps told) f.3 (after p).table-1 (own_cells p)
+    ring_asked (lists s) (before s) s.requires.0 (ring_w told) (ring_w_is told) (after p) f.0 f.1 f.2 (steps told) f.3 (after p).table (own_cells p)
     filled.new.t filled.ensures
 
 returns : tie.Need-returns-in-Fits
@@ -156,7 +156,7 @@ returns-2 c =
     let s = start p in
     let f = ring_found told in
     let filled = c.fill_limits in
-    ring_shown (lists s) (before s) s.requires.0 (ring_w told) (ring_w_is told) (after p) f.0 f.1 f.2 (steps told) f.3 (after p).table-1 (own_cells p)
+    ring_shown (lists s) (before s) s.requires.0 (ring_w told) (ring_w_is told) (after p) f.0 f.1 f.2 (steps told) f.3 (after p).table (own_cells p)
     s.args.loader.now filled.new.t filled.ensures s.args.page.now s.args.at _ _ _ _
     c.print_ring.ensures
 

@@ -147,9 +147,9 @@ module _ {M : Type 1} {𝓤 : Ura M} (𝓛 : Logic 𝓤) (mem : Memory → SProp
   new_back : (w : Val) → ent 𝓤 ((New 𝓛 mem run).post to_new w) (H.⇛ (sep 𝓤 (A.lft κ q) (sem 𝓛 (OwnWriter κ h₀ w))))
   new_back w =
       qed 𝓛 (later (some (λ (r : Writer). ((‵ (flft κ q) ⊛ ‵ ftrue) ⊛ ‵ (OwnWriter κ r w)) ⊛ some
-      (λ (ws : Unit {0} × (Unit {0} × Unit {0})). ‵ (lasts new.ended (κ, tt) (x, (n, tt)) ws) ⊛ raw (fact 𝓤 ((r.page-1 ≡ x) × (r.place ≡ n)))))) ∷ []) ∵
+      (λ (ws : Unit {0} × (Unit {0} × Unit {0})). ‵ (lasts new.ended (κ, tt) (x, (n, tt)) ws) ⊛ raw (fact 𝓤 ((r.page ≡ x) × (r.place ≡ n)))))) ∷ []) ∵
       updating ! $ await ! tt $ pick ! (λ r.
-      split ! $ move ! (1 ∷ []) $ pick ! (λ ws. split ! $ drop ! $ heard ! ((r.page-1 ≡ x) × (r.place ≡ n)) (λ e. split ! $
+      split ! $ move ! (1 ∷ []) $ pick ! (λ ws. split ! $ drop ! $ heard ! ((r.page ≡ x) × (r.place ≡ n)) (λ e. split ! $
       rewrite ! 1 (λ (d : Writer). ‵ (OwnWriter κ d w)) (λ i. record { page = e.0 i; place = e.1 i }) refl $
       split ! $ keep ! (0 ∷ 2 ∷ []) $ at_once ! $ done !)))
 
@@ -184,12 +184,12 @@ module _ {M : Type 1} {𝓤 : Ura M} (𝓛 : Logic 𝓤) (mem : Memory → SProp
 
   place_back : (v w : Val)
       → ent 𝓤 ((Place 𝓛 mem run).post (to_place v) w)
-      (H.⇛ (sep 𝓤 (A.lft κ q) (sep 𝓤 (sem 𝓛 (finally u8 x.name h₁.page-1.now)) (sem 𝓛 (usize.own_val h₁.place (w ∷ []))))))
+      (H.⇛ (sep 𝓤 (A.lft κ q) (sep 𝓤 (sem 𝓛 (finally u8 x.name h₁.page.now)) (sem 𝓛 (usize.own_val h₁.place (w ∷ []))))))
   place_back v w =
       qed 𝓛 (later (some (λ (r : ℕ). ((‵ (flft κ q) ⊛ ‵ ftrue) ⊛ ‵ (usize.own_val r (w ∷ []))) ⊛ some
-      (λ (zs : (List ℕ × Unit {0}) × Unit {0}). ‵ (lasts place.ended (κ, tt) (h₁, tt) zs) ⊛ raw (fact 𝓤 ((r ≡ h₁.place) × (zs.0.0 ≡ h₁.page-1.now))))))
+      (λ (zs : (List ℕ × Unit {0}) × Unit {0}). ‵ (lasts place.ended (κ, tt) (h₁, tt) zs) ⊛ raw (fact 𝓤 ((r ≡ h₁.place) × (zs.0.0 ≡ h₁.page.now))))))
       ∷ []) ∵ updating ! $ await ! tt $ pick ! (λ r.
-      split ! $ move ! (1 ∷ []) $ pick ! (λ zs. split ! $ move ! (1 ∷ []) $ heard ! ((r ≡ h₁.place) × (zs.0.0 ≡ h₁.page-1.now)) (λ e. fsplit ! $
+      split ! $ move ! (1 ∷ []) $ pick ! (λ zs. split ! $ move ! (1 ∷ []) $ heard ! ((r ≡ h₁.place) × (zs.0.0 ≡ h₁.page.now)) (λ e. fsplit ! $
       fsplit ! $ fsplit ! $
       -- [the last list; as long as the list passed; true; true; the token and the result]
       rewrite ! 0 (λ (l : List ℕ). ‵ (finally u8 x.name l)) e.1 refl $ move ! (4 ∷ []) $ split ! $
@@ -197,11 +197,11 @@ module _ {M : Type 1} {𝓤 : Ura M} (𝓛 : Logic 𝓤) (mem : Memory → SProp
       split ! $ keep ! (0 ∷ 3 ∷ 2 ∷ []) $ at_once ! $ done !)))
 
   exits : (v : Val) → Room x.now n bytes.now
-      → ent 𝓤 (⋆ 𝓛 (‵ (flft κ q) ∷ raw tokens ∷ ‵ (finally u8 x.name h₁.page-1.now) ∷ ‵ (usize.own_val h₁.place (v ∷ [])) ∷ [])) (Post v)
+      → ent 𝓤 (⋆ 𝓛 (‵ (flft κ q) ∷ raw tokens ∷ ‵ (finally u8 x.name h₁.page.now) ∷ ‵ (usize.own_val h₁.place (v ∷ [])) ∷ [])) (Post v)
   exits v room =
-      qed 𝓛 (‵ (flft κ q) ∷ raw tokens ∷ ‵ (finally u8 x.name h₁.page-1.now) ∷ ‵ (usize.own_val h₁.place (v ∷ [])) ∷ []) ∵
+      qed 𝓛 (‵ (flft κ q) ∷ raw tokens ∷ ‵ (finally u8 x.name h₁.page.now) ∷ ‵ (usize.own_val h₁.place (v ∷ [])) ∷ []) ∵
       suffices ! _ (ends_at 𝓛 write.ended stayed (write.clauses 𝓛 mem run) (((κ, (κ₁, tt)), (q, (q₁, tt)), tt, a, vals), tt) v
-      h₁.place (h₁.page-1.now, (tt, (tt, tt))) (bytes_length x.now n bytes.now room, (tt, (tt, tt)))) $
+      h₁.place (h₁.page.now, (tt, (tt, tt))) (bytes_length x.now n bytes.now room, (tt, (tt, tt)))) $
       says ! (record { filled = refl; moved = refl }) $ join ! $ frame ! $
       nothing ! $ nothing ! $ fjoin ! $ nothing ! $ fjoin ! $ move ! (1 ∷ 0 ∷ []) $ fjoin ! $ frame ! $ done !
 
@@ -240,7 +240,7 @@ module _ {M : Type 1} {𝓤 : Ura M} (𝓛 : Logic 𝓤) (mem : Memory → SProp
         -- [the writer; the tokens; _7; …]: `place`
         move ! (1 ∷ []) $ split ! $ move ! (0 ∷ 2 ∷ []) $ use2 𝓛 (raw ((Place 𝓛 mem run).pre (to_place v₁))) (goes_place v₁) $
         calls_at ! fm (Place 𝓛 mem run) known-place (to_place v₁) (and_then ! (load ! (from ! (stop !)) (look ! 8 refl)) (no_more !)) (λ v.
-        use1 𝓛 (later (‵ (flft κ q) ⊛ (‵ (finally u8 x.name h₁.page-1.now) ⊛ ‵ (usize.own_val h₁.place (v ∷ []))))) (place_back v₁ v) $ await ! tt $
+        use1 𝓛 (later (‵ (flft κ q) ⊛ (‵ (finally u8 x.name h₁.page.now) ⊛ ‵ (usize.own_val h₁.place (v ∷ []))))) (place_back v₁ v) $ await ! tt $
         split ! $ move ! (1 ∷ []) $ split ! $ move ! (1 ∷ []) $ peeks ! usize (Is usize) (shows 𝓛 usize) h₁.place (v ∷ []) (λ is.
         -- [the result; the last list; the page's token; the other tokens; _7; …]
         land ! (from ! (stop !)) (init ! 18 refl ((uint_Lawful 𝓛 w64).typed h₁.place _ is).0) $

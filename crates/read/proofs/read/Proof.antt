@@ -38,7 +38,7 @@ asked c = c.before.before.before.before.before.before.before.before.before.befor
 abbrev lent : tie.Start → ListRooms (List ℕ)
 lent z =
     let a = z.args in
-    rooms a.loader-1.now a.first-1.now a.last-1.now a.from-1.now a.to-1.now a.low-1.now a.high-1.now
+    rooms a.loader.now a.first.now a.last.now a.from.now a.to.now a.low.now a.high.now
 
 abbrev cleared : ListRooms (List ℕ)
 cleared =

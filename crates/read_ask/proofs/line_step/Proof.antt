@@ -16,7 +16,7 @@ start c = c.before.before.before.before.before.before.before.before.before
 abbrev arrays : tie.Start → ListRooms (List ℕ)
 arrays z =
     let a = z.args in
-    rooms a.numbers.now a.firsts-1.now a.lasts-1.now a.froms-1.now a.tos-1.now a.lows-1.now a.highs-1.now
+    rooms a.numbers.now a.firsts.now a.lasts.now a.froms.now a.tos.now a.lows.now a.highs.now
 
 abbrev numbers : tie.Start → List ℕ
 numbers z = take z.args.s.units z.args.numbers.now
@@ -26,14 +26,14 @@ unfolding step_of
 returns c =
     let z = start c.before.before.before in
     let a = z.args in
-    line_stepped a.house (numbers z) a.s a.line-1 _ _ (arrays z) _ a.heads-1.now a.nexts-1.now c.line-1.given.1 refl tt refl
+    line_stepped a.house (numbers z) a.s a.line _ _ (arrays z) _ a.heads.now a.nexts.now c.line.given.1 refl tt refl
 
 returns-2 : tie.Need-returns-in-Note
 unfolding step_of
 returns-2 c =
     let z = start c.before.before in
     let a = z.args in
-    line_stepped a.house (numbers z) a.s a.line-1 _ _ (arrays z) _ a.heads-1.now a.nexts-1.now c.enum_told-1.given.1 refl z.pre.0 refl
+    line_stepped a.house (numbers z) a.s a.line _ _ (arrays z) _ a.heads.now a.nexts.now c.enum_told-1.given.1 refl z.pre.0 refl
 
 returns-3 : tie.Need-returns-in-Sheet
 returns-3 c =
@@ -41,7 +41,7 @@ returns-3 c =
     let a = z.args in
     let r = c.sheet_step in
     let stays = sheet_stays a.s _ _ _ z.pre.0 a.house (numbers z) _ r.result r.ensures in
-    line_stepped a.house (numbers z) a.s a.line-1 _ _ (arrays z) _ a.heads-1.now a.nexts-1.now c.line-in-Sheet-1.given.1
+    line_stepped a.house (numbers z) a.s a.line _ _ (arrays z) _ a.heads.now a.nexts.now c.line-in-Sheet-1.given.1
     stays.0 stays.1 (kept_sheet r.result (arrays z) a.s _)
 
 returns-4 : tie.Need-returns-in-Unit
@@ -53,7 +53,7 @@ returns-4 c =
     let a = z.args in
     let r = d.unit_step in
     let e = r.ensures in
-    line_stepped a.house (numbers z) a.s a.line-1 _ _ (arrays z) _ _ _ l.line-in-Unit-1.given.1 e.0 e.1.0
+    line_stepped a.house (numbers z) a.s a.line _ _ (arrays z) _ _ _ l.line-in-Unit-1.given.1 e.0 e.1.0
     (kept_unit r.result (arrays z) a.s _ _ _ _ _ _ e.1.1.0 e.1.1.1.0 e.1.1.1.1)
 
 returns-5 : tie.Need-returns-in-Rule
@@ -65,7 +65,7 @@ returns-5 c =
     let r = d.rule_step in
     let e = r.ensures in
     let stays = rule_stays a.s _ _ _ z.pre.0 a.house (numbers z) _ _ _ _ r.result e.0 in
-    line_stepped a.house (numbers z) a.s a.line-1 _ _ (arrays z) _ a.heads-1.now a.nexts-1.now l.line-in-Rule-1.given.1
+    line_stepped a.house (numbers z) a.s a.line _ _ (arrays z) _ a.heads.now a.nexts.now l.line-in-Rule-1.given.1
     stays.0 stays.1 (kept_rule r.result (arrays z) a.s _ _ _ _ _ _ _ _ e.1.0 e.1.1.0 e.1.1.1.0 e.1.1.1.1)
 
 -- the arrays hold what their steps ask for

@@ -77,7 +77,7 @@ loop-again c k e =
     (λ p. subst on (sym p.2) (search_counted _ _ _ _ _ _ i _ (in_whole f.before.before.before.before) r.ensures.0 _ r.ensures.1 (same k _ _ e p.0.true)
     p.1.false))
     (λ p. subst on (sym p.1) (search_passed _ _ _ _ _ _ i _ (in_whole f.before.before.before.before) r.ensures.0 _ r.ensures.1 (other k _ _ e p.0.false)))
-    c.if-line-wanted.branch
+    c.if-line-wanted.branch-raw
 
 pub search_spec : {M : Type 1} → statement M
 search_spec = tie.close (tie.spec invariant-loop decreases-loop (λ c κs. tt) (λ c κs. tt) (λ c k e. search_start k _ _)

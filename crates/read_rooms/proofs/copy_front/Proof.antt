@@ -12,7 +12,7 @@ returns : tie.Need-returns
 returns c =
     let call = c in
     let a = call.args in
-    call.copy_list.ensures ∙ ap (λ (k : ℕ). on_front (take k a.array.now) a.room-1.now) (sub-zero a.n)
+    call.copy_list.ensures ∙ ap (λ (k : ℕ). on_front (take k a.array.now) a.room.now) (sub-zero a.n)
 
 pub copy_front_spec : {M : Type 1} → statement M
 copy_front_spec = tie.close (tie.spec (λ c. search rules) (λ c. search rules) (λ c. search rules) (λ c κs. search rules) (λ c. search rules) returns)

@@ -51,7 +51,7 @@ returns-3 c =
     let a = z.args in (
       simp (order d, window d, new t.before.before.before.before.before.before.before.before, lt-ltb _ _ t.if-n-lt-MAX_UNITS.true),
       (
-        unit_chained a.s a.numbers.now a.heads-1.now a.nexts-1.now _ _ a.loader z.requires.0 t.if-n-lt-MAX_UNITS.true k.0 k.1,
+        unit_chained a.s a.numbers.now a.heads.now a.nexts.now _ _ a.loader z.requires.0 t.if-n-lt-MAX_UNITS.true k.0 k.1,
         (refl, (refl, refl)),
       ),
     )

@@ -40,14 +40,14 @@ write_requires c κs =
     let p : tie.Then-holds = c.before.before in
     let o : tie.After-answer-length = p.before.before in
     let a = (start o).args in
-    rw (part o) (room a.page-1.now a.place (bytes o) _ (size o) _ p.holds.ensures p.if-holds.true)
+    rw (part o) (room a.page.now a.place (bytes o) _ (size o) _ p.holds.ensures p.if-holds.true)
 
 returns : tie.Need-returns-then-holds
 returns c =
     let p : tie.Then-holds = c.before.before.before.before.before in
     let o : tie.After-answer-length = p.before.before in
     let a = (start o).args in
-    let h = held a.page-1.now a.place (bytes o) _ (size o) _ p.holds.ensures p.if-holds.true _ _
+    let h = held a.page.now a.place (bytes o) _ (size o) _ p.holds.ensures p.if-holds.true _ _
     (rw (part o) at c.write-next.ensures) in
     record { bytes = bytes o; answers = o.answer-length.ensures.answers; told = ap (writing_of a.place) h.0; page_left = h.1 }
 
@@ -55,7 +55,7 @@ returns-2 : tie.Need-returns-else-holds
 returns-2 c =
     let o : tie.After-answer-length = c.before.before in
     let a = (start o).args in
-    let h = not_held a.page-1.now a.place (bytes o) _ (size o) _ c.holds.ensures c.if-holds.false in
+    let h = not_held a.page.now a.place (bytes o) _ (size o) _ c.holds.ensures c.if-holds.false in
     record { bytes = bytes o; answers = o.answer-length.ensures.answers; told = ap (writing_of a.place) h.0; page_left = h.1 }
 
 pub answer_house_spec : {M : Type 1} → statement M

@@ -11,10 +11,10 @@ returns c =
 
 pub merge_spec : {M : Type 1} → statement M
 merge_spec = tie.close (tie.spec (λ c κs. tt) (λ c κs. tt)
-    (λ c. c.loader-1.given)
-    (λ c. c.first-1.given)
-    (λ c. c.last-1.given)
-    (λ c. c.from-1.given)
-    (λ c. c.to-1.given)
-    (λ c. c.low-1.given)
-    (λ c. c.high-1.given) returns)
+    (λ c. c.loader.given)
+    (λ c. c.first.given)
+    (λ c. c.last.given)
+    (λ c. c.from.given)
+    (λ c. c.to.given)
+    (λ c. c.low.given)
+    (λ c. c.high.given) returns)

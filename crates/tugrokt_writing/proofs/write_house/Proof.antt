@@ -10,4 +10,4 @@ returns c =
     record { told = c.Numbers-of.ensures ∙ ap (writing_of _) called.ensures.0; page_left = called.ensures.1 }
 
 pub write_house_spec : {M : Type 1} → statement M
-write_house_spec = tie.close (tie.spec (λ c κs. tt) (λ c κs. tt) (λ c. c.page-1.given) returns)
+write_house_spec = tie.close (tie.spec (λ c κs. tt) (λ c κs. tt) (λ c. c.page.given) returns)

@@ -48,21 +48,21 @@ write_requires c κs =
     let p : tie.Then-holds = c.before.before in
     let o : tie.After-put_sheet-length = p.before.before.before in
     let a = (start o).args in
-    rw (part o) (room a.page-1.now a.at (bytes (start o)) _ (size o) _ p.holds.ensures p.if-holds.true)
+    rw (part o) (room a.page.now a.at (bytes (start o)) _ (size o) _ p.holds.ensures p.if-holds.true)
 
 returns : tie.Need-returns-then-holds
 returns c =
     let p : tie.Then-holds = c.before.before.before.before.before in
     let o : tie.After-put_sheet-length = p.before.before.before in
     let a = (start o).args in
-    held a.page-1.now a.at (bytes (start o)) _ (size o) _ p.holds.ensures p.if-holds.true _ _
+    held a.page.now a.at (bytes (start o)) _ (size o) _ p.holds.ensures p.if-holds.true _ _
     (rw (part o) at c.write-next.ensures)
 
 returns-2 : tie.Need-returns-else-holds
 returns-2 c =
     let o : tie.After-put_sheet-length = c.before.before.before in
     let a = (start o).args in
-    not_held a.page-1.now a.at (bytes (start o)) _ (size o) _ c.holds.ensures c.if-holds.false
+    not_held a.page.now a.at (bytes (start o)) _ (size o) _ c.holds.ensures c.if-holds.false
 
 pub write_copy_spec : {M : Type 1} → statement M
 write_copy_spec = tie.close (tie.spec (λ c. search rules) put_sheet_requires (λ c κs. search rules)

@@ -18,7 +18,7 @@ lists c =
     written_lists a.span a.loader.now a.first.now a.last.now a.from.now a.to.now a.low.now a.high.now
 
 begun : (c : tie.Start) → let a = c.args in
-    Pending a.page-1.now a.at (sheet_text a.house (written_by (lists c))) a.page-1.now a.at
+    Pending a.page.now a.at (sheet_text a.house (written_by (lists c))) a.page.now a.at
     (span_text a.house a.span ∷ unit_texts a.house (units_of a.loader.now (windows_of a.first.now a.last.now))
     ∷ rule_texts a.house (rules_of a.from.now a.to.now a.low.now a.high.now) ∷ [])
 begun c = pending_whole _ (text_parts c.args.house (lists c)) c.requires.1

@@ -10,9 +10,9 @@ returns c =
 
 pub tugrokt_print_spec : {M : Type 1} → statement M
 tugrokt_print_spec = tie.close (tie.spec (λ c κs. tt) (λ c κs. tt)
-    (λ c. c.table-1.given)
-    (λ c. c.plan-1.given)
-    (λ c. c.earliest-1.given)
-    (λ c. c.latest-1.given)
-    (λ c. c.ring-1.given)
-    (λ c. c.page-1.given) returns)
+    (λ c. c.table.given)
+    (λ c. c.plan.given)
+    (λ c. c.earliest.given)
+    (λ c. c.latest.given)
+    (λ c. c.ring.given)
+    (λ c. c.page.given) returns)

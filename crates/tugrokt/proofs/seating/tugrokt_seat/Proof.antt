@@ -17,7 +17,7 @@ returns c =
 
 pub tugrokt_seat_spec : {M : Type 1} → statement M
 tugrokt_seat_spec = tie.close (tie.spec (λ c κs. tt) (λ c κs. tt)
-    (λ c. c.table-1.given)
-    (λ c. c.plan-1.given)
-    (λ c. c.earliest-1.given)
-    (λ c. c.latest-1.given) returns)
+    (λ c. c.table.given)
+    (λ c. c.plan.given)
+    (λ c. c.earliest.given)
+    (λ c. c.latest.given) returns)

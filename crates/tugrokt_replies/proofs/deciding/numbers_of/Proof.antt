@@ -14,5 +14,5 @@ enum_told : tie.Need-enum_told-1
 enum_told c = search rules
 
 pub numbers_of_spec : {M : Type 1} → statement M
-numbers_of_spec = tie.close (tie.spec (λ c. search rules) enum_told (λ c. search rules) (λ c. same_numbers c.decision-1.given.1)
+numbers_of_spec = tie.close (tie.spec (λ c. search rules) enum_told (λ c. search rules) (λ c. same_numbers c.decision.given.1)
     (λ c. same_numbers c.enum_told-1.given.1) (λ c. same_numbers c.decision-in-None-1.given.1))

@@ -15,4 +15,4 @@ rises a b e h = subst Rises e h
 pub numbers_of_spec : {M : Type 1} → statement M
 numbers_of_spec = tie.close (tie.spec (λ c. search rules) (λ c. search rules) (λ c. rises _ _ c.found-in-First-1.given.1 c.requires)
     (λ c. search rules) (λ c. rises _ _ c.found-in-Second-1.given.1 c.requires)
-    (λ c. same_numbers c.found-1.given.1) (λ c. same_numbers c.found-in-First-1.given.1) (λ c. same_numbers c.found-in-Second-1.given.1))
+    (λ c. same_numbers c.found.given.1) (λ c. same_numbers c.found-in-First-1.given.1) (λ c. same_numbers c.found-in-Second-1.given.1))

@@ -12,5 +12,5 @@ same_numbers : (at : ℕ) {p q : Printed} → p ≡ q → printing_of at (reply_
 same_numbers at e = sym (ap (λ (p : Printed). printing_of at (reply_of p)) e)
 
 pub numbers_of_spec : {M : Type 1} → statement M
-numbers_of_spec = tie.close (tie.spec (λ c. search rules) (λ c. search rules) (λ c. search rules) (λ c. same_numbers _ c.printed-1.given.1)
+numbers_of_spec = tie.close (tie.spec (λ c. search rules) (λ c. search rules) (λ c. search rules) (λ c. same_numbers _ c.printed.given.1)
     (λ c. same_numbers _ c.printed-in-Plan-1.given.1) (λ c. same_numbers _ c.printed-in-None-1.given.1))

@@ -11,5 +11,5 @@ same_numbers : {a b : Reading} → a ≡ b → reading_of (reply_of b) ≡ readi
 same_numbers e = sym (ap (λ (a : Reading). reading_of (reply_of a)) e)
 
 pub numbers_of_spec : {M : Type 1} → statement M
-numbers_of_spec = tie.close (tie.spec (λ c. search rules) (λ c. search rules) (λ c. same_numbers c.reply-1.given.1)
+numbers_of_spec = tie.close (tie.spec (λ c. search rules) (λ c. search rules) (λ c. same_numbers c.reply.given.1)
     (λ c. same_numbers c.reply-in-Sheet-1.given.1))

@@ -12,5 +12,5 @@ same_numbers : (at : ℕ) {v w : Writing} → v ≡ w → writing_of at (reply_o
 same_numbers at e = sym (ap (λ (v : Writing). writing_of at (reply_of v)) e)
 
 pub numbers_of_spec : {M : Type 1} → statement M
-numbers_of_spec = tie.close (tie.spec (λ c. search rules) (λ c. search rules) (λ c. same_numbers _ c.written-1.given.1)
+numbers_of_spec = tie.close (tie.spec (λ c. search rules) (λ c. search rules) (λ c. same_numbers _ c.written.given.1)
     (λ c. same_numbers _ c.written-in-Text-1.given.1))
