@@ -1,5 +1,1 @@
 pub mod Answer
-pub mod SheetLaws
-pub mod AnswerLaws
-pub mod AnswerConditions
-pub mod FirstBytesLaws

@@ -1,6 +1,1 @@
 pub mod Comparing
-pub mod ValuesLaws
-pub mod AlongLaws
-pub mod ClosingLaws
-pub mod RelistedLaws
-pub mod LooserLaws

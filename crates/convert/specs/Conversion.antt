@@ -7,25 +7,25 @@ use Rattle.std.proofs.Math.Path.{ap₂}
 use mathlib.Core.List.{List, [], ◌∷◌}
 use Rattle.lists.specs.Members.{right, within_iff}
 use Rattle.questions.specs.Questions.{ask, Verdict, no, all_yes, first_no, AllYes}
-use Rattle.questions.specs.FirstNoLaws.{yes_every, every_yes, yes_front, yes_back, yes_at}
+use Rattle.questions.proofs.FirstNoLaws.{yes_every, every_yes, yes_front, yes_back, yes_at}
 use Rattle.forms.specs.declared.House.{House}
 use Rattle.forms.specs.declared.House.TheVariants.{Ours}
 use Rattle.sheet.specs.Sizes.{max_bytes}
 use Rattle.sheet.specs.Sheet.{WrittenSheet, constraints, loaders}
 use Rattle.sheet.specs.Questions.{accepted, loaders_fit}
 use Rattle.sheet_texts.specs.SheetText.{sheet_text, max_text}
-use Rattle.sheet_texts.specs.SheetTextLaws.{text_short}
+use Rattle.sheet_texts.proofs.SheetTextLaws.{text_short}
 use Rattle.write_ask.specs.HouseQuestions.{house_questions}
 use Rattle.print_bytes.specs.Writing.{refused_line}
-use Rattle.print_bytes.specs.WritingLaws.{refused_short}
+use Rattle.print_bytes.proofs.WritingLaws.{refused_short}
 use Rattle.read_questions.specs.Reading.{pass_questions, questions, lists_fit, rooms_for_all, sheet_in}
-use Rattle.read_questions.specs.AcceptedLaws.{reading_accepts, reading_loaders}
-use Rattle.read_questions.specs.RefusalLaws.{asks_text, reading_refusals}
+use Rattle.read_questions.proofs.AcceptedLaws.{reading_accepts, reading_loaders}
+use Rattle.read_questions.proofs.RefusalLaws.{asks_text, reading_refusals}
 use Rattle.read_whole.specs.WholeLaws.{two_digits, too_long}
-use Rattle.round_trip.specs.RoundTrip.{text_accepted, text_read}
+use Rattle.round_trip.proofs.RoundTrip.{text_accepted, text_read}
 use Rattle.write_fronts.specs.Outcome.{bytes_by, reply_by}
 use Rattle.convert_lists.specs.Converting.{asked, refusal, converted, converting}
-use Rattle.convert_lists.specs.ConvertingLaws.{asks_house, house_refusals, refusal_then}
+use Rattle.convert_lists.proofs.ConvertingLaws.{asks_house, house_refusals, refusal_then}
 
 module _ (from to : House) (input : List ℕ) where
   abbrev read : Verdict

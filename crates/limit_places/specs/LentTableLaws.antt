@@ -8,7 +8,7 @@ use Rattle.std.proofs.lemmas.List.{length-replicate, get_or-replicate}
 use Rattle.std.proofs.Math.ListN.{get_or-append}
 use Rattle.network.specs.Network.{Weights}
 use Rattle.network.specs.Table.{table_of, entry, cleared}
-use Rattle.network.specs.TableLaws.{length_table_of, row_inside, entry_table_of, entry_front}
+use Rattle.network.proofs.TableLaws.{length_table_of, row_inside, entry_table_of, entry_front}
 
 -- the first of two rows ends before the second begins
 pub rows_apart : (w a x : ℕ) → a < x → a * w + w ≤ x * w

@@ -17,7 +17,7 @@ use Rattle.network.specs.Table.{entry}
 use Rattle.sheet.specs.Sizes.{max_units}
 use Rattle.sheet.specs.Sheet.{Window}
 use Rattle.sheet.specs.Questions.{windows_of}
-use Rattle.sheet.specs.QuestionLaws.{windows_of_length}
+use Rattle.sheet.proofs.QuestionLaws.{windows_of_length}
 use Rattle.limit_windows.specs.Inside.{WindowsFit, exactly, exact_weights}
 use Rattle.lists.specs.Counts.{how_many_most}
 use Rattle.limit_places.specs.LentTableLaws.{TableFilled, filled_set, filled_same, place_inside}

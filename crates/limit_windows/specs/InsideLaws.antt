@@ -13,7 +13,7 @@ use Rattle.lists.specs.Members.{left, right}
 use Rattle.sheet.specs.Sheet.{Window, inside_of, no_window}
 use Rattle.limit_windows.specs.Inside.{WindowsFit, exactly}
 use Rattle.sheet.specs.Questions.{windows_of}
-use Rattle.sheet.specs.QuestionLaws.{windows_of_length, windows_of_at}
+use Rattle.sheet.proofs.QuestionLaws.{windows_of_length, windows_of_at}
 
 -- the window starts after boundary b and ends in slot a
 abbrev pub ends_in : ℕ → ℕ → Window → Bool

@@ -18,7 +18,7 @@ use Rattle.network.specs.Table.{entry}
 use Rattle.sheet.specs.Sizes.{boundaries_of}
 use Rattle.sheet.specs.Sheet.{Window, Rule, Sheet, on_stretch, at_most, at_least, limit}
 use Rattle.sheet.specs.Questions.{windows_of, rules_of, sheet_of}
-use Rattle.sheet.specs.LimitLaws.{limit_fwd, limit_back, limit_same}
+use Rattle.sheet.proofs.LimitLaws.{limit_fwd, limit_back, limit_same}
 use Rattle.limit_windows.specs.Inside.{inside_weights}
 use Rattle.limits.specs.LimitTable.{with_forward, tightened_at, Fillable}
 use Rattle.limit_windows.specs.InsideLaws.{WindowsOrdered, inside_none}

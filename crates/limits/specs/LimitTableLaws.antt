@@ -7,14 +7,14 @@ use Rattle.std.proofs.Math.ListN.{length, get_or}
 use Rattle.integers.specs.Parts.{Within, neg}
 use Rattle.lists.specs.Members.{In, in_at}
 use Rattle.network.specs.Table.{max_boundaries, table_of, entry}
-use Rattle.network.specs.TableLaws.{length_table_of, entry_front}
+use Rattle.network.proofs.TableLaws.{length_table_of, entry_front}
 use Rattle.sheet.specs.Sizes.{max_slots, max_count, top_of, boundaries_of}
 use Rattle.sheet.specs.Sheet.{Rule, Sheet, top, boundaries, no_window, inside_of, at_least, limit}
-use Rattle.sheet.specs.PlanLaws.{no_rule}
-use Rattle.sheet.specs.LimitLaws.{limit_fwd, limit_back, limit_same, at_most_n, at_least_le}
+use Rattle.sheet.proofs.PlanLaws.{no_rule}
+use Rattle.sheet.proofs.LimitLaws.{limit_fwd, limit_back, limit_same, at_most_n, at_least_le}
 use Rattle.sheet.specs.Questions.{windows_of, rules_of, sheet_of, lists_agree, accepted}
-use Rattle.sheet.specs.QuestionLaws.{Agree, lists_agree_read, windows_of_length, windows_of_at, rules_of_length, rules_of_at}
-use Rattle.sheet.specs.QuestionLaws.{accepted_sized, accepted_valid}
+use Rattle.sheet.proofs.QuestionLaws.{Agree, lists_agree_read, windows_of_length, windows_of_at, rules_of_length, rules_of_at}
+use Rattle.sheet.proofs.QuestionLaws.{accepted_sized, accepted_valid}
 use Rattle.limit_windows.specs.Inside.{WindowsFit}
 use Rattle.limits.specs.LimitTable.{Fillable, limit_table}
 use Rattle.lists.specs.Counts.{how_many_most}

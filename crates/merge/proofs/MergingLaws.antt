@@ -7,12 +7,12 @@ use mathlib.Core.List.{List, [], ◌∷◌, map, map-map}
 use lib.ListN.{length}
 use Rattle.lists.specs.Lists.{on_front}
 use Rattle.questions.specs.Questions.{ask, Verdict, no, all_yes, first_no}
-use Rattle.questions.specs.FirstNoLaws.{first_then}
+use Rattle.questions.proofs.FirstNoLaws.{first_then}
 use Rattle.sheet.specs.Sheet.{Window, WrittenSheet, constraints}
 use Rattle.sheet.specs.declared.Sheet.{Sheet}
 use Rattle.read_questions.specs.Reading.{ListRooms, rooms, lists_fit, Reply, refused, read, concluded}
-use Rattle.read_questions.specs.ArrayLaws.{rooms_same}
-use Rattle.read_questions.specs.ConcludedLaws.{concluded_read, concluded_no}
+use Rattle.read_questions.proofs.ArrayLaws.{rooms_same}
+use Rattle.read_questions.proofs.ConcludedLaws.{concluded_read, concluded_no}
 use Rattle.read_rooms.specs.Rooms.{sizes_of, leaves, filled}
 use Rattle.merge_questions.specs.Merging.{merge_questions, merged_in, merging}
 use Rattle.merge_join.specs.Join.{join_reply, MergedAtFront}

@@ -10,7 +10,7 @@ use lib.Dec.{eqb}
 use lib.ListN.{length, take, drop, length-append, length-map}
 use lib.Seq.{take_at, drop_at}
 use Rattle.questions.specs.Questions.{Verdict, no, all_yes, first_no}
-use Rattle.questions.specs.FirstNoLaws.{first_then}
+use Rattle.questions.proofs.FirstNoLaws.{first_then}
 use Rattle.questions.specs.declared.Refusal.{Refusal}
 use Rattle.sheet.specs.Sizes.{max_units}
 use Rattle.sheet.specs.Sheet.{Rule, WrittenSheet, loaders}
@@ -19,7 +19,7 @@ use Rattle.sheet.specs.declared.Sheet.{Sheet}
 use Rattle.read_questions.specs.Reading.{concluded}
 use Rattle.merge_sheets.specs.Merge.{merged_rules, merged}
 use Rattle.merge_rules.specs.Columns.{Columns, AtFront}
-use Rattle.sheet.specs.WrittenLaws.{rules_back}
+use Rattle.sheet.proofs.WrittenLaws.{rules_back}
 use Rattle.merge_questions.specs.Merging.{unit_questions, rule_questions, join_questions, blamed}
 use Rattle.merge_questions.specs.declared.Joined.TheVariants as Joined
 use Rattle.merge_both.specs.Both.{BothRead, AsksBoth}

@@ -6,10 +6,10 @@ use mathlib.Core.Bool.{◌&&◌, cond}
 use mathlib.Core.List.{List}
 use lib.Dec.{eqb}
 use Rattle.questions.specs.Questions.{Verdict, no, all_yes, first_no}
-use Rattle.questions.specs.FirstNoLaws.{first_then}
+use Rattle.questions.proofs.FirstNoLaws.{first_then}
 use Rattle.forms.specs.declared.House.TheVariants.{Ours}
 use Rattle.read_questions.specs.Reading.{sheet_in, Reply, refused, concluded}
-use Rattle.read_questions.specs.ConcludedLaws.{concluded_no}
+use Rattle.read_questions.proofs.ConcludedLaws.{concluded_no}
 use Rattle.merge_read.specs.Behind.{text_questions, text_reply}
 use Rattle.merge_questions.specs.Merging.{join_questions, merge_questions, merged_in, blamed, blamed_sheet}
 use Rattle.merge_join.specs.Join.{join_reply}

@@ -14,8 +14,8 @@ use Rattle.sheet.specs.declared.Sheet.{Sheet}
 use Rattle.forms.specs.declared.House.TheVariants.{Ours}
 use Rattle.read_questions.specs.Reading.{sheet_in, ListRooms, rooms, read}
 use Rattle.read_questions.specs.Steps.{Holds, columns, set_at}
-use Rattle.read_questions.specs.ArrayLaws.{rooms_same, column_front, columns_more, SameSizes, set_sizes, still_holds}
-use Rattle.read_questions.specs.ConcludedLaws.{Accepted, concluded_read}
+use Rattle.read_questions.proofs.ArrayLaws.{rooms_same, column_front, columns_more, SameSizes, set_sizes, still_holds}
+use Rattle.read_questions.proofs.ConcludedLaws.{Accepted, concluded_read}
 use Rattle.merge_sheets.specs.Merge.{merged_rules, merged}
 use Rattle.merge_rules.specs.Columns as Rules
 use Rattle.lists.specs.FrontLaws.{front_is, front_holds}

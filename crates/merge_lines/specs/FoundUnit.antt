@@ -9,9 +9,9 @@ use Rattle.std.proofs.Math.ListN.{get_or-map}
 use Rattle.lists.specs.First.{first_at}
 use Rattle.lists.specs.Members.{In, is_true}
 use Rattle.questions.specs.Questions.{ask, all_yes, first_no, AllYes}
-use Rattle.questions.specs.FirstNoLaws.{yes_every, every_yes, yes_front, yes_back, yes_at}
+use Rattle.questions.proofs.FirstNoLaws.{yes_every, every_yes, yes_front, yes_back, yes_at}
 use Rattle.sheet.specs.Sheet.{SheetUnit, loaders}
-use Rattle.sheet.specs.WrittenLaws.{no_unit}
+use Rattle.sheet.proofs.WrittenLaws.{no_unit}
 use Rattle.forms.specs.declared.House.TheVariants.{Ours}
 use Rattle.read_questions.specs.Reading.{sheet_in}
 use Rattle.read_places.specs.LineOfUnit.{LineOfUnit, line_says}
@@ -19,7 +19,7 @@ use Rattle.merge_read.specs.Behind.{text_questions}
 use Rattle.merge_read.specs.BehindLaws.{lines_asked}
 use Rattle.merge_sheets.specs.Merge.{merged}
 use Rattle.merge_questions.specs.Merging.{merge_questions, merged_in}
-use Rattle.merge_laws.specs.Merged.{first_asked, second_asked}
+use Rattle.merge_laws.proofs.Merged.{first_asked, second_asked}
 use Rattle.merge_lines.specs.Lines.{has_loader, questions_of_line, loader_place, spot_of}
 use Rattle.merge_lines.specs.LinesLaws.{place_found}
 

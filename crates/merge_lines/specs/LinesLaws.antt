@@ -12,12 +12,12 @@ use Rattle.std.proofs.lemmas.List.{length-map}
 use borrow.Author.Tests.{lt-ltb, ltb-true, ltb-false}
 use Rattle.lists.specs.Lists.{member}
 use Rattle.questions.specs.Questions.{ask, Verdict, no, all_yes, first_no, AllYes}
-use Rattle.questions.specs.FirstNoLaws.{first_then, every_yes}
+use Rattle.questions.proofs.FirstNoLaws.{first_then, every_yes}
 use Rattle.questions.specs.declared.Refusal.{Refusal}
 use Rattle.forms.specs.declared.House.TheVariants.{Ours}
 use Rattle.sheet.specs.Sheet.{loaders}
 use Rattle.read_questions.specs.Reading.{sheet_in, refused, read}
-use Rattle.read_questions.specs.ConcludedLaws.{concluded_read, concluded_no}
+use Rattle.read_questions.proofs.ConcludedLaws.{concluded_read, concluded_no}
 use Rattle.read_form.specs.declared.Kind.TheVariants as Kind
 use Rattle.read_places.specs.Places.{spots, sought}
 use Rattle.read_places.specs.PlacesLaws.{unit_count, sought_at, sought_past, spot_inside}
@@ -28,7 +28,7 @@ use Rattle.merge_sheets.specs.Merge.{merged}
 use Rattle.merge_questions.specs.Merging.{merge_questions, merged_in, blamed, blamed_sheet}
 use Rattle.merge_questions.specs.FirstLaws.{first_cons}
 use Rattle.merge_join.specs.Join.{join_reply}
-use Rattle.merge_laws.specs.Merged.{first_asked, second_asked}
+use Rattle.merge_laws.proofs.Merged.{first_asked, second_asked}
 use Rattle.merge_lines.specs.Lines.{has_loader, questions_of_line, loader_place, spot_of, place_of, found_by, found_line, in_second, in_either, located_at}
 use Rattle.merge_lines.specs.declared.LineFound.{LineFound}
 use Rattle.merge_lines.specs.declared.LineFound.TheVariants.{Refused, First, Second}

@@ -9,14 +9,14 @@ use lib.ListN.{length, take, drop, length-map, length-drop, drop_of_length-le}
 use lib.Seq.{sets, sets-eq, take_all, drop-drop}
 use borrow.Author.Tests.{le-leb, lt-leb}
 use Rattle.questions.specs.Questions.{Verdict, first_no}
-use Rattle.questions.specs.FirstNoLaws.{no_here, yes_here}
+use Rattle.questions.proofs.FirstNoLaws.{no_here, yes_here}
 use Rattle.sheet.specs.Sizes.{max_units, max_rules, max_bytes}
 use Rattle.forms.specs.declared.House.{House}
 use Rattle.forms.specs.declared.House.TheVariants.{Ours}
 use Rattle.read_questions.specs.Reading.{sheet_in, pass_questions, ListRooms, rooms, refused, reply_of, concluded}
 use Rattle.read_questions.specs.Steps.{Holds, pass_reply, Kept}
-use Rattle.read_questions.specs.ArrayLaws.{rooms_same}
-use Rattle.read_questions.specs.ConcludedLaws.{concluded_read}
+use Rattle.read_questions.proofs.ArrayLaws.{rooms_same}
+use Rattle.read_questions.proofs.ConcludedLaws.{concluded_read}
 use Rattle.read_questions.specs.declared.Reading.{Reading}
 use Rattle.read_questions.specs.declared.Reading.TheVariants as Reading
 use Rattle.merge_read.specs.Behind.{text_reply, KeptBehind}

@@ -2,7 +2,7 @@
 use Rattle.std.specs.Prelude.{List, [], ◌∷◌, ℕ, leb, length}
 use Rattle.lists.specs.Members.{right}
 use Rattle.questions.specs.Questions.{ask, AllYes}
-use Rattle.questions.specs.FirstNoLaws.{yes_front}
+use Rattle.questions.proofs.FirstNoLaws.{yes_front}
 use Rattle.sheet.specs.Sizes.{max_bytes}
 use Rattle.forms.specs.Lines.{lines}
 use Rattle.forms.specs.declared.House.{House}

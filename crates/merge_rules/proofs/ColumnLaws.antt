@@ -11,9 +11,9 @@ use lib.Seq.{map-set_same}
 use Rattle.lists.specs.Lists.{on_front}
 use Rattle.lists.specs.First.{first_place, first_before, first_at}
 use Rattle.sheet.specs.Sheet.{Rule, on_stretch}
-use Rattle.sheet.specs.PlanLaws.{no_rule}
+use Rattle.sheet.proofs.PlanLaws.{no_rule}
 use Rattle.merge_sheets.specs.Merge.{tightened, with_rule}
-use Rattle.merge_sheets.specs.CombineLaws.{with_rule_there, with_rule_behind}
+use Rattle.merge_sheets.proofs.CombineLaws.{with_rule_there, with_rule_behind}
 use Rattle.merge_rules.specs.Columns.{Columns, columns, rule_of, stretch_at, AtFront}
 use Rattle.merge_rules.proofs.FrontLaws.{front_at, front_set, front_more}
 

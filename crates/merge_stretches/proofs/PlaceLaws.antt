@@ -14,13 +14,13 @@ use Rattle.lists.specs.Lists.{on_front}
 use Rattle.lists.specs.First.{first_place, first_at}
 use Rattle.sheet.specs.Sizes.{max_rules}
 use Rattle.sheet.specs.Sheet.{Rule, on_stretch}
-use Rattle.sheet.specs.PlanLaws.{no_rule}
+use Rattle.sheet.proofs.PlanLaws.{no_rule}
 use Rattle.sheet.specs.Questions.{rules_of}
-use Rattle.sheet.specs.QuestionLaws.{rules_of_length, rules_of_at}
+use Rattle.sheet.proofs.QuestionLaws.{rules_of_length, rules_of_at}
 use Rattle.lists.specs.Last.{last_below, last_same}
 use Rattle.merge_sheets.specs.Merge.{merged_rules}
-use Rattle.merge_sheets.specs.CombineLaws.{merged_rules_few}
-use Rattle.sheet.specs.WrittenLaws.{rules_back}
+use Rattle.merge_sheets.proofs.CombineLaws.{merged_rules_few}
+use Rattle.sheet.proofs.WrittenLaws.{rules_back}
 use Rattle.merge_rules.specs.Columns.{stretch_at}
 use Rattle.lists.specs.FrontLaws.{front_is}
 use Rattle.questions.specs.Questions.{first_no}

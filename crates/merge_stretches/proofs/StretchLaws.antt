@@ -12,12 +12,12 @@ use borrow.Author.Tests.{lt-ltb, le-ltb, le-leb, lt-leb}
 use Rattle.lists.specs.Lists.{every}
 use Rattle.lists.specs.First.{first_place}
 use Rattle.questions.specs.Questions.{ask, Verdict, no, all_yes, first_no}
-use Rattle.questions.specs.FirstNoLaws.{no_here, yes_here}
+use Rattle.questions.proofs.FirstNoLaws.{no_here, yes_here}
 use Rattle.sheet.specs.Sizes.{max_rules}
 use Rattle.sheet.specs.Sheet.{Rule}
-use Rattle.sheet.specs.PlanLaws.{no_rule}
+use Rattle.sheet.proofs.PlanLaws.{no_rule}
 use Rattle.sheet.specs.Questions.{rules_of}
-use Rattle.sheet.specs.QuestionLaws.{rules_of_length, rules_of_at}
+use Rattle.sheet.proofs.QuestionLaws.{rules_of_length, rules_of_at}
 use Rattle.merge_sheets.specs.Merge.{crossed}
 use Rattle.read_form.specs.declared.Kind.TheVariants as Kind
 use Rattle.merge_questions.specs.Merging.{line_number, stretch_questions}

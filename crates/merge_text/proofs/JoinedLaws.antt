@@ -12,14 +12,14 @@ use Rattle.forms.specs.declared.House.TheVariants.{Ours}
 use Rattle.plan_ask.specs.Asking.{Listed}
 use Rattle.read_questions.specs.Reading.{ListRooms, refused, read}
 use Rattle.read_questions.specs.Steps.{columns}
-use Rattle.read_questions.specs.ConcludedLaws.{Accepted, concluded_read, concluded_no}
+use Rattle.read_questions.proofs.ConcludedLaws.{Accepted, concluded_read, concluded_no}
 use Rattle.read_whole.specs.Fronts.{fronts, Held}
 use Rattle.read_whole.specs.FrontsLaws.{lists_of, written_back, passes_back}
 use Rattle.sheet_texts.specs.SheetText.{sheet_text}
 use Rattle.print_bytes.specs.Writing.{refused_line}
 use Rattle.merge_questions.specs.Merging.{merge_questions, merged_in}
 use Rattle.merge_join.specs.Join.{join_reply, fronts_of, MergedAtFront}
-use Rattle.merge_laws.specs.Merged.{merge_accepted, merge_loaders, refused_small}
+use Rattle.merge_laws.proofs.Merged.{merge_accepted, merge_loaders, refused_small}
 use Rattle.write_fronts.specs.Outcome.{bytes_by, reply_by}
 use Rattle.merge_text.specs.MergeText.{merged_text, merging_text}
 

@@ -7,14 +7,14 @@ use Rattle.questions.specs.Questions.{Verdict, no, all_yes, first_no}
 use Rattle.forms.specs.declared.House.TheVariants.{Ours}
 use Rattle.sheet.specs.Sheet.{WrittenSheet, constraints, loaders}
 use Rattle.sheet_texts.specs.SheetText.{sheet_text, max_text}
-use Rattle.sheet_texts.specs.SheetTextLaws.{text_short}
-use Rattle.print_bytes.specs.WritingLaws.{refused_short}
+use Rattle.sheet_texts.proofs.SheetTextLaws.{text_short}
+use Rattle.print_bytes.proofs.WritingLaws.{refused_short}
 use Rattle.read_questions.specs.Reading.{questions, rooms_for_all, sheet_in}
-use Rattle.round_trip.specs.RoundTrip.{text_accepted, text_read}
+use Rattle.round_trip.proofs.RoundTrip.{text_accepted, text_read}
 use Rattle.merge_questions.specs.Merging.{merge_questions, merged_in, blamed_sheet}
-use Rattle.merge_laws.specs.TextLaws.{front}
-use Rattle.merge_laws.specs.Merged.{merge_accepted, merge_loaders, merge_fits, merge_refusals, refused_small}
-use Rattle.merge_laws.specs.Merged as merge
+use Rattle.merge_laws.proofs.TextLaws.{front}
+use Rattle.merge_laws.proofs.Merged.{merge_accepted, merge_loaders, merge_fits, merge_refusals, refused_small}
+use Rattle.merge_laws.proofs.Merged as merge
 use Rattle.write_fronts.specs.Outcome.{bytes_by, refused, reply_by}
 use Rattle.wave_words.specs.declared.Query.{Query}
 use Rattle.answer_conditions.specs.Answer.{ByReading, AnswerToSheet, AnswerTo}

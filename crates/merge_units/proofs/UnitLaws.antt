@@ -11,7 +11,7 @@ use borrow.Author.Tests.{eq-eqb, ne_eqb, lt-ltb, le-ltb, le-leb, lt-leb}
 use Rattle.lists.specs.Lists.{member}
 use Rattle.lists.specs.First.{first_place}
 use Rattle.questions.specs.Questions.{ask, Verdict, no, all_yes, first_no}
-use Rattle.questions.specs.FirstNoLaws.{no_here, yes_here}
+use Rattle.questions.proofs.FirstNoLaws.{no_here, yes_here}
 use Rattle.sheet.specs.Sizes.{max_units}
 use Rattle.read_form.specs.declared.Kind.TheVariants as Kind
 use Rattle.merge_questions.specs.Merging.{line_number, shared_at, unit_questions}

@@ -1,9 +1,5 @@
 pub mod Network
-pub mod NetworkLaws
 pub mod Closure
-pub mod ClosureLaws
 pub mod Table
-pub mod TableLaws
 pub mod RowStep
 pub mod Bounds
-pub mod BoundLaws

@@ -14,7 +14,7 @@ use Rattle.integers.specs.Parts.{up, dn, Within, ints, sum, apart, min_ℤ}
 use Rattle.lists.specs.Slices.{part_length as length-of-part, part_at as place-of-part}
 use Rattle.lists.specs.Values.{length_list_of, list_of_at}
 use Rattle.network.specs.Table.{entry}
-use Rattle.network.specs.TableLaws.{row_inside}
+use Rattle.network.proofs.TableLaws.{row_inside}
 use Rattle.network.specs.RowStep.{relaxed_at, relaxed, SumsFit}
 use Rattle.network.specs.Bounds.{max_weight}
 use Rattle.network_cuts.specs.Decider.{value_at, into, Modest, LeastSum, CutNetwork, Cuts, Sinking, AdmitsAt, height_at, Settling, fell}

@@ -11,7 +11,7 @@ use lib.IntN.{ℤ, pos, ◌+ℤ◌}
 use lib.Signed.{◌≤ℤ◌, ◌<ℤ◌}
 use Rattle.integers.specs.Parts.{up, dn, Within, ints, sum, apart, nonneg, min_ℤ, min_cases, min≤l, min≤r}
 use Rattle.network.specs.Network.{Weights, Potential, Feasible}
-use Rattle.network.specs.NetworkLaws.{lesser_feasible}
+use Rattle.network.proofs.NetworkLaws.{lesser_feasible}
 use Rattle.network.specs.Bounds.{max_weight}
 use Rattle.network_cuts.specs.Cut.{Keeps, Admits}
 use Rattle.network_cuts.specs.Sink.{Closed, Sunk, height}

@@ -12,7 +12,7 @@ use lib.Seq.{drop-cons, drop-set-lt, get_or-drop, get_or-set_same}
 use lib.IntN.{ℤ, ◌+ℤ◌}
 use Rattle.lists.specs.First.{first_from, From, first_from_lem}
 use Rattle.lists.specs.Members.{In}
-use Rattle.network.specs.NetworkLaws.{Upto, Distinct, distinct_length, Cycle}
+use Rattle.network.proofs.NetworkLaws.{Upto, Distinct, distinct_length, Cycle}
 use Rattle.network.specs.Table.{entry}
 use Rattle.network_levels.specs.Levels.{level}
 use Rattle.network_cycles.specs.CycleLaws.{at_in}

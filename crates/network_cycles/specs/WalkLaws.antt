@@ -10,7 +10,7 @@ use native.Mathlib.Omega.{arith}
 use Rattle.std.proofs.Math.ListN.{get_or}
 use Rattle.integers.specs.Parts.{ints, sum}
 use Rattle.network.specs.Network.{Weights, via}
-use Rattle.network.specs.NetworkLaws.{Upto, upto_left, Distinct, distinct_left, Cycle}
+use Rattle.network.proofs.NetworkLaws.{Upto, upto_left, Distinct, distinct_left, Cycle}
 use Rattle.network_levels.specs.Levels.{level}
 use Rattle.network_levels.specs.LevelLaws.{level_sinks, fell_earlier}
 

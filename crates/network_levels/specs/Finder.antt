@@ -3,7 +3,7 @@ use Rattle.std.specs.Prelude.{◌≡◌, List, ℕ, suc, ◌+◌, ◌-◌, ◌*�
 use Rattle.std.specs.Int.{w16}
 use Rattle.std.proofs.Common.{SFits}
 use Rattle.network.specs.Network.{Potential, Feasible, is_negative_cycle}
-use Rattle.network.specs.NetworkLaws.{Cycle}
+use Rattle.network.proofs.NetworkLaws.{Cycle}
 use Rattle.network.specs.Table.{max_boundaries, entry}
 use Rattle.network.specs.Bounds.{Small}
 use Rattle.network_levels.specs.Levels.{level}

@@ -24,12 +24,12 @@ use Rattle.lists.specs.Values.{list_of, length_list_of, list_of_at, list_of_is, 
 use Rattle.lists.specs.Values.{Filled, filled_old, filled_new, filled_part, front_rest, front_past, front_part}
 use Rattle.network.specs.Closure.{step}
 use Rattle.network.specs.Table.{max_boundaries, entry, middle, cleared}
-use Rattle.network.specs.TableLaws.{length_rows, rows_snoc, drop_middle}
+use Rattle.network.proofs.TableLaws.{length_rows, rows_snoc, drop_middle}
 use Rattle.network.specs.RowStep.{relaxed_at, relaxed, falls_in, SumsFit}
 use Rattle.network.specs.Bounds.{Small}
-use Rattle.network.specs.BoundLaws.{sum_fits}
+use Rattle.network.proofs.BoundLaws.{sum_fits}
 use Rattle.network_pass.specs.Pass.{Passed, finished, stopped, after_rows, pass_from, outcome_of, After, Ran}
-use Rattle.network_pass.specs.PassLaws.{pass_more}
+use Rattle.network_pass.proofs.PassLaws.{pass_more}
 use Rattle.network_pass.specs.PassBounds.{StaysSmall}
 use Rattle.network_pass.specs.declared.Outcome.{Outcome}
 use Rattle.network_pass.specs.declared.Outcome.TheVariants.{Finished, Stopped}

@@ -15,7 +15,7 @@ use Rattle.integers.specs.Parts.{min_ℤ}
 use Rattle.network.specs.Network.{Weights}
 use Rattle.network.specs.Closure.{step}
 use Rattle.network.specs.Table.{table_of, entry, middle}
-use Rattle.network.specs.TableLaws.{length_middle, row_inside}
+use Rattle.network.proofs.TableLaws.{length_middle, row_inside}
 use Rattle.network_pass.specs.Pass.{Passed, finished, stopped, after_rows, pass_from, pass_of}
 
 -- ---- tables that agree place by place

@@ -1,4 +1,2 @@
 pub mod Reply
 pub mod Planning
-pub mod ConclusionLaws
-pub mod SolvingLaws

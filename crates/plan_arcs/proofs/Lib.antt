@@ -1,1 +1,2 @@
+pub mod ArcLaws
 mod RowFillLaws

@@ -1,2 +1,1 @@
 pub mod Arcs
-pub mod ArcLaws

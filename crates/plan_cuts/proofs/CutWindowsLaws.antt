@@ -11,7 +11,7 @@ use lib.Seq.{get_or-drop}
 use lib.IntN.{ℤ}
 use Rattle.lists.specs.Slices.{part_at, part_length, back, back_length, back_past, back_before, back_inside}
 use Rattle.network.specs.Table.{max_boundaries}
-use Rattle.network.specs.TableLaws.{row_inside}
+use Rattle.network.proofs.TableLaws.{row_inside}
 use Rattle.plan_marks.specs.Marks.{slot}
 use Rattle.plan_marks.specs.MarkLaws.{zeros}
 use Rattle.plan_cuts.specs.Cuts.{KnownCut, KnownRow, CutRow, Floor, KnownCuts, CutRows}

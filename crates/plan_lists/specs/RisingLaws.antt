@@ -6,7 +6,7 @@ use Rattle.std.proofs.Common.{ap₂, ◌∙◌, arith, drop_of_length-le, drop-c
 use Rattle.lists.specs.Lists.{every}
 use Rattle.sheet.specs.Sheet.{Window, no_window}
 use Rattle.sheet.specs.Questions.{windows_of, rising}
-use Rattle.sheet.specs.QuestionLaws.{windows_of_length, windows_of_at}
+use Rattle.sheet.proofs.QuestionLaws.{windows_of_length, windows_of_at}
 
 unfoldable pub rising_from : ℕ → ℕ → ℕ → List ℕ → List ℕ → ℕ → Bool
 rising_from least start most fs ls j = every (λ w. rising least start most w.first w.last) (drop j (windows_of fs ls))

@@ -5,7 +5,7 @@ use Rattle.std.proofs.Common.{sym, ap, inl, inr, arith, mul-le-mul_right, get_or
 use Rattle.std.proofs.Math.Logic.{⊎_map}
 use Rattle.std.proofs.Math.Decide.{ℕ_discrete}
 use Rattle.network.specs.Table.{max_boundaries}
-use Rattle.network.specs.TableLaws.{row_inside}
+use Rattle.network.proofs.TableLaws.{row_inside}
 use Rattle.sheet.specs.Sizes.{max_cells}
 use Rattle.limit_places.specs.LentTableLaws.{place_row, place_column}
 use Rattle.plan_marks.specs.Marks.{seen, seen_at, Units, Marked}

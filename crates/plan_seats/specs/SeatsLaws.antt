@@ -5,16 +5,16 @@ use Rattle.std.proofs.Common.{sym, ◌∙◌, arith}
 use Rattle.std.proofs.Math.Path.{ap}
 use Rattle.integers.specs.Parts.{up, ints, sum, neg}
 use Rattle.network.specs.Network.{Weights}
-use Rattle.network.specs.ClosureLaws.{row_feasible}
+use Rattle.network.proofs.ClosureLaws.{row_feasible}
 use Rattle.network.specs.Table.{max_boundaries}
 use Rattle.sheet.specs.Sizes.{max_units}
 use Rattle.sheet.specs.Sheet.{Sheet, Window, top, no_window, at_least, limit, printed_plan, looked}
-use Rattle.sheet.specs.LimitLaws.{limit_back}
-use Rattle.sheet.specs.QuestionLaws.{windows_of_length, windows_of_at}
+use Rattle.sheet.proofs.LimitLaws.{limit_back}
+use Rattle.sheet.proofs.QuestionLaws.{windows_of_length, windows_of_at}
 use Rattle.plans.specs.Seating.{at, by_rank, seat_slots, seats_of, looks_slots, looks_of}
-use Rattle.plans.specs.FairLaws.{firsts, lasts}
-use Rattle.plans.specs.PrintedLaws.{row_nonneg, seats_are_printed}
-use Rattle.plans.specs.LookedLaws.{looks_are_looked}
+use Rattle.plans.proofs.FairLaws.{firsts, lasts}
+use Rattle.plans.proofs.PrintedLaws.{row_nonneg, seats_are_printed}
+use Rattle.plans.proofs.LookedLaws.{looks_are_looked}
 use Rattle.plan_seats.specs.Seats.{count_at, seats_from, looks_from, Seatable, RowOf}
 
 module _ (s : Sheet) (D : Weights) (first last : List ℕ) (counts : List ℤ) (R : RowOf s D first last counts) (lists : length last ≡ length first) where

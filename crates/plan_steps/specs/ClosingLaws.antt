@@ -3,7 +3,7 @@ use Rattle.std.specs.Prelude.{◌≡◌, refl, List, ◌++◌, ℕ, ◌*◌, ◌
 use Rattle.std.proofs.Common.{sym, ap, ◌∙◌, subst, arith, drop_at}
 use Rattle.network.specs.Table.{max_boundaries, table_of, cleared}
 use Rattle.network_pass.specs.Pass.{Passed, finished, stopped, pass_of, outcome_of, table_after, After}
-use Rattle.network.specs.TableLaws.{length_table_of}
+use Rattle.network.proofs.TableLaws.{length_table_of}
 use Rattle.network_pass.specs.PassFront.{with_rest, pass_front}
 use Rattle.network_pass.specs.PassBounds.{Limited}
 use Rattle.network_pass.specs.declared.Outcome.{Outcome}
@@ -13,9 +13,9 @@ use Rattle.sheet.specs.Questions.{accepted}
 use Rattle.sheet.specs.Lists.{Lists, given}
 use Rattle.limits.specs.LimitTable.{limit_table}
 use Rattle.limits.specs.LimitTableLaws.{boundaries_are, length_limit_table}
-use Rattle.limit_bounds.specs.LimitedLaws.{limits_limited_room}
+use Rattle.limit_bounds.proofs.LimitedLaws.{limits_limited_room}
 use Rattle.plan_rooms.specs.Rooms.{places}
-use Rattle.plan_ask.specs.AskingLaws.{span_bound}
+use Rattle.plan_ask.proofs.AskingLaws.{span_bound}
 use Rattle.plan_steps.specs.Closing.{passed, table_left, Closed}
 
 -- ---- the table, filled with the limits

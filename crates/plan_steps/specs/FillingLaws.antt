@@ -5,16 +5,16 @@ use Rattle.std.proofs.Math.ListN.{get_or-append}
 use Rattle.integers.specs.Parts.{ints, sum}
 use Rattle.network.specs.Network.{Weights}
 use Rattle.network.specs.Table.{max_boundaries, entry}
-use Rattle.network.specs.TableLaws.{row_inside}
+use Rattle.network.proofs.TableLaws.{row_inside}
 use Rattle.sheet.specs.Sizes.{max_units}
 use Rattle.sheet.specs.Sheet.{Sheet, top, boundaries, limit, lawful, printed_plan}
-use Rattle.sheet.specs.PlanLaws.{lawful_iff}
-use Rattle.sheet.specs.QuestionLaws.{windows_of_length, accepted_sized}
-use Rattle.sheet.specs.Solved.{Solved}
+use Rattle.sheet.proofs.PlanLaws.{lawful_iff}
+use Rattle.sheet.proofs.QuestionLaws.{windows_of_length, accepted_sized}
+use Rattle.sheet.proofs.Solved.{Solved}
 use Rattle.limits.specs.LimitTableLaws.{boundaries_fit}
 use Rattle.plan_seats.specs.Seats.{Seatable, RowOf}
 use Rattle.plan_seats.specs.SeatsLaws.{row_seatable}
-use Rattle.plans.specs.PrintedLaws.{some_printed}
+use Rattle.plans.proofs.PrintedLaws.{some_printed}
 use Rattle.plan_windows.specs.Narrowing.{Narrowable}
 use Rattle.plan_steps.specs.Filling.{Ready}
 

@@ -5,13 +5,13 @@ use Rattle.std.proofs.Math.Path.{refl, subst}
 use Rattle.std.proofs.Common.{sym, ◌∙◌, arith}
 use Rattle.network.specs.Network.{Potential, Feasible}
 use Rattle.network.specs.Table.{table_of, entry}
-use Rattle.network.specs.TableLaws.{entry_table_of, length_table_of}
+use Rattle.network.proofs.TableLaws.{entry_table_of, length_table_of}
 use Rattle.network_pass.specs.Pass.{finished, stopped}
-use Rattle.network_pass.specs.PassLaws.{finished_kept, pass_finished, pass_sound, stopped_infeasible}
+use Rattle.network_pass.proofs.PassLaws.{finished_kept, pass_finished, pass_sound, stopped_infeasible}
 use Rattle.sheet.specs.Sheet.{Sheet, top, boundaries, limit, lawful, count_in}
-use Rattle.sheet.specs.LimitLaws.{limit_same}
-use Rattle.sheet.specs.PotentialLaws.{Valid, lawful_feasible}
-use Rattle.sheet.specs.Solved.{Solved}
+use Rattle.sheet.proofs.LimitLaws.{limit_same}
+use Rattle.sheet.proofs.PotentialLaws.{Valid, lawful_feasible}
+use Rattle.sheet.proofs.Solved.{Solved}
 use Rattle.plan_rooms.specs.Rooms.{places}
 use Rattle.plan_steps.specs.Closing.{passed}
 

@@ -6,7 +6,7 @@ use Rattle.std.specs.Int.Signed.{lt_z}
 use Rattle.lists.specs.Lists.{every}
 use Rattle.lists.specs.Members.{left, right}
 use Rattle.network.specs.Network.{Weights, Potential, Feasible, around, distinct, lowest_first, is_negative_cycle}
-use Rattle.network.specs.NetworkLaws.{upto_of_every, around_same}
+use Rattle.network.proofs.NetworkLaws.{upto_of_every, around_same}
 use Rattle.network.specs.Table.{entry, cleared}
 use Rattle.network_pass.specs.Pass.{stopped}
 use Rattle.network_levels.specs.Finder.{Infeasible, Weighed, CycleAt}

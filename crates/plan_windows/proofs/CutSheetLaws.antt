@@ -20,9 +20,9 @@ use Rattle.lists.specs.Lists.{one_if, how_many, smallest, keep}
 use Rattle.lists.specs.Members.{both, left, right}
 use Rattle.network.specs.Network.{Potential, Feasible}
 use Rattle.sheet.specs.Sheet.{Window, Sheet, no_window, top, count_in, inside_of, on_stretch, lawful, at_most, at_least, limit}
-use Rattle.sheet.specs.PlanLaws.{lawful_iff, seated_in_windows}
-use Rattle.sheet.specs.LimitLaws.{count_in_split, inside_count, limit_fwd, limit_back, limit_same, at_least_rule, at_least_windows, at_least_le}
-use Rattle.sheet.specs.PotentialLaws.{Valid}
+use Rattle.sheet.proofs.PlanLaws.{lawful_iff, seated_in_windows}
+use Rattle.sheet.proofs.LimitLaws.{count_in_split, inside_count, limit_fwd, limit_back, limit_same, at_least_rule, at_least_windows, at_least_le}
+use Rattle.sheet.proofs.PotentialLaws.{Valid}
 use Rattle.plan_windows.specs.CutSheet.{added_arc, cut_to}
 
 -- ---- one entry of a list replaced

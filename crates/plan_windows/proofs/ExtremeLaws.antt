@@ -13,10 +13,10 @@ use lib.Signed.{◌≤ℤ◌}
 use Rattle.integers.specs.Parts.{ints, sum, neg}
 use Rattle.network.specs.Network.{Weights, Potential, Feasible}
 use Rattle.sheet.specs.Sheet.{Window, Sheet, no_window, top, count_in, lawful, limit, earliest, latest}
-use Rattle.sheet.specs.PlanLaws.{lawful_iff, earliest_bound, earliest_attained, latest_bound, latest_attained}
-use Rattle.sheet.specs.PotentialLaws.{lawful_feasible}
-use Rattle.sheet.specs.Solved.{Solved}
-use Rattle.plans.specs.FeasibleLaws.{feasible_lawful}
+use Rattle.sheet.proofs.PlanLaws.{lawful_iff, earliest_bound, earliest_attained, latest_bound, latest_attained}
+use Rattle.sheet.proofs.PotentialLaws.{lawful_feasible}
+use Rattle.sheet.proofs.Solved.{Solved}
+use Rattle.plans.proofs.FeasibleLaws.{feasible_lawful}
 use Rattle.network_cuts.specs.Cut.{Admits, LeastCut}
 use Rattle.plan_arcs.specs.Arcs.{mirrored}
 use Rattle.plan_windows.specs.CutSheet.{added_arc, cut_to}

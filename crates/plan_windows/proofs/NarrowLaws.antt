@@ -16,19 +16,19 @@ use Rattle.integers.specs.Parts.{up, dn, Within, ints, sum, neg, apart}
 use Rattle.lists.specs.Lists.{how_many}
 use Rattle.lists.specs.Values.{list_of, Filled, list_of_same}
 use Rattle.network.specs.Network.{Weights}
-use Rattle.network.specs.ClosureLaws.{there_and_back}
+use Rattle.network.proofs.ClosureLaws.{there_and_back}
 use Rattle.network.specs.Table.{entry}
 use Rattle.network.specs.Bounds.{max_weight}
 use Rattle.sheet.specs.Sizes.{max_units}
 use Rattle.sheet.specs.Sheet.{Window, Sheet, no_window, top, inside_of, limit, at_least, earliest, latest, earliest_slots, latest_slots}
-use Rattle.sheet.specs.PlanLaws.{lawful_iff}
-use Rattle.sheet.specs.LimitLaws.{limit_fwd, limit_back, limit_same, at_most_n}
+use Rattle.sheet.proofs.PlanLaws.{lawful_iff}
+use Rattle.sheet.proofs.LimitLaws.{limit_fwd, limit_back, limit_same, at_most_n}
 use Rattle.lists.specs.Counts.{how_many_most}
 use Rattle.limit_windows.specs.Inside.{WindowsFit, inside_weights}
 use Rattle.sheet.specs.Questions.{windows_of}
-use Rattle.sheet.specs.QuestionLaws.{windows_of_length, windows_of_at}
+use Rattle.sheet.proofs.QuestionLaws.{windows_of_length, windows_of_at}
 use Rattle.plan_arcs.specs.Arcs.{one_less, HasEntries}
-use Rattle.plan_arcs.specs.ArcLaws.{less_arc, less_other, inside_within}
+use Rattle.plan_arcs.proofs.ArcLaws.{less_arc, less_other, inside_within}
 use Rattle.plan_windows.specs.CutSheet.{added_arc}
 use Rattle.network_cuts.specs.Sink.{Closed}
 use Rattle.network_cuts.specs.Decider.{into, CutNetwork}

@@ -1,10 +1,1 @@
 pub mod Seating
-pub mod OrderLaws
-pub mod SeatingLaws
-pub mod UniquenessLaws
-pub mod FairLaws
-pub mod FeasibleLaws
-pub mod CountLaws
-pub mod PrintedLaws
-pub mod LookedLaws
-pub mod DistinctLaws

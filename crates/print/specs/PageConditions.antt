@@ -16,22 +16,22 @@ use Rattle.sheet.specs.Sheet.{Sheet, boundaries, lawful, printed_plan}
 use Rattle.sheet.specs.Lists.{WrittenLists, given_by}
 use Rattle.plan_rooms.specs.Rooms.{Rooms, plan_lent, rooms_fit}
 use Rattle.plan_ask.specs.Questions.{refusal}
-use Rattle.plan_ask.specs.ListedLaws.{as_many_units}
+use Rattle.plan_ask.proofs.ListedLaws.{as_many_units}
 use Rattle.plan_ask.specs.Asking.{Listed}
-use Rattle.plan_ask.specs.SolvableLaws.{asked_lists}
+use Rattle.plan_ask.proofs.SolvableLaws.{asked_lists}
 use Rattle.plan_answers.specs.Planning.{conclusion, Settled}
 use Rattle.plan_answers.specs.Reply as planning
 use Rattle.plan_conditions.specs.Statements.{SomeLawful, NoneLawful, AllCounts}
-use Rattle.plan_conditions.specs.Conditions as plans
+use Rattle.plan_conditions.proofs.Conditions as plans
 use Rattle.print_bytes.specs.Writing.{Room, Written}
 use Rattle.pages.specs.Page.{max_page}
-use Rattle.pages.specs.PageBounds.{plan_short, none_short}
+use Rattle.pages.proofs.PageBounds.{plan_short, none_short}
 use Rattle.pages.specs.PageLines.{read_lines, answer_on}
-use Rattle.pages.specs.PageLinesLaws.{answer_read}
+use Rattle.pages.proofs.PageLinesLaws.{answer_read}
 use Rattle.pages.specs.SheetPages.{plan_bytes, ring_bytes}
 use Rattle.print_answer.specs.Printing.{holds, Asked, Shown, Printing}
 use Rattle.pages.specs.Pages.{PlanPage, NonePage}
-use Rattle.pages.specs.PagesLaws.{plan_page_lem, none_page_lem}
+use Rattle.pages.proofs.PagesLaws.{plan_page_lem, none_page_lem}
 use Rattle.print_answer.specs.Reply as says
 use Rattle.print_answer.specs.Reply.{refusal_of}
 

@@ -1,3 +1,2 @@
 pub mod Reply
 pub mod Printing
-pub mod PrintingLaws

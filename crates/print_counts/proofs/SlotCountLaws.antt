@@ -15,7 +15,7 @@ use Rattle.lists.specs.Lists.{how_many, one_if}
 use Rattle.lists.specs.Counts.{how_many_count, count_most}
 use Rattle.network.specs.Table.{max_boundaries}
 use Rattle.pages.specs.Page.{units_at, slot_counts}
-use Rattle.pages.specs.PageLaws.{counts_at, counts_length}
+use Rattle.pages.proofs.PageLaws.{counts_at, counts_length}
 
 how_many_last : (t : ℕ → Bool) (xs : List ℕ) (x : ℕ) → how_many t (xs ++ (x ∷ [])) ≡ how_many t xs + one_if (t x)
 how_many_last t [] x = omega arith

@@ -9,27 +9,27 @@ use native.Mathlib.Omega.{arith}
 use Rattle.std.proofs.Math.ListN.{length, length-append}
 use Rattle.integers.specs.Parts.{up, dn, neg}
 use Rattle.lists.specs.Values.{length_list_of}
-use Rattle.network.specs.NetworkLaws.{Upto}
+use Rattle.network.proofs.NetworkLaws.{Upto}
 use Rattle.network.specs.Table.{entry, table_of}
-use Rattle.network.specs.TableLaws.{length_table_of, entry_front}
+use Rattle.network.proofs.TableLaws.{length_table_of, entry_front}
 use Rattle.network_pass.specs.Pass.{finished}
-use Rattle.network_pass.specs.PassLaws.{finished_kept}
+use Rattle.network_pass.proofs.PassLaws.{finished_kept}
 use Rattle.sheet.specs.Sizes.{top_of, boundaries_of}
 use Rattle.sheet.specs.Sheet.{Sheet, top, boundaries, limit, earliest, latest, earliest_slots, latest_slots, printed_plan, least_in, greatest_in, is_ring}
-use Rattle.sheet.specs.PlanLaws.{lawful_iff}
+use Rattle.sheet.proofs.PlanLaws.{lawful_iff}
 use Rattle.sheet.specs.Questions.{accepted, loaders_fit}
-use Rattle.sheet.specs.QuestionLaws.{accepted_sized, accepted_valid}
-use Rattle.sheet.specs.Solved.{Solved}
+use Rattle.sheet.proofs.QuestionLaws.{accepted_sized, accepted_valid}
+use Rattle.sheet.proofs.Solved.{Solved}
 use Rattle.limits.specs.LimitTable.{limit_table}
 use Rattle.limits.specs.LimitTableLaws.{limit_small}
-use Rattle.plans.specs.PrintedLaws.{some_printed}
-use Rattle.plans.specs.CountLaws.{greatest_entry, least_entry}
+use Rattle.plans.proofs.PrintedLaws.{some_printed}
+use Rattle.plans.proofs.CountLaws.{greatest_entry, least_entry}
 use Rattle.plan_rooms.specs.Rooms.{places}
 use Rattle.plan_steps.specs.Closing.{passed}
 use Rattle.plan_steps.specs.PassedLaws.{passed_solved}
 use Rattle.pages.specs.Page.{Printable, table_page, least_from, greatest_from, fits_page, RingFits, none_page, max_page, max_ring_page}
-use Rattle.pages.specs.PageLaws.{SameSlots, plan_page_same, fits_page_same, none_page_same}
-use Rattle.pages.specs.PageBounds.{RingRead, ring_read, plan_short, none_fits}
+use Rattle.pages.proofs.PageLaws.{SameSlots, plan_page_same, fits_page_same, none_page_same}
+use Rattle.pages.proofs.PageBounds.{RingRead, ring_read, plan_short, none_fits}
 use Rattle.pages.specs.SheetPages.{plan_bytes, fits_bytes, ring_bytes}
 
 module _ (s : Sheet) (ok : T (accepted s)) where

@@ -12,13 +12,13 @@ use Rattle.limits.specs.LimitTable.{limit_table, Fillable}
 use Rattle.sheet.specs.Questions.{sheet_of, loaders_fit}
 use Rattle.sheet.specs.Lists.{Lists, given}
 use Rattle.plan_rooms.specs.Rooms.{Rooms, lent, seat_lengths, plan_lent, places, rooms_fit}
-use Rattle.plan_rooms.specs.RoomsLaws.{SeatsHold, plan_holds, plan_for_all}
+use Rattle.plan_rooms.proofs.RoomsLaws.{SeatsHold, plan_holds, plan_for_all}
 use Rattle.plan_ask.specs.Asking.{Solvable}
-use Rattle.plan_ask.specs.AskingLaws.{lists_read, span_bound, units_length}
+use Rattle.plan_ask.proofs.AskingLaws.{lists_read, span_bound, units_length}
 use Rattle.plan_steps.specs.Closing.{passed}
 use Rattle.plan_answers.specs.Planning.{by_pass, Settled}
 use Rattle.plan_answers.specs.Reply as planning
-use Rattle.pages.specs.PageBounds.{ring_read}
+use Rattle.pages.proofs.PageBounds.{ring_read}
 use Rattle.pages.specs.Page.{Printable, table_page, RingFits, none_page, max_page, max_ring_page}
 use Rattle.print_answer.specs.Printing.{holds, Asked, PrintingOf}
 use Rattle.lists.specs.Lists.{on_front}

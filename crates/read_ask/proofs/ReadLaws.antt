@@ -10,7 +10,7 @@ use lib.ListN.{length, take, drop}
 use lib.Dec.{eqb}
 use borrow.Author.Tests.{eq-eqb, ne_eqb}
 use Rattle.questions.specs.Questions.{Question, ask, Verdict, no, all_yes, first_no}
-use Rattle.questions.specs.FirstNoLaws.{first_then}
+use Rattle.questions.proofs.FirstNoLaws.{first_then}
 use Rattle.sheet.specs.Sizes.{max_units}
 use Rattle.sheet.specs.Sheet.{SheetUnit, Rule}
 use Rattle.sheet.specs.declared.Sheet.{Sheet}
@@ -27,9 +27,9 @@ use Rattle.read_steps.specs.declared.Step.{Step}
 use Rattle.read_steps.specs.declared.Step.TheVariants.{No, On}
 use Rattle.read_questions.specs.Reading.{questions_of, line_questions, pass_questions, ListRooms, refused, read, concluded}
 use Rattle.read_questions.specs.Steps.{step_of, columns, set_at, line_units, line_rules, pass_reply}
-use Rattle.read_questions.specs.SpanLaws.{units_more, rules_more}
-use Rattle.read_questions.specs.ArrayLaws.{column_front, columns_more, SameSizes, set_sizes}
-use Rattle.read_questions.specs.LineLaws.{Matches, matches_none, Verdicts, line_verdict}
+use Rattle.read_questions.proofs.SpanLaws.{units_more, rules_more}
+use Rattle.read_questions.proofs.ArrayLaws.{column_front, columns_more, SameSizes, set_sizes}
+use Rattle.read_questions.proofs.LineLaws.{Matches, matches_none, Verdicts, line_verdict}
 
 -- at the place `at`, where line n begins: what is left to ask decides, and the arrays hold the numbers of the lines before
 pub record Asking (h : House) (t : List ℕ) (at n : ℕ) (s : Sheet) (m₀ m : ListRooms (List ℕ)) : Type 0 where

@@ -18,7 +18,7 @@ use Rattle.read_steps.specs.declared.Step.TheVariants.{No, On}
 use Rattle.read_unit.specs.UnitStep.{Chained, ChainedBy}
 use Rattle.read_questions.specs.Reading.{ListRooms, rooms}
 use Rattle.read_questions.specs.Steps.{step_of, kept_by}
-use Rattle.read_questions.specs.ArrayLaws.{rooms_same}
+use Rattle.read_questions.proofs.ArrayLaws.{rooms_same}
 
 -- a step that was made for what the line is
 pub line_stepped : (house : House) (ks : List ℕ) (s : Sheet) (line x : Line) (r : Step) (m m' : ListRooms (List ℕ)) (heads nexts : List ℕ) → line ≡ x

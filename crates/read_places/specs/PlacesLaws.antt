@@ -13,10 +13,10 @@ use Rattle.std.proofs.Math.ListN.{get_or, length-map, get_or-map, get_or-eq_defa
 use Rattle.lists.specs.Lists.{every, cons_if, keep, joined}
 use Rattle.lists.specs.Members.{In, is_true, in_keep, in_at, right}
 use Rattle.questions.specs.Questions.{AllYes}
-use Rattle.questions.specs.FirstNoLaws.{yes_front, yes_back, yes_at}
+use Rattle.questions.proofs.FirstNoLaws.{yes_front, yes_back, yes_at}
 use Rattle.sheet.specs.Sheet.{Rule, SheetUnit, head_or}
-use Rattle.sheet.specs.PlanLaws.{no_rule}
-use Rattle.sheet.specs.WrittenLaws.{no_unit}
+use Rattle.sheet.proofs.PlanLaws.{no_rule}
+use Rattle.sheet.proofs.WrittenLaws.{no_unit}
 use Rattle.forms.specs.Words.{line_feed}
 use Rattle.forms.specs.Form.{printable, plain}
 use Rattle.forms.specs.Lines.{TextLine, text_line, lines, spelt}
@@ -31,7 +31,7 @@ use Rattle.read_line.specs.Content.{Content, form_content, content_of, brackets_
 use Rattle.read_line.specs.Line.{values_of, said, line_of}
 use Rattle.read_line.specs.declared.Line.TheVariants as Line
 use Rattle.read_questions.specs.Reading.{contents, is_form, unit_of, units_in, rule_of, rules_in, sheet_in, questions_of, line_questions}
-use Rattle.read_questions.specs.SpanLaws.{joined_append}
+use Rattle.read_questions.proofs.SpanLaws.{joined_append}
 use Rattle.read_places.specs.Places.{Placed, placed_at, placed_from, placed, is_of, spots, no_spot, sought_in}
 use Rattle.read_places.specs.declared.Spot.{Spot}
 use Rattle.read_places.specs.declared.Sought.{Sought}

@@ -12,7 +12,7 @@ use Rattle.read_questions.specs.Reading.{ListRooms, read}
 use Rattle.lists.specs.FrontLaws.{front_is, front_holds}
 use Rattle.read_rooms.specs.Rooms.{leaves}
 use Rattle.sheet.specs.Lists.{WrittenLists, written_lists, given_by, units_of, written_by, agree}
-use Rattle.sheet.specs.WrittenLaws.{windows_back, units_back, rules_back}
+use Rattle.sheet.proofs.WrittenLaws.{windows_back, units_back, rules_back}
 use Rattle.plan_ask.specs.Asking.{Listed}
 use Rattle.read_whole.specs.Fronts.{fronts, Held}
 

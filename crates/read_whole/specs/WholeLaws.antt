@@ -8,13 +8,13 @@ use Rattle.lists.specs.Lists.{within}
 use Rattle.lists.specs.Members.{within_iff}
 use Rattle.sheet.specs.declared.Sheet.{Sheet as Read}
 use Rattle.questions.specs.Questions.{Verdict, no, all_yes, first_no}
-use Rattle.questions.specs.FirstNoLaws.{no_here}
+use Rattle.questions.proofs.FirstNoLaws.{no_here}
 use Rattle.sheet.specs.Sizes.{max_bytes}
 use Rattle.forms.specs.declared.House.{House}
 use Rattle.read_questions.specs.Reading.{ListRooms, rooms_for_all, refused, read, reading, questions, concluded, sheet_in}
-use Rattle.read_questions.specs.ConcludedLaws.{Accepted, concluded_read, concluded_no}
-use Rattle.read_questions.specs.AcceptedLaws.{reading_accepts, reading_loaders}
-use Rattle.read_questions.specs.RefusalLaws.{asks_text, reading_refusals}
+use Rattle.read_questions.proofs.ConcludedLaws.{Accepted, concluded_read, concluded_no}
+use Rattle.read_questions.proofs.AcceptedLaws.{reading_accepts, reading_loaders}
+use Rattle.read_questions.proofs.RefusalLaws.{asks_text, reading_refusals}
 use Rattle.read_rooms.specs.Rooms.{sizes_of, leaves, rooms_after}
 use Rattle.read_whole.specs.Fronts.{fronts, Held}
 use Rattle.read_whole.specs.FrontsLaws.{lists_of, held, fronts_are}

@@ -1,3 +1,2 @@
 pub mod WrittenContents
 pub mod Passing
-pub mod RoundTrip

@@ -13,9 +13,9 @@ use Rattle.lists.specs.Members.{both, left, right, every_both, within_iff}
 use Rattle.questions.specs.Questions.{AllYes}
 use Rattle.sheet.specs.Sizes.{max_slots, max_units, max_rules, max_count}
 use Rattle.sheet.specs.Sheet.{Rule, SheetUnit}
-use Rattle.sheet.specs.PlanLaws.{no_rule}
+use Rattle.sheet.proofs.PlanLaws.{no_rule}
 use Rattle.sheet.specs.Questions.{is_span, rising, is_stretch, is_count, is_new, all_new}
-use Rattle.sheet.specs.WrittenLaws.{no_unit, FitUnit, FitRule}
+use Rattle.sheet.proofs.WrittenLaws.{no_unit, FitUnit, FitRule}
 use Rattle.forms.specs.Form.{printable, plain}
 use Rattle.forms.specs.Forms.{span_form_of, unit_form_of, rule_form_of}
 use Rattle.forms.specs.Decimal.{digits, spell}
@@ -25,7 +25,7 @@ use Rattle.read_line.specs.Content.{Content, sheet, unit, rule}
 use Rattle.read_questions.specs.Reading.{contents, is_sheet, has_sheet, span_in, span_else, unit_of, units_in, loaders_in, rule_of, rules_in}
 use Rattle.read_steps.specs.Steps.{last_place}
 use Rattle.read_questions.specs.Reading.{questions_of, line_questions}
-use Rattle.read_questions.specs.SpanLaws.{units_more, rules_more, has_sheet_same, span_in_same}
+use Rattle.read_questions.proofs.SpanLaws.{units_more, rules_more, has_sheet_same, span_in_same}
 use Rattle.sheet_texts.specs.SheetText.{unit_numbers, rule_numbers}
 use Rattle.round_trip.specs.WrittenContents.{LowKept, Line, span_line, unit_line_lem, rule_line_lem}
 

@@ -7,7 +7,7 @@ use Rattle.std.proofs.Math.Path.{ap}
 use Rattle.lists.specs.Lists.{every}
 use Rattle.sheet.specs.Sizes.{max_slots}
 use Rattle.sheet.specs.Sheet.{Rule, SheetUnit}
-use Rattle.sheet.specs.WrittenLaws.{FitUnit, FitRule}
+use Rattle.sheet.proofs.WrittenLaws.{FitUnit, FitRule}
 use Rattle.forms.specs.Words.{text}
 use Rattle.forms.specs.Form.{Piece, printable, value, plain, matches, numbers, written}
 use Rattle.forms.specs.FormLaws.{Suits, separated, written_matches, forms_apart, apart_unmatched}

@@ -1,13 +1,5 @@
 pub mod Sizes
 pub mod Sheet
 pub mod Cases
-pub mod PlanLaws
-pub mod LimitLaws
-pub mod PotentialLaws
 pub mod Questions
-pub mod QuestionLaws
-pub mod CarriedLaws
-pub mod LoaderLaws
 pub mod Lists
-pub mod WrittenLaws
-pub mod Solved

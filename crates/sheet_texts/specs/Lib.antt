@@ -1,3 +1,2 @@
 pub mod SheetText
-pub mod SheetTextLaws
 pub mod Samples

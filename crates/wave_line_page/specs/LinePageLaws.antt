@@ -8,19 +8,19 @@ use Rattle.std.proofs.Common.{sym, subst, ◌∙◌, ⊎_elim, arith, leb→le, 
 use Rattle.std.proofs.Math.Dec.{T, eqb, eqb→eq}
 use Rattle.lists.specs.Members.{left, right, member_nowhere}
 use Rattle.questions.specs.Questions.{Question, ask, Verdict, no, all_yes, first_no, AllYes}
-use Rattle.questions.specs.FirstNoLaws.{first_then, first_passes}
+use Rattle.questions.proofs.FirstNoLaws.{first_then, first_passes}
 use Rattle.sheet.specs.Sizes.{max_bytes, max_loader}
 use Rattle.sheet.specs.Sheet.{loaders}
-use Rattle.sheet.specs.LoaderLaws.{loader_size}
+use Rattle.sheet.proofs.LoaderLaws.{loader_size}
 use Rattle.forms.specs.Words.{line_feed}
 use Rattle.forms.specs.declared.House.TheVariants.{Ours}
-use Rattle.print_bytes.specs.WritingLaws.{refused_short}
+use Rattle.print_bytes.proofs.WritingLaws.{refused_short}
 use Rattle.read_questions.specs.Reading.{sheet_in}
 use Rattle.merge_read.specs.Behind.{text_questions}
 use Rattle.merge_questions.specs.Merging.{merge_questions, blamed_sheet}
-use Rattle.merge_laws.specs.TextLaws.{no_of_two, front, front_short, text_loaders}
-use Rattle.merge_laws.specs.Merged.{first_asked, second_asked, asks_merge, merge_refusals, refused_small}
-use Rattle.merge_laws.specs.Merged as merge
+use Rattle.merge_laws.proofs.TextLaws.{no_of_two, front, front_short, text_loaders}
+use Rattle.merge_laws.proofs.Merged.{first_asked, second_asked, asks_merge, merge_refusals, refused_small}
+use Rattle.merge_laws.proofs.Merged as merge
 use Rattle.merge_lines.specs.Lines.{has_loader, questions_of_line, found_line, found_by, place_of}
 use Rattle.merge_lines.specs.LinesLaws.{Inside, found_inside}
 use Rattle.merge_lines.specs.declared.LineFound.{LineFound}

@@ -1,2 +1,1 @@
 pub mod HouseQuestions
-pub mod HouseQuestionsLaws

@@ -7,16 +7,16 @@ use Rattle.lists.specs.Lists.{joined}
 use Rattle.forms.specs.declared.House.{House}
 use Rattle.sheet.specs.Sheet.{Window, constraints, top}
 use Rattle.sheet.specs.Questions.{windows_of, rules_of, sheet_of}
-use Rattle.sheet.specs.QuestionLaws.{Agree, windows_of_at, rules_of_length, rules_of_at, accepted_sized, accepted_valid}
+use Rattle.sheet.proofs.QuestionLaws.{Agree, windows_of_at, rules_of_length, rules_of_at, accepted_sized, accepted_valid}
 use Rattle.sheet.specs.Lists.{WrittenLists, given_by, units_of, written_by}
-use Rattle.sheet.specs.WrittenLaws.{FitRule, rule_fits}
+use Rattle.sheet.proofs.WrittenLaws.{FitRule, rule_fits}
 use Rattle.plan_ask.specs.Asking.{Listed}
-use Rattle.plan_ask.specs.AskingLaws.{units_length}
-use Rattle.plan_ask.specs.ListedLaws.{listed_agree, written_accepted, written_new}
+use Rattle.plan_ask.proofs.AskingLaws.{units_length}
+use Rattle.plan_ask.proofs.ListedLaws.{listed_agree, written_accepted, written_new}
 use Rattle.sheet_texts.specs.SheetText.{span_text, unit_texts, rule_texts, sheet_text, max_text}
-use Rattle.sheet_texts.specs.SheetTextLaws.{text_short}
+use Rattle.sheet_texts.proofs.SheetTextLaws.{text_short}
 use Rattle.print_bytes.specs.Writing.{Written}
-use Rattle.print_bytes.specs.WritingLaws.{Pending, pending_nothing}
+use Rattle.print_bytes.proofs.WritingLaws.{Pending, pending_nothing}
 use Rattle.write_entries.specs.Lines.{Stretches}
 
 -- ---- a line for each entry of a list, one after another

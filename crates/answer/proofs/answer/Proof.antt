@@ -9,9 +9,9 @@ use Rattle.read_questions.specs.Reading.{ListRooms, rooms, rooms_for_all, refuse
 use Rattle.read_rooms.specs.Rooms.{sizes_of}
 use Rattle.sheet.specs.Sizes.{max_units, max_rules, max_bytes}
 use Rattle.wave_words.specs.declared.Query.{Query}
-use Rattle.print_bytes.specs.WritingLaws.{refused_short}
+use Rattle.print_bytes.proofs.WritingLaws.{refused_short}
 use Rattle.read_whole.specs.WholeLaws.{refused_small, read_held}
-use Rattle.answer_conditions.specs.AnswerLaws.{refused_answer, read_answered}
+use Rattle.answer_conditions.proofs.AnswerLaws.{refused_answer, read_answered}
 use Rattle.answer.proofs.answer.Statement.{statement}
 use Rattle.answer.proofs.answer.Tie as tie
 

@@ -15,12 +15,12 @@ use Rattle.sheet.specs.Sheet.{is_ring}
 use Rattle.sheet.specs.Lists.{Lists, listed, given}
 use Rattle.plan_rooms.specs.Rooms.{Rooms, lent}
 use Rattle.plan_ask.specs.Asking.{Solvable}
-use Rattle.plan_ask.specs.AskingLaws.{span_bound}
+use Rattle.plan_ask.proofs.AskingLaws.{span_bound}
 use Rattle.plan_steps.specs.Closing.{passed}
 use Rattle.plan_answers.specs.Reply.{fit_reply}
 use Rattle.print_solved.specs.OwnLaws.{own_rooms, own_solvable, cells_few, PlanFronts, plan_own}
 use Rattle.wave_words.specs.declared.Query.TheVariants.{Plan}
-use Rattle.answer_conditions.specs.SheetLaws.{own_fillable, plan_none, plan_asks, plan_is, fit_answered, ring_answered}
+use Rattle.answer_conditions.proofs.SheetLaws.{own_fillable, plan_none, plan_asks, plan_is, fit_answered, ring_answered}
 use Rattle.answer_lists.proofs.plan_sheet.Statement.{statement}
 use Rattle.answer_lists.proofs.plan_sheet.Tie as tie
 

@@ -1,7 +1,7 @@
 -- The limits are the sheet's own, so the lines are those of the ring.
 use Rattle.sheet.specs.Lists.{Lists, listed}
-use Rattle.plan_ask.specs.AskingLaws.{span_bound}
-use Rattle.answer_conditions.specs.SheetLaws.{ring_asked, ring_written}
+use Rattle.plan_ask.proofs.AskingLaws.{span_bound}
+use Rattle.answer_conditions.proofs.SheetLaws.{ring_asked, ring_written}
 use Rattle.answer_lists.proofs.put_ring.Statement.{statement}
 use Rattle.answer_lists.proofs.put_ring.Tie as tie
 

@@ -9,7 +9,7 @@ use Rattle.read_rooms.specs.Rooms.{sizes_of}
 use Rattle.read_whole.specs.WholeLaws.{refused_small, read_held}
 use Rattle.sheet.specs.Sizes.{max_units, max_rules}
 use Rattle.print_bytes.specs.Writing.{with_bytes}
-use Rattle.convert_lists.specs.ConvertingLaws.{refused_converted, read_converted}
+use Rattle.convert_lists.proofs.ConvertingLaws.{refused_converted, read_converted}
 use Rattle.convert.proofs.convert.Statement.{statement}
 use Rattle.convert.proofs.convert.Tie as tie
 

@@ -12,7 +12,7 @@ use Rattle.read_whole.specs.Fronts.{fronts}
 use Rattle.sheet_texts.specs.SheetText.{sheet_text}
 use Rattle.print_bytes.specs.Writing.{with_bytes}
 use Rattle.write_fronts.specs.Outcome.{sheet}
-use Rattle.convert_lists.specs.ConvertingLaws.{house_small, house_told}
+use Rattle.convert_lists.proofs.ConvertingLaws.{house_small, house_told}
 use Rattle.convert_lists.proofs.convert_fronts.Statement.{statement}
 use Rattle.convert_lists.proofs.convert_fronts.Tie as tie
 

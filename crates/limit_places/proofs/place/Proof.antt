@@ -1,7 +1,7 @@
 -- Row and column are below w, so the place is inside the table.
 use borrow.Author.Rules.{rules}
 use native.Mathlib.Omega.{arith}
-use Rattle.network.specs.TableLaws.{row_inside}
+use Rattle.network.proofs.TableLaws.{row_inside}
 use Rattle.limit_places.proofs.place.Statement.{statement}
 use Rattle.limit_places.proofs.place.Tie as tie
 

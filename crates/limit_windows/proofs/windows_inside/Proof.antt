@@ -9,9 +9,9 @@ use mir.Val.{SFits, to_z}
 use mir.Facts.{to_z-of_z}
 use borrow.Author.Rules.{rules}
 use Rattle.lists.specs.Lists.{how_many}
-use Rattle.network.specs.TableLaws.{row_inside}
+use Rattle.network.proofs.TableLaws.{row_inside}
 use Rattle.sheet.specs.Questions.{windows_of}
-use Rattle.sheet.specs.QuestionLaws.{windows_of_length}
+use Rattle.sheet.proofs.QuestionLaws.{windows_of_length}
 use Rattle.limit_windows.specs.Inside.{exact_weights, inside_weights}
 use Rattle.limit_windows.specs.InsideLaws.{ends_in, ends_none, fit_ordered}
 use Rattle.limit_places.specs.LentTableLaws.{TableFilled, filled_is, is_filled, filled_over}

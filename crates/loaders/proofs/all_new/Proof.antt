@@ -5,7 +5,7 @@ use native.Mathlib.Omega.{arith}
 use lib.ListN.{length, take, drop}
 use Rattle.sheet.specs.Sizes.{max_units}
 use Rattle.sheet.specs.Questions.{loaders_fit, all_new}
-use Rattle.sheet.specs.LoaderLaws.{new_next, new_stop, new_end}
+use Rattle.sheet.proofs.LoaderLaws.{new_next, new_stop, new_end}
 use Rattle.loaders.specs.Chains.{Linked}
 use Rattle.loaders.specs.ChainLaws.{linked_none, linked_more}
 use Rattle.loaders.proofs.all_new.Statement.{statement}

@@ -7,7 +7,7 @@ use borrow.Author.Tests.{not-true, not-false}
 use Rattle.sheet.specs.declared.Sheet.{Sheet}
 use Rattle.read_questions.specs.Reading.{ListRooms, rooms, lists_fit, read}
 use Rattle.read_rooms.specs.Rooms.{sizes_of}
-use Rattle.read_rooms.specs.ReadingLaws.{rooms_hold}
+use Rattle.read_rooms.proofs.ReadingLaws.{rooms_hold}
 use Rattle.merge_questions.specs.Merging.{joined_reply}
 use Rattle.merge_join.specs.Join.{join_reply, MergedAtFront}
 use Rattle.merge_join.specs.ClearedLaws.{cleared_hold, left_of}

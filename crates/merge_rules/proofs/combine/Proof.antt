@@ -5,9 +5,9 @@ use Prim.Native.Nat.{◌-◌, ◌≤◌, ◌<◌}
 use native.Mathlib.Omega.{arith}
 use lib.ListN.{length, get_or, take}
 use Rattle.sheet.specs.Sheet.{Rule}
-use Rattle.sheet.specs.PlanLaws.{no_rule}
+use Rattle.sheet.proofs.PlanLaws.{no_rule}
 use Rattle.sheet.specs.Questions.{rules_of}
-use Rattle.sheet.specs.QuestionLaws.{rules_of_length, rules_of_at}
+use Rattle.sheet.proofs.QuestionLaws.{rules_of_length, rules_of_at}
 use Rattle.merge_sheets.specs.Merge.{merged_rules, with_rule}
 use Rattle.merge_rules.specs.Columns.{Columns, columns, AtFront}
 use Rattle.merge_rules.proofs.CombiningLaws.{Combining, Roomy, SameLong, combining_none, few, same_long, still_fit, too_many_lem, all_held, all_passed}

@@ -9,7 +9,7 @@ use borrow.Author.Rules.{rules}
 use Rattle.questions.specs.Questions.{verdict_of, first_no}
 use Rattle.sheet.specs.Sheet.{Rule}
 use Rattle.sheet.specs.Questions.{rules_of}
-use Rattle.sheet.specs.QuestionLaws.{rules_of_length}
+use Rattle.sheet.proofs.QuestionLaws.{rules_of_length}
 use Rattle.merge_sheets.specs.Merge.{merged_rules}
 use Rattle.lists.specs.FrontLaws.{front_holds}
 use Rattle.merge_questions.specs.Merging.{rule_questions}

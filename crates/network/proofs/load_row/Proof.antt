@@ -5,7 +5,7 @@ use mathlib.Core.Path.{◌≡◌, ap, ◌∙◌}
 use mathlib.Core.List.{◌++◌}
 use lib.ListN.{length, take, drop}
 use Rattle.lists.specs.Slices.{part_length}
-use Rattle.network.specs.TableLaws.{row_inside}
+use Rattle.network.proofs.TableLaws.{row_inside}
 use borrow.Author.Rules.{rules}
 use Rattle.network.proofs.load_row.Statement.{statement}
 use Rattle.network.proofs.load_row.Tie as tie

@@ -1,7 +1,7 @@
 -- The potential starts as the row of the boundary before the window, which is the highest that is 0 there.
 use Rattle.network_cuts.proofs.SettleLaws.{sunk_first}
 use Rattle.lists.specs.Slices.{part_length}
-use Rattle.network.specs.TableLaws.{row_inside}
+use Rattle.network.proofs.TableLaws.{row_inside}
 use lib.ListN.{length, take, drop}
 use lib.Seq.{take_at}
 use lib.IntN.{ℤ}

@@ -2,7 +2,7 @@
 use lib.Signed.{lt_z}
 use Rattle.network_cuts.proofs.SettleLaws.{part, least_asks, relax_asks, settled_still, settled_lost, settled_lower}
 use Rattle.network_cuts.specs.Decider.{value_at, LeastSum}
-use Rattle.network.specs.TableLaws.{row_inside}
+use Rattle.network.proofs.TableLaws.{row_inside}
 use mir.Facts.{to_z-of_z}
 use mir.Val.{SFits}
 use mir.Syntax.{w16}

@@ -5,7 +5,7 @@ use mathlib.Core.Path.{◌≡◌, sym, ap, ◌∙◌}
 use lib.ListN.{get_or, take, drop}
 use lib.IntN.{pos}
 use Rattle.lists.specs.Slices.{part_at, part_length}
-use Rattle.network.specs.TableLaws.{row_inside}
+use Rattle.network.proofs.TableLaws.{row_inside}
 use Rattle.network_levels.specs.LevelSteps.{fallen_found}
 use borrow.Author.Rules.{rules}
 use Rattle.network_cycles.proofs.last_fallen.Statement.{statement}

@@ -7,7 +7,7 @@ use mir.Val.{SFits, to_z, of_z}
 use mir.Facts.{to_z-of_z}
 use borrow.Author.Rules.{rules}
 use Rattle.network.specs.Table.{entry}
-use Rattle.network.specs.TableLaws.{row_inside}
+use Rattle.network.proofs.TableLaws.{row_inside}
 use Rattle.network_levels.specs.LevelSteps.{level_inside, left_is, left_fits}
 use Rattle.network_cycles.proofs.left_by.Statement.{statement}
 use Rattle.network_cycles.proofs.left_by.Tie as tie

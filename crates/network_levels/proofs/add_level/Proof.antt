@@ -5,7 +5,7 @@ use mathlib.Core.Path.{sym, ◌∙◌}
 use lib.ListN.{length, take}
 use borrow.Author.Rules.{rules}
 use Rattle.lists.specs.Slices.{part_length}
-use Rattle.network.specs.TableLaws.{row_inside}
+use Rattle.network.proofs.TableLaws.{row_inside}
 use Rattle.network_levels.specs.LevelSteps.{Copied, row_copied, copied_sums, rows_next}
 use Rattle.network_levels.proofs.add_level.Statement.{statement}
 use Rattle.network_levels.proofs.add_level.Tie as tie

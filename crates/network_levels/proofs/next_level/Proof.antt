@@ -10,7 +10,7 @@ use mir.Facts.{to_z-of_z}
 use borrow.Author.Rules.{rules}
 use Rattle.lists.specs.Slices.{part_length}
 use Rattle.lists.specs.Values.{list_of, length_list_of}
-use Rattle.network.specs.TableLaws.{row_inside}
+use Rattle.network.proofs.TableLaws.{row_inside}
 use Rattle.network_levels.proofs.NextLevelLaws.{reached_by, reached_start, reached_next, row_sums}
 use Rattle.network_levels.proofs.next_level.Statement.{statement}
 use Rattle.network_levels.proofs.next_level.Tie as tie

@@ -13,7 +13,7 @@ use mir.Facts.{to_z-of_z}
 use borrow.Author.Rules.{rules}
 use Rattle.lists.specs.Slices.{back, back_length, back_past, part_length}
 use Rattle.network.specs.Table.{max_boundaries}
-use Rattle.network.specs.TableLaws.{row_inside}
+use Rattle.network.proofs.TableLaws.{row_inside}
 use Rattle.network.specs.RowStep.{stretch}
 use Rattle.network_pass.specs.Pass.{Passed, stopped, after_rows, pass_from, Ran}
 use Rattle.network_pass.specs.declared.Outcome.TheVariants.{Stopped}

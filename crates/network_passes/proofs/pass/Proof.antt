@@ -6,7 +6,7 @@ use mathlib.Core.Path.{sym, subst}
 use borrow.Author.Rules.{rules}
 use Rattle.network_pass.specs.Pass.{pass_from, After}
 use Rattle.network_pass.specs.PassBounds.{StaysSmall}
-use Rattle.network_pass.specs.PassBoundLaws.{stays_small}
+use Rattle.network_pass.proofs.PassBoundLaws.{stays_small}
 use Rattle.network_passes.proofs.pass.Statement.{statement}
 use Rattle.network_passes.proofs.pass.Tie as tie
 

@@ -4,7 +4,7 @@ use native.Mathlib.Omega.{arith}
 use mathlib.Core.Path.{◌≡◌, sym, subst}
 use Rattle.network_pass.specs.Pass.{pass_from, After}
 use Rattle.network_pass.specs.PassBounds.{StaysSmall}
-use Rattle.network_pass.specs.PassBoundLaws.{small_one}
+use Rattle.network_pass.proofs.PassBoundLaws.{small_one}
 use borrow.Author.Rules.{rules}
 use Rattle.network_passes.proofs.pass_middle.Statement.{statement}
 use Rattle.network_passes.proofs.pass_middle.Tie as tie

@@ -4,9 +4,9 @@ use Rattle.questions.specs.Questions.{Verdict, all_yes, verdict_of}
 use Rattle.sheet.specs.Lists.{WrittenLists, written_lists, given_by}
 use Rattle.plan_rooms.specs.Rooms.{DecideRooms, decide_rooms, decide_lent}
 use Rattle.plan_ask.specs.Questions.{refusal_in}
-use Rattle.plan_ask.specs.SolvableLaws.{asked_yes, asked_of}
+use Rattle.plan_ask.proofs.SolvableLaws.{asked_yes, asked_of}
 use Rattle.plan_answers.specs.Planning.{decided, WithRing, contradicted}
-use Rattle.plan_answers.specs.ConclusionLaws.{refused_settled, solved_settled}
+use Rattle.plan_answers.proofs.ConclusionLaws.{refused_settled, solved_settled}
 use Rattle.plan_answers.specs.Reply.{decision_reply, fit_reply}
 use Rattle.plan.proofs.decide.Statement.{statement}
 use Rattle.plan.proofs.decide.Tie as tie

@@ -4,9 +4,9 @@ use Rattle.questions.specs.Questions.{Verdict, all_yes, verdict_of}
 use Rattle.sheet.specs.Lists.{WrittenLists, written_lists, given_by}
 use Rattle.plan_rooms.specs.Rooms.{Rooms, lent, plan_lent}
 use Rattle.plan_ask.specs.Questions.{refusal_in}
-use Rattle.plan_ask.specs.SolvableLaws.{asked_yes, asked_of}
+use Rattle.plan_ask.proofs.SolvableLaws.{asked_yes, asked_of}
 use Rattle.plan_answers.specs.Planning.{planned, WithRing, ringed}
-use Rattle.plan_answers.specs.ConclusionLaws.{refused_settled, solved_settled}
+use Rattle.plan_answers.proofs.ConclusionLaws.{refused_settled, solved_settled}
 use Rattle.plan_answers.specs.Reply.{reply_of, fit_reply}
 use Rattle.plan.proofs.plan.Statement.{statement}
 use Rattle.plan.proofs.plan.Tie as tie

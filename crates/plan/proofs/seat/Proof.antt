@@ -4,9 +4,9 @@ use Rattle.questions.specs.Questions.{Verdict, all_yes, verdict_of}
 use Rattle.sheet.specs.Lists.{WrittenLists, written_lists, given_by}
 use Rattle.plan_rooms.specs.Rooms.{SeatRooms, seat_rooms, seat_lent}
 use Rattle.plan_ask.specs.Questions.{refusal_in}
-use Rattle.plan_ask.specs.SolvableLaws.{asked_yes, asked_of}
+use Rattle.plan_ask.proofs.SolvableLaws.{asked_yes, asked_of}
 use Rattle.plan_answers.specs.Planning.{seated, SeatNone}
-use Rattle.plan_answers.specs.ConclusionLaws.{refused_settled, solved_settled, looked_by_lem}
+use Rattle.plan_answers.proofs.ConclusionLaws.{refused_settled, solved_settled, looked_by_lem}
 use Rattle.plan_answers.specs.Reply.{seat_reply, seated_reply}
 use Rattle.plan.proofs.seat.Statement.{statement}
 use Rattle.plan.proofs.seat.Tie as tie

@@ -11,10 +11,10 @@ use borrow.Author.Rules.{rules}
 use Rattle.integers.specs.Parts.{Within}
 use Rattle.network.specs.Network.{Weights}
 use Rattle.network.specs.Table.{entry}
-use Rattle.network.specs.TableLaws.{row_inside}
+use Rattle.network.proofs.TableLaws.{row_inside}
 use Rattle.sheet.specs.Sizes.{max_units}
 use Rattle.plan_arcs.specs.Arcs.{one_less}
-use Rattle.plan_arcs.specs.ArcLaws.{less_arc, less_other}
+use Rattle.plan_arcs.proofs.ArcLaws.{less_arc, less_other}
 use Rattle.plan_arcs.proofs.RowFillLaws.{RowsFilled, rows_start, rows_store, rows_next, rows_all, one_less_fits}
 use Rattle.plan_arcs.proofs.arcs.Statement.{statement}
 use Rattle.plan_arcs.proofs.arcs.Tie as tie

@@ -8,10 +8,10 @@ use Rattle.network.specs.Table.{entry}
 use Rattle.sheet.specs.Sizes.{max_units}
 use Rattle.sheet.specs.Sheet.{Window}
 use Rattle.sheet.specs.Questions.{windows_of}
-use Rattle.sheet.specs.QuestionLaws.{windows_of_length}
+use Rattle.sheet.proofs.QuestionLaws.{windows_of_length}
 use Rattle.limit_windows.specs.Inside.{inside_weights}
 use Rattle.limit_places.specs.LentTableLaws.{TableFilled, is_filled}
-use Rattle.plan_arcs.specs.ArcLaws.{less_same, inside_within}
+use Rattle.plan_arcs.proofs.ArcLaws.{less_same, inside_within}
 use Rattle.plan_arcs.proofs.cut_arcs.Statement.{statement}
 use Rattle.plan_arcs.proofs.cut_arcs.Tie as tie
 

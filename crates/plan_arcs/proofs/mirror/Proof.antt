@@ -10,7 +10,7 @@ use mir.Facts.{to_z-of_z}
 use borrow.Author.Rules.{rules}
 use Rattle.network.specs.Network.{Weights}
 use Rattle.network.specs.Table.{entry}
-use Rattle.network.specs.TableLaws.{row_inside}
+use Rattle.network.proofs.TableLaws.{row_inside}
 use Rattle.plan_arcs.specs.Arcs.{mirrored}
 use Rattle.plan_arcs.proofs.RowFillLaws.{RowsFilled, rows_start, rows_store, rows_next, rows_all}
 use Rattle.plan_arcs.proofs.mirror.Statement.{statement}

@@ -10,8 +10,8 @@ use Rattle.sheet.specs.Lists.{WrittenLists, written_lists, given_by}
 use Rattle.plan_rooms.specs.Rooms.{lengths_fit, rooms_fit}
 use Rattle.plan_ask.specs.Questions.{refusal_by}
 use Rattle.plan_ask.specs.Asking.{Listed}
-use Rattle.plan_ask.specs.AskingLaws.{lists_read, span_bound, asks_rooms}
-use Rattle.plan_ask.specs.SolvableLaws.{lists_yes, refusal_then}
+use Rattle.plan_ask.proofs.AskingLaws.{lists_read, span_bound, asks_rooms}
+use Rattle.plan_ask.proofs.SolvableLaws.{lists_yes, refusal_then}
 use Rattle.plan_ask.proofs.ask.Statement.{statement}
 use Rattle.plan_ask.proofs.ask.Tie as tie
 

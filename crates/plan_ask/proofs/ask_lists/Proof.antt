@@ -10,15 +10,15 @@ use lib.ListN.{length, drop}
 use borrow.Author.Rules.{rules}
 use borrow.Author.Tests.{le-leb, lt-leb}
 use Rattle.questions.specs.Questions.{Verdict, first_no}
-use Rattle.questions.specs.FirstNoLaws.{no_here, yes_here, every_yes}
+use Rattle.questions.proofs.FirstNoLaws.{no_here, yes_here, every_yes}
 use Rattle.lists.specs.Members.{within_iff}
 use Rattle.sheet.specs.Sizes.{max_slots, max_units}
 use Rattle.sheet.specs.Questions.{windows_fit, counts_fit}
-use Rattle.sheet.specs.QuestionLaws.{Agree}
+use Rattle.sheet.proofs.QuestionLaws.{Agree}
 use Rattle.sheet.specs.Lists.{Lists, WrittenLists, written_lists, given_by, agree, all_agree}
 use Rattle.plan_ask.specs.Questions.{list_questions}
 use Rattle.plan_lists.specs.Rising.{all_rising}
-use Rattle.plan_ask.specs.AskingLaws.{all_agree_read, lists_read, asks_span, asks_units, asks_rules, asks_windows, asks_stretches, asks_counts}
+use Rattle.plan_ask.proofs.AskingLaws.{all_agree_read, lists_read, asks_span, asks_units, asks_rules, asks_windows, asks_stretches, asks_counts}
 use Rattle.plan_ask.proofs.ask_lists.Statement.{statement}
 use Rattle.plan_ask.proofs.ask_lists.Tie as tie
 

@@ -1,6 +1,6 @@
 -- The windows that open before f have their least cuts, and the floors bar what is known for those that open later.
 use Rattle.plan_cuts.proofs.CutWindowsLaws.{CutWindows, windows_none, row_length, known_row, windows_more}
-use Rattle.network.specs.TableLaws.{row_inside}
+use Rattle.network.proofs.TableLaws.{row_inside}
 use mathlib.Core.Path.{◌≡◌, sym, ◌∙◌}
 use Prim.Native.Nat.{◌-◌, ◌+◌, ◌*◌, ◌≤◌}
 use native.Mathlib.Omega.{arith}

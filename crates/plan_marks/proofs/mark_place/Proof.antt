@@ -3,7 +3,7 @@ use borrow.Author.Rules.{rules}
 use mathlib.Core.Path.{refl}
 use Prim.Native.Nat.{◌+◌, ◌*◌, ◌≤◌}
 use native.Mathlib.Omega.{arith}
-use Rattle.network.specs.TableLaws.{row_inside}
+use Rattle.network.proofs.TableLaws.{row_inside}
 use Rattle.sheet.specs.Sizes.{max_cells}
 use Rattle.plan_marks.specs.MarkLaws.{square_most}
 use Rattle.plan_marks.proofs.mark_place.Statement.{statement}

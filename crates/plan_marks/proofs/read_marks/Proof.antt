@@ -6,7 +6,7 @@ use Prim.Native.Nat.{ℕ, ◌-◌, ◌≤◌, ◌<◌}
 use native.Mathlib.Omega.{arith}
 use lib.ListN.{length, get_or}
 use Rattle.lists.specs.Fill.{FillInv, fill_start, fill_next, fill_end}
-use Rattle.network.specs.TableLaws.{row_inside}
+use Rattle.network.proofs.TableLaws.{row_inside}
 use Rattle.plan_marks.specs.Marks.{slot, seen, seen_at, Reads}
 use Rattle.plan_marks.specs.MarkLaws.{seen_most}
 use Rattle.plan_marks.proofs.read_marks.Statement.{statement}

@@ -5,7 +5,7 @@ use Prim.Native.Nat.{ℕ}
 use native.Mathlib.Omega.{arith}
 use lib.ListN.{length, replicate}
 use Rattle.plans.specs.Seating.{at}
-use Rattle.plans.specs.OrderLaws.{by_rank_in_order}
+use Rattle.plans.proofs.OrderLaws.{by_rank_in_order}
 use Rattle.plan_seats.specs.Seats.{seats_into, looks_into}
 use borrow.Author.Rules.{rules}
 use Rattle.plan_seats.proofs.seat_in_order.Statement.{statement}

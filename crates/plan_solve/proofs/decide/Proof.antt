@@ -7,8 +7,8 @@ use lib.IntN.{ℤ}
 use Rattle.sheet.specs.Sheet.{boundaries}
 use Rattle.sheet.specs.Lists.{Lists, listed, given}
 use Rattle.plan_rooms.specs.Rooms.{places}
-use Rattle.plan_rooms.specs.RoomsLaws.{decide_hold}
-use Rattle.plan_answers.specs.SolvingLaws.{limits_asked, ring_asked, ring_left_lem, fits_left}
+use Rattle.plan_rooms.proofs.RoomsLaws.{decide_hold}
+use Rattle.plan_answers.proofs.SolvingLaws.{limits_asked, ring_asked, ring_left_lem, fits_left}
 use Rattle.plan_solve.proofs.decide.Statement.{statement}
 use Rattle.plan_solve.proofs.decide.Tie as tie
 

@@ -7,13 +7,13 @@ use lib.IntN.{ℤ}
 use Rattle.network_pass.specs.Pass.{finished}
 use Rattle.sheet.specs.Lists.{Lists, listed, given}
 use Rattle.plan_rooms.specs.Rooms.{seat_lengths, places}
-use Rattle.plan_rooms.specs.RoomsLaws.{SeatsHold, seat_hold}
+use Rattle.plan_rooms.proofs.RoomsLaws.{SeatsHold, seat_hold}
 use Rattle.plan_rooms.specs.declared.Seats.{Seats}
-use Rattle.plan_ask.specs.AskingLaws.{span_bound}
+use Rattle.plan_ask.proofs.AskingLaws.{span_bound}
 use Rattle.plan_steps.specs.Closing.{passed}
 use Rattle.plan_steps.specs.Filling.{Ready}
 use Rattle.plan_answers.specs.Planning.{table_in}
-use Rattle.plan_answers.specs.SolvingLaws.{limits_asked, seats_asked, ready, seats_left, looks_left, none_seated, none_looked, closed_table}
+use Rattle.plan_answers.proofs.SolvingLaws.{limits_asked, seats_asked, ready, seats_left, looks_left, none_seated, none_looked, closed_table}
 use Rattle.plan_solve.proofs.seat.Statement.{statement}
 use Rattle.plan_solve.proofs.seat.Tie as tie
 

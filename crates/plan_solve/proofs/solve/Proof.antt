@@ -8,13 +8,13 @@ use Rattle.network_pass.specs.Pass.{finished}
 use Rattle.sheet.specs.Sheet.{boundaries}
 use Rattle.sheet.specs.Lists.{Lists, listed, given}
 use Rattle.plan_rooms.specs.Rooms.{decide_rooms, seat_lengths, places}
-use Rattle.plan_rooms.specs.RoomsLaws.{SeatsHold, plan_holds, plan_decides}
+use Rattle.plan_rooms.proofs.RoomsLaws.{SeatsHold, plan_holds, plan_decides}
 use Rattle.plan_rooms.specs.declared.Seats.{Seats}
-use Rattle.plan_ask.specs.AskingLaws.{span_bound}
+use Rattle.plan_ask.proofs.AskingLaws.{span_bound}
 use Rattle.plan_steps.specs.Closing.{passed}
 use Rattle.plan_steps.specs.Filling.{Ready}
 use Rattle.plan_answers.specs.Planning.{by_pass, table_in, DecideSettled}
-use Rattle.plan_answers.specs.SolvingLaws.{seats_asked, ready, plan_left, decided_fits, decided_none}
+use Rattle.plan_answers.proofs.SolvingLaws.{seats_asked, ready, plan_left, decided_fits, decided_none}
 use Rattle.plan_answers.specs.Reply.{Reply, fit_reply}
 use Rattle.plan_solve.proofs.solve.Statement.{statement}
 use Rattle.plan_solve.proofs.solve.Tie as tie

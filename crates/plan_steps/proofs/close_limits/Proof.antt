@@ -2,7 +2,7 @@
 use mathlib.Core.Path.{◌∙◌}
 use native.Mathlib.Omega.{arith}
 use Rattle.sheet.specs.Lists.{Lists, listed, given}
-use Rattle.plan_ask.specs.AskingLaws.{span_bound}
+use Rattle.plan_ask.proofs.AskingLaws.{span_bound}
 use Rattle.plan_steps.specs.ClosingLaws.{boundaries_counted, filled_room, filled_limited, limits_closed}
 use Rattle.plan_steps.proofs.close_limits.Statement.{statement}
 use Rattle.plan_steps.proofs.close_limits.Tie as tie

@@ -7,7 +7,7 @@ use Rattle.network.specs.Table.{max_boundaries}
 use Rattle.sheet.specs.Sizes.{max_cells}
 use Rattle.sheet.specs.Sheet.{boundaries}
 use Rattle.sheet.specs.Lists.{Lists, listed, given}
-use Rattle.plan_ask.specs.AskingLaws.{span_bound}
+use Rattle.plan_ask.proofs.AskingLaws.{span_bound}
 use Rattle.plan_steps.specs.ClosingLaws.{boundaries_counted, filled_room}
 use Rattle.plan_steps.specs.RingLaws.{weighed, no_potential, ring_found}
 use Rattle.plan_steps.proofs.find_ring.Statement.{statement}

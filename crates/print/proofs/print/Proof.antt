@@ -4,8 +4,8 @@ use Rattle.questions.specs.Questions.{Verdict, all_yes, verdict_of}
 use Rattle.sheet.specs.Lists.{WrittenLists, written_lists}
 use Rattle.plan_rooms.specs.Rooms.{Rooms, lent, plan_lent}
 use Rattle.plan_ask.specs.Questions.{refusal}
-use Rattle.plan_ask.specs.SolvableLaws.{asked_yes, asked_lists, asked_of}
-use Rattle.print_answer.specs.PrintingLaws.{refused_printed, solved_printed}
+use Rattle.plan_ask.proofs.SolvableLaws.{asked_yes, asked_lists, asked_of}
+use Rattle.print_answer.proofs.PrintingLaws.{refused_printed, solved_printed}
 use Rattle.print.proofs.print.Statement.{statement}
 use Rattle.print.proofs.print.Tie as tie
 

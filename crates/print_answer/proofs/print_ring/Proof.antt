@@ -7,8 +7,8 @@ use lib.ListN.{length, take}
 use lib.Seq.{length-take-le}
 use Rattle.network.specs.Table.{entry}
 use Rattle.pages.specs.Page.{none_page, max_ring_page}
-use Rattle.print_bytes.specs.WritingLaws.{own_room, own_part, own_size, own_long}
-use Rattle.print_answer.specs.PrintingLaws.{room, asked_yes, asked_no}
+use Rattle.print_bytes.proofs.WritingLaws.{own_room, own_part, own_size, own_long}
+use Rattle.print_answer.proofs.PrintingLaws.{room, asked_yes, asked_no}
 use Rattle.print_answer.proofs.print_ring.Statement.{statement}
 use Rattle.print_answer.proofs.print_ring.Tie as tie
 

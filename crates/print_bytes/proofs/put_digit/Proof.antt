@@ -5,7 +5,7 @@ use lib.Seq.{sets}
 use lib.ListN.{length-set, length}
 use Rattle.forms.specs.Decimal.{digits}
 use Rattle.forms.specs.DecimalLaws.{digits_one}
-use Rattle.print_bytes.specs.WritingLaws.{bytes_set}
+use Rattle.print_bytes.proofs.WritingLaws.{bytes_set}
 use Rattle.print_bytes.proofs.put_digit.Statement.{statement}
 use Rattle.print_bytes.proofs.put_digit.Tie as tie
 

@@ -1,7 +1,7 @@
 -- A word, and then the line feed.
 use mathlib.Core.Path.{refl}
 use borrow.Author.Rules.{rules}
-use Rattle.print_bytes.specs.WritingLaws.{word_line, first_room, second_room, both_written}
+use Rattle.print_bytes.proofs.WritingLaws.{word_line, first_room, second_room, both_written}
 use Rattle.print_bytes.proofs.put_no_number.Statement.{statement}
 use Rattle.print_bytes.proofs.put_no_number.Tie as tie
 

@@ -3,7 +3,7 @@ use mathlib.Core.List.{[], ◌∷◌}
 use borrow.Author.Rules.{rules}
 use Rattle.forms.specs.Decimal.{digits, form_line}
 use Rattle.print_bytes.specs.Writing.{no_number, one_number}
-use Rattle.print_bytes.specs.WritingLaws.{Pending, line_words, pending_whole, pending_room, pending_after, pending_nothing}
+use Rattle.print_bytes.proofs.WritingLaws.{Pending, line_words, pending_whole, pending_room, pending_after, pending_nothing}
 use Rattle.print_bytes.proofs.put_one_number.Statement.{statement}
 use Rattle.print_bytes.proofs.put_one_number.Tie as tie
 

@@ -3,7 +3,7 @@ use mathlib.Core.Path.{refl}
 use mathlib.Core.List.{◌++◌}
 use borrow.Author.Rules.{rules}
 use Rattle.forms.specs.Decimal.{digits}
-use Rattle.print_bytes.specs.WritingLaws.{Parts, first_room, second_room, both_written}
+use Rattle.print_bytes.proofs.WritingLaws.{Parts, first_room, second_room, both_written}
 use Rattle.print_bytes.proofs.put_pair.Statement.{statement}
 use Rattle.print_bytes.proofs.put_pair.Tie as tie
 

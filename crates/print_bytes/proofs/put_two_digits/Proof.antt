@@ -1,7 +1,7 @@
 -- A number is its front digits and then its last one, which is the remainder by ten.
 use mathlib.Core.Path.{◌∙◌}
 use native.Mathlib.Omega.{arith}
-use Rattle.print_bytes.specs.WritingLaws.{number_parts, first_room, second_room, both_written}
+use Rattle.print_bytes.proofs.WritingLaws.{number_parts, first_room, second_room, both_written}
 use Rattle.print_bytes.proofs.put_two_digits.Statement.{statement}
 use Rattle.print_bytes.proofs.put_two_digits.Tie as tie
 

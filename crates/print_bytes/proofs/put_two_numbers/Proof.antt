@@ -3,7 +3,7 @@ use mathlib.Core.List.{[], ◌∷◌, ◌++◌}
 use borrow.Author.Rules.{rules}
 use Rattle.forms.specs.Decimal.{digits, form_line}
 use Rattle.print_bytes.specs.Writing.{one_number, two_numbers}
-use Rattle.print_bytes.specs.WritingLaws.{Parts, pair_line, first_room, second_room, both_written}
+use Rattle.print_bytes.proofs.WritingLaws.{Parts, pair_line, first_room, second_room, both_written}
 use Rattle.print_bytes.proofs.put_two_numbers.Statement.{statement}
 use Rattle.print_bytes.proofs.put_two_numbers.Tie as tie
 

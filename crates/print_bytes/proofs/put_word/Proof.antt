@@ -7,7 +7,7 @@ use native.Mathlib.Nat.{add-zero, add_assoc}
 use native.Mathlib.Numerals.{add-one}
 use lib.ListN.{length, drop, drop_of_length-le}
 use lib.Seq.{drop-cons}
-use Rattle.print_bytes.specs.WritingLaws.{Pending, pending_whole, pending_byte, pending_empty, pending_nothing}
+use Rattle.print_bytes.proofs.WritingLaws.{Pending, pending_whole, pending_byte, pending_empty, pending_nothing}
 use Rattle.print_bytes.proofs.put_word.Statement.{statement}
 use Rattle.print_bytes.proofs.put_word.Tie as tie
 

@@ -5,7 +5,7 @@ use Prim.Native.Nat.{ℕ}
 use lib.ListN.{drop}
 use Rattle.forms.specs.Words.{text}
 use Rattle.print_bytes.specs.Writing.{slot_line}
-use Rattle.print_bytes.specs.WritingLaws.{Pending, words, line_words, pending_whole, pending_room, pending_after, pending_nothing}
+use Rattle.print_bytes.proofs.WritingLaws.{Pending, words, line_words, pending_whole, pending_room, pending_after, pending_nothing}
 use Rattle.print_lines.proofs.put_slot.Statement.{statement}
 use Rattle.print_lines.proofs.put_slot.Tie as tie
 

@@ -5,7 +5,7 @@ use Rattle.lists.specs.Lists.{joined}
 use Rattle.network.specs.Table.{entry}
 use Rattle.forms.specs.Words.{text}
 use Rattle.print_bytes.specs.Writing.{none_head, shortfall_line}
-use Rattle.print_bytes.specs.WritingLaws.{Pending, pending_whole, pending_room, pending_after, pending_nothing}
+use Rattle.print_bytes.proofs.WritingLaws.{Pending, pending_whole, pending_room, pending_after, pending_nothing}
 use Rattle.pages.specs.Page.{ring_lines, shortfall_of, none_page}
 use Rattle.print_none.proofs.put_none.Statement.{statement}
 use Rattle.print_none.proofs.put_none.Tie as tie

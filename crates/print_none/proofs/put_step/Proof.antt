@@ -13,7 +13,7 @@ use Rattle.limit_places.specs.LentTableLaws.{place_inside}
 use Rattle.forms.specs.Words.{text}
 use Rattle.print_bytes.specs.Writing.{Room, Written, at_most_line, at_least_line}
 use Rattle.pages.specs.Page.{step_line}
-use Rattle.pages.specs.PageLaws.{step_forward, step_backward}
+use Rattle.pages.proofs.PageLaws.{step_forward, step_backward}
 use Rattle.print_none.proofs.put_step.Statement.{statement}
 use Rattle.print_none.proofs.put_step.Tie as tie
 

@@ -8,8 +8,8 @@ use Rattle.lists.specs.Lists.{joined}
 use Rattle.network.specs.Network.{Weights}
 use Rattle.network.specs.Table.{entry}
 use Rattle.pages.specs.Page.{ring_lines, step_lines, step_line}
-use Rattle.print_bytes.specs.WritingLaws.{Pending, pending_whole, pending_room, pending_after, pending_nothing}
-use Rattle.pages.specs.PageLaws.{ring_start, ring_next, ring_end}
+use Rattle.print_bytes.proofs.WritingLaws.{Pending, pending_whole, pending_room, pending_after, pending_nothing}
+use Rattle.pages.proofs.PageLaws.{ring_start, ring_next, ring_end}
 use Rattle.print_none.proofs.put_steps.Statement.{statement}
 use Rattle.print_none.proofs.put_steps.Tie as tie
 

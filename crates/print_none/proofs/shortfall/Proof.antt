@@ -11,7 +11,7 @@ use Rattle.integers.specs.Parts.{up, dn}
 use Rattle.network.specs.Network.{Weights}
 use Rattle.network.specs.Table.{entry}
 use Rattle.sheet.specs.Sizes.{max_count}
-use Rattle.pages.specs.PageLaws.{step_inside, Walked, walked_none, walked_next, walked_all}
+use Rattle.pages.proofs.PageLaws.{step_inside, Walked, walked_none, walked_next, walked_all}
 use Rattle.print_none.proofs.shortfall.Statement.{statement}
 use Rattle.print_none.proofs.shortfall.Tie as tie
 

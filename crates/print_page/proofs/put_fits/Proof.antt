@@ -6,7 +6,7 @@ use borrow.Author.Rules.{rules}
 use Rattle.sheet.specs.Sizes.{boundaries_of}
 use Rattle.forms.specs.Words.{text}
 use Rattle.print_bytes.specs.Writing.{fits_head}
-use Rattle.print_bytes.specs.WritingLaws.{Pending, pending_whole, pending_room, pending_after, pending_nothing}
+use Rattle.print_bytes.proofs.WritingLaws.{Pending, pending_whole, pending_room, pending_after, pending_nothing}
 use Rattle.pages.specs.Page.{range_lines, fits_page, least_from, greatest_from}
 use Rattle.print_page.proofs.put_fits.Statement.{statement}
 use Rattle.print_page.proofs.put_fits.Tie as tie

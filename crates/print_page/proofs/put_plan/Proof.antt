@@ -6,9 +6,9 @@ use lib.ListN.{length, get_or}
 use Rattle.sheet.specs.Sizes.{boundaries_of}
 use Rattle.forms.specs.Words.{text}
 use Rattle.print_bytes.specs.Writing.{plan_head}
-use Rattle.print_bytes.specs.WritingLaws.{Pending, pending_whole, pending_room, pending_after, pending_nothing}
+use Rattle.print_bytes.proofs.WritingLaws.{Pending, pending_whole, pending_room, pending_after, pending_nothing}
 use Rattle.pages.specs.Page.{unit_lines, slot_lines, least_from, greatest_from, table_page}
-use Rattle.pages.specs.PageLaws.{page_counted, counts_length}
+use Rattle.pages.proofs.PageLaws.{page_counted, counts_length}
 use Rattle.print_page.proofs.put_plan.Statement.{statement}
 use Rattle.print_page.proofs.put_plan.Tie as tie
 

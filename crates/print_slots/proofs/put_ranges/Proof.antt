@@ -7,7 +7,7 @@ use Rattle.lists.specs.Lists.{run, from_to}
 use Rattle.sheet.specs.Sizes.{boundaries_of}
 use Rattle.print_bytes.specs.Writing.{Room, Written, range_line}
 use Rattle.pages.specs.Page.{range_line_at, range_lines, least_from, greatest_from}
-use Rattle.print_bytes.specs.WritingLaws.{Pending, pending_whole, pending_room, pending_after, lines_next, lines_end}
+use Rattle.print_bytes.proofs.WritingLaws.{Pending, pending_whole, pending_room, pending_after, lines_next, lines_end}
 use Rattle.print_slots.proofs.put_ranges.Statement.{statement}
 use Rattle.print_slots.proofs.put_ranges.Tie as tie
 

@@ -5,8 +5,8 @@ use Prim.Native.Nat.{ℕ, ◌≤◌}
 use lib.ListN.{length, take}
 use lib.Seq.{length-take-le}
 use Rattle.pages.specs.Page.{table_page, max_page}
-use Rattle.print_bytes.specs.WritingLaws.{own_room, own_part, own_size, own_long}
-use Rattle.print_answer.specs.PrintingLaws.{room, asked_yes, asked_no}
+use Rattle.print_bytes.proofs.WritingLaws.{own_room, own_part, own_size, own_long}
+use Rattle.print_answer.proofs.PrintingLaws.{room, asked_yes, asked_no}
 use Rattle.print_solved.proofs.print_plan.Statement.{statement}
 use Rattle.print_solved.proofs.print_plan.Tie as tie
 

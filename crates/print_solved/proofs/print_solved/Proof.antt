@@ -12,7 +12,7 @@ use Rattle.network_pass.specs.Pass.{finished, stopped}
 use Rattle.sheet.specs.Sheet.{Sheet, is_ring}
 use Rattle.sheet.specs.Lists.{Lists, listed, given}
 use Rattle.plan_rooms.specs.Rooms.{Rooms, lent}
-use Rattle.plan_ask.specs.AskingLaws.{span_bound}
+use Rattle.plan_ask.proofs.AskingLaws.{span_bound}
 use Rattle.plan_steps.specs.Closing.{passed}
 use Rattle.plan_answers.specs.Planning.{by_pass, Settled}
 use Rattle.plan_answers.specs.Reply.{Reply, fit_reply}

@@ -6,7 +6,7 @@ use native.Mathlib.Omega.{arith}
 use borrow.Author.Rules.{rules}
 use Rattle.print_bytes.specs.Writing.{Room, Written, unit_line, carried_line}
 use Rattle.pages.specs.Page.{placed_line}
-use Rattle.pages.specs.PageLaws.{placed_inside, placed_past}
+use Rattle.pages.proofs.PageLaws.{placed_inside, placed_past}
 use Rattle.print_units.proofs.put_placed.Statement.{statement}
 use Rattle.print_units.proofs.put_placed.Tie as tie
 

@@ -6,7 +6,7 @@ use native.Mathlib.Omega.{arith}
 use lib.ListN.{length}
 use Rattle.lists.specs.Lists.{run, joined}
 use Rattle.pages.specs.Page.{unit_line_at, unit_lines}
-use Rattle.print_bytes.specs.WritingLaws.{Pending, pending_whole, pending_room, pending_after, lines_next, lines_end}
+use Rattle.print_bytes.proofs.WritingLaws.{Pending, pending_whole, pending_room, pending_after, lines_next, lines_end}
 use Rattle.print_units.proofs.put_units.Statement.{statement}
 use Rattle.print_units.proofs.put_units.Tie as tie
 

@@ -46,7 +46,7 @@ use denote.Triple.Walked.{says, needs, Stays, stay_dropped, gave_slice, walk_of,
 use denote.Exit.{yes}
 use denote.Signature.{plain}
 use Rattle.print_bytes.specs.Writing.{Room}
-use Rattle.print_bytes.specs.WritingLaws.{bytes_length}
+use Rattle.print_bytes.proofs.WritingLaws.{bytes_length}
 use Rattle.print_writer.specs.Advanced.{advanced}
 use Rattle.print_writer.specs.declared.Writer.{Writer}
 use Rattle.print_writer.specs.contracts.Writer as T

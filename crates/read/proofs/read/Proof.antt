@@ -11,7 +11,7 @@ use Rattle.read_questions.specs.Reading.{ListRooms, rooms, lists_fit, read, repl
 use Rattle.read_questions.specs.Steps.{Holds, pass_reply, Kept, KeptNumbers}
 use Rattle.read_rooms.specs.Rooms.{sizes_of}
 use Rattle.read_questions.specs.declared.Reading.{Reading}
-use Rattle.read_rooms.specs.ReadingLaws.{answer_long, answer_no, answer_rooms, answer_read, rooms_kept, rooms_hold, arrays_hold, rooms_filled}
+use Rattle.read_rooms.proofs.ReadingLaws.{answer_long, answer_no, answer_rooms, answer_read, rooms_kept, rooms_hold, arrays_hold, rooms_filled}
 use Rattle.read.proofs.read.Statement.{statement}
 use Rattle.read.proofs.read.Tie as tie
 

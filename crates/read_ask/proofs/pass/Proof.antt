@@ -16,7 +16,7 @@ use Rattle.read_steps.specs.declared.Step.{Step}
 use Rattle.read_steps.specs.declared.Step.TheVariants.{No, On}
 use Rattle.read_questions.specs.Reading.{ListRooms, rooms, refused}
 use Rattle.read_questions.specs.Steps.{pass_reply, kept_by}
-use Rattle.read_questions.specs.ArrayLaws.{SameSizes, still_holds}
+use Rattle.read_questions.proofs.ArrayLaws.{SameSizes, still_holds}
 use Rattle.read_ask.proofs.ReadLaws.{Asking, asking_start, asking_no, asking_on, asking_last, asking_none, asking_sheet}
 use Rattle.read_ask.proofs.ReadLaws.{arrays_kept, arrays_sizes}
 use Rattle.read_ask.proofs.pass.Statement.{statement}

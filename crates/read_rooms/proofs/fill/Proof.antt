@@ -1,5 +1,5 @@
 -- Each room takes the front of its array; the arrays hold as many units and rules as the rooms do.
-use Rattle.read_questions.specs.ArrayLaws.{rooms_same}
+use Rattle.read_questions.proofs.ArrayLaws.{rooms_same}
 use borrow.Author.Rules.{rules}
 use Rattle.read_rooms.proofs.fill.Statement.{statement}
 use Rattle.read_rooms.proofs.fill.Tie as tie

@@ -7,9 +7,9 @@ use borrow.Author.Rules.{rules}
 use lib.ListN.{length, take, length-replicate}
 use lib.Seq.{length-take-le}
 use Rattle.pages.specs.Page.{max_page}
-use Rattle.print_bytes.specs.WritingLaws.{own_part, own_size, own_long}
-use Rattle.answer_conditions.specs.AnswerConditions.{answer_short}
-use Rattle.write.specs.WritingLaws.{room, held, not_held}
+use Rattle.print_bytes.proofs.WritingLaws.{own_part, own_size, own_long}
+use Rattle.answer_conditions.proofs.AnswerConditions.{answer_short}
+use Rattle.write.proofs.WritingLaws.{room, held, not_held}
 use Rattle.tugrokt_replies.specs.Numbers.{writing_of}
 use Rattle.tugrokt_answering.proofs.answer_house.Statement.{statement}
 use Rattle.tugrokt_answering.proofs.answer_house.Tie as tie

@@ -9,7 +9,7 @@ use Rattle.sheet.specs.Sizes.{max_bytes}
 use Rattle.forms.specs.Words.{text}
 use Rattle.forms.specs.DecimalLaws.{line_short}
 use Rattle.print_bytes.specs.Writing.{one_number, with_bytes, Room, Written}
-use Rattle.print_bytes.specs.WritingLaws.{bytes_length}
+use Rattle.print_bytes.proofs.WritingLaws.{bytes_length}
 use Rattle.wave_faults.specs.Fault.{place_line, fault_words}
 use borrow.Author.Rules.{rules}
 use Rattle.wave_faults.proofs.put_fault.Statement.{statement}

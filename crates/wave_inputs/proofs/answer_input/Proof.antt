@@ -8,8 +8,8 @@ use Rattle.sheet.specs.Sizes.{max_bytes}
 use Rattle.forms.specs.declared.House.{House}
 use Rattle.wave_words.specs.declared.Query.{Query}
 use Rattle.answer_conditions.specs.Answer.{AnswerTo, Answered}
-use Rattle.answer_conditions.specs.AnswerLaws.{answered_inside}
-use Rattle.answer_conditions.specs.FirstBytesLaws.{first_bytes_decide}
+use Rattle.answer_conditions.proofs.AnswerLaws.{answered_inside}
+use Rattle.answer_conditions.proofs.FirstBytesLaws.{first_bytes_decide}
 use Rattle.wave_inputs.specs.Input.{InputAnswered}
 use Rattle.wave_inputs.proofs.answer_input.Statement.{statement}
 use Rattle.wave_inputs.proofs.answer_input.Tie as tie

@@ -2,7 +2,7 @@
 use mathlib.Core.Path.{◌≡◌, sym, ◌∙◌}
 use native.Mathlib.Omega.{arith}
 use borrow.Author.Rules.{rules}
-use Rattle.print_bytes.specs.WritingLaws.{refused_short}
+use Rattle.print_bytes.proofs.WritingLaws.{refused_short}
 use Rattle.merge_lines.specs.Lines.{found_line}
 use Rattle.merge_lines.specs.declared.LineFound.TheVariants.{Refused, First, Second}
 use Rattle.wave_line_page.specs.LinePageLaws.{Known}

@@ -8,7 +8,7 @@ use borrow.Author.Rules.{rules}
 use Rattle.forms.specs.Words.{line_feed}
 use Rattle.forms.specs.Decimal.{form_line}
 use Rattle.print_bytes.specs.Writing.{no_number, Written}
-use Rattle.print_bytes.specs.WritingLaws.{word_line}
+use Rattle.print_bytes.proofs.WritingLaws.{word_line}
 use Rattle.wave_line_page.specs.LinePageLaws.{line_short}
 use Rattle.wave_line_page.proofs.put_line.Statement.{statement}
 use Rattle.wave_line_page.proofs.put_line.Tie as tie

@@ -3,7 +3,7 @@ use mathlib.Core.Path.{ap}
 use borrow.Author.Rules.{rules}
 use Rattle.questions.specs.Questions.{verdict_of}
 use Rattle.sheet.specs.Lists.{WrittenLists, written_lists}
-use Rattle.write.specs.WritingLaws.{asked_lists, asked_house}
+use Rattle.write.proofs.WritingLaws.{asked_lists, asked_house}
 use Rattle.write.proofs.ask.Statement.{statement}
 use Rattle.write.proofs.ask.Tie as tie
 

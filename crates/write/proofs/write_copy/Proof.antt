@@ -7,10 +7,10 @@ use lib.ListN.{length, take}
 use lib.Seq.{length-take-le}
 use Rattle.sheet.specs.Lists.{WrittenLists, written_lists}
 use Rattle.sheet_texts.specs.SheetText.{max_text}
-use Rattle.print_bytes.specs.WritingLaws.{own_room, own_part, own_size, own_long}
+use Rattle.print_bytes.proofs.WritingLaws.{own_room, own_part, own_size, own_long}
 use Rattle.write_lines.specs.LinesLaws.{listed_short}
 use Rattle.write.specs.Writing.{text_of}
-use Rattle.write.specs.WritingLaws.{room, held, not_held}
+use Rattle.write.proofs.WritingLaws.{room, held, not_held}
 use Rattle.write.proofs.write_copy.Statement.{statement}
 use Rattle.write.proofs.write_copy.Tie as tie
 

@@ -11,7 +11,7 @@ use Rattle.sheet.specs.Lists.{WrittenLists, written_lists}
 use Rattle.print_bytes.specs.Writing.{Room}
 use Rattle.write_lines.specs.LinesLaws.{listed_short}
 use Rattle.write.specs.Writing.{text_of}
-use Rattle.write.specs.WritingLaws.{held}
+use Rattle.write.proofs.WritingLaws.{held}
 use Rattle.write.proofs.write_in_place.Statement.{statement}
 use Rattle.write.proofs.write_in_place.Tie as tie
 

@@ -3,7 +3,7 @@ use mathlib.Core.Path.{ap}
 use borrow.Author.Rules.{rules}
 use Rattle.questions.specs.Questions.{verdict_of}
 use Rattle.sheet.specs.Lists.{WrittenLists, written_lists}
-use Rattle.write.specs.WritingLaws.{sheet_listed, refused_lists, passed_lists}
+use Rattle.write.proofs.WritingLaws.{sheet_listed, refused_lists, passed_lists}
 use Rattle.write.proofs.write_sheet.Statement.{statement}
 use Rattle.write.proofs.write_sheet.Tie as tie
 

@@ -8,7 +8,7 @@ use Rattle.questions.specs.Questions.{Verdict, first_no}
 use Rattle.forms.specs.declared.House.{House}
 use Rattle.forms.specs.declared.House.TheVariants.{Partner}
 use Rattle.write_ask.specs.HouseQuestions.{ask_each, end_questions}
-use Rattle.write_ask.specs.HouseQuestionsLaws.{fault_past, each_no, each_yes}
+use Rattle.write_ask.proofs.HouseQuestionsLaws.{fault_past, each_no, each_yes}
 use Rattle.write_ask.proofs.ask_house.Statement.{statement}
 use Rattle.write_ask.proofs.ask_house.Tie as tie
 

@@ -7,7 +7,7 @@ use lib.Dec.{leb}
 use lib.ListN.{length, drop}
 use borrow.Author.Tests.{le-leb, lt-leb}
 use Rattle.write_ask.specs.HouseQuestions.{fault_from, first_at_fault}
-use Rattle.write_ask.specs.HouseQuestionsLaws.{fault_next, fault_found, fault_none}
+use Rattle.write_ask.proofs.HouseQuestionsLaws.{fault_next, fault_found, fault_none}
 use Rattle.write_ask.proofs.first_past.Statement.{statement}
 use Rattle.write_ask.proofs.first_past.Tie as tie
 

@@ -6,7 +6,7 @@ use lib.ListN.{drop}
 use Rattle.forms.specs.Words.{text}
 use Rattle.forms.specs.Decimal.{form_line}
 use Rattle.forms.specs.Forms.{job_form}
-use Rattle.print_bytes.specs.WritingLaws.{Pending, words, line_words, pending_whole, pending_room, pending_after, pending_nothing}
+use Rattle.print_bytes.proofs.WritingLaws.{Pending, words, line_words, pending_whole, pending_room, pending_after, pending_nothing}
 use Rattle.write_entries.proofs.put_job.Statement.{statement}
 use Rattle.write_entries.proofs.put_job.Tie as tie
 

@@ -1,6 +1,6 @@
 -- The line is short enough for the page.
 use native.Mathlib.Omega.{arith}
-use Rattle.print_bytes.specs.WritingLaws.{refused_short}
+use Rattle.print_bytes.proofs.WritingLaws.{refused_short}
 use Rattle.write_fronts.proofs.put_refused.Statement.{statement}
 use Rattle.write_fronts.proofs.put_refused.Tie as tie
 

@@ -5,11 +5,11 @@ use Prim.Native.Nat.{◌+◌, ◌-◌, ◌≤◌}
 use native.Mathlib.Omega.{arith}
 use lib.ListN.{length, get_or, drop}
 use Rattle.sheet.specs.Sheet.{Rule}
-use Rattle.sheet.specs.PlanLaws.{no_rule}
+use Rattle.sheet.proofs.PlanLaws.{no_rule}
 use Rattle.sheet.specs.Questions.{rules_of}
-use Rattle.sheet.specs.QuestionLaws.{rules_of_length, rules_of_at}
+use Rattle.sheet.proofs.QuestionLaws.{rules_of_length, rules_of_at}
 use Rattle.sheet_texts.specs.SheetText.{rule_text, rule_texts}
-use Rattle.print_bytes.specs.WritingLaws.{Pending, pending_whole, pending_room, pending_after}
+use Rattle.print_bytes.proofs.WritingLaws.{Pending, pending_whole, pending_room, pending_after}
 use Rattle.write_entries.specs.Lines.{rule_with}
 use Rattle.write_lines.specs.LinesLaws.{texts_next, texts_end}
 use Rattle.write_lines.proofs.put_rules.Statement.{statement}

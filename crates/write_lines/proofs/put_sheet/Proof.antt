@@ -4,10 +4,10 @@ use native.Mathlib.Omega.{arith}
 use borrow.Author.Rules.{rules}
 use Rattle.sheet.specs.Questions.{windows_of, rules_of}
 use Rattle.sheet.specs.Lists.{WrittenLists, written_lists, units_of, written_by}
-use Rattle.plan_ask.specs.AskingLaws.{span_bound}
-use Rattle.plan_ask.specs.ListedLaws.{listed_agree}
+use Rattle.plan_ask.proofs.AskingLaws.{span_bound}
+use Rattle.plan_ask.proofs.ListedLaws.{listed_agree}
 use Rattle.sheet_texts.specs.SheetText.{span_text, unit_texts, rule_texts, sheet_text}
-use Rattle.print_bytes.specs.WritingLaws.{Pending, pending_whole, pending_room, pending_after, pending_nothing}
+use Rattle.print_bytes.proofs.WritingLaws.{Pending, pending_whole, pending_room, pending_after, pending_nothing}
 use Rattle.write_lines.specs.LinesLaws.{listed_units, listed_rules, text_parts}
 use Rattle.write_lines.proofs.put_sheet.Statement.{statement}
 use Rattle.write_lines.proofs.put_sheet.Tie as tie

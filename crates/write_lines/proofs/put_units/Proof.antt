@@ -6,11 +6,11 @@ use native.Mathlib.Omega.{arith}
 use lib.ListN.{length, get_or, drop}
 use Rattle.sheet.specs.Sheet.{SheetUnit}
 use Rattle.sheet.specs.Questions.{windows_of}
-use Rattle.sheet.specs.QuestionLaws.{windows_of_length}
+use Rattle.sheet.proofs.QuestionLaws.{windows_of_length}
 use Rattle.sheet.specs.Lists.{units_of}
-use Rattle.sheet.specs.WrittenLaws.{no_unit, units_of_length, units_of_at}
+use Rattle.sheet.proofs.WrittenLaws.{no_unit, units_of_length, units_of_at}
 use Rattle.sheet_texts.specs.SheetText.{unit_text, unit_texts}
-use Rattle.print_bytes.specs.WritingLaws.{Pending, pending_whole, pending_room, pending_after}
+use Rattle.print_bytes.proofs.WritingLaws.{Pending, pending_whole, pending_room, pending_after}
 use Rattle.write_entries.specs.Lines.{unit_with}
 use Rattle.write_lines.specs.LinesLaws.{texts_next, texts_end}
 use Rattle.write_lines.proofs.put_units.Statement.{statement}

@@ -10,7 +10,7 @@ use mir.Val.{SFits, to_z, of_z}
 use mir.Facts.{to_z-of_z}
 use borrow.Author.Rules.{rules}
 use Rattle.network.specs.Table.{entry}
-use Rattle.network.specs.TableLaws.{row_inside}
+use Rattle.network.proofs.TableLaws.{row_inside}
 use Rattle.limits.specs.LimitTable.{with_forward}
 use Rattle.limit_places.specs.LentTableLaws.{TableFilled, filled_is, place_inside}
 use Rattle.limit_places.specs.Sweep.{swept_last}

@@ -8,7 +8,7 @@ use Rattle.network.specs.Table.{entry, table_of}
 use Rattle.sheet.specs.Sizes.{boundaries_of}
 use Rattle.sheet.specs.Sheet.{Window, Sheet, limit, boundaries}
 use Rattle.sheet.specs.Questions.{windows_of, sheet_of}
-use Rattle.sheet.specs.QuestionLaws.{windows_of_length}
+use Rattle.sheet.proofs.QuestionLaws.{windows_of_length}
 use Rattle.limit_windows.specs.Inside.{inside_weights}
 use Rattle.limits.specs.LimitTable.{with_forward}
 use Rattle.limits.specs.LimitTableLaws.{fillable_lists, fillable_windows, fillable_rule, accepted_span, boundaries_are}

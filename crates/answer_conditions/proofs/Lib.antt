@@ -1,0 +1,4 @@
+pub mod SheetLaws
+pub mod AnswerLaws
+pub mod AnswerConditions
+pub mod FirstBytesLaws

@@ -1,0 +1,3 @@
+pub mod MergeLaws
+pub mod CombineLaws
+pub mod AcceptedLaws

@@ -1,0 +1,4 @@
+pub mod NetworkLaws
+pub mod ClosureLaws
+pub mod TableLaws
+pub mod BoundLaws

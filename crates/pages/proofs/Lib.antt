@@ -1,0 +1,4 @@
+pub mod PageLaws
+pub mod PageLinesLaws
+pub mod PageBounds
+pub mod PagesLaws

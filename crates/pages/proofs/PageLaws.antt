@@ -1,0 +1,177 @@
+-- Laws of the pages: which of their parts depend on what, the counts of a plan's slots, and the lines of a ring step by step.
+-- Key idea: an index that walks a ring has behind it what is written, or added up, and before it the steps from its place on and back to the first boundary.
+use Rattle.std.specs.Prelude.{◌≡◌, ℕ, suc, ◌+◌, ◌-◌, ◌*◌, ◌≤◌, ◌<◌, drop, get_or, ltb, ℤ, neg_ℤ, ◌+ℤ◌}
+use Rattle.std.proofs.Math.Path.{refl, ap, ap₂}
+use Rattle.std.proofs.Common.{sym, ◌∙◌, ⊎_elim, arith, add-one, length-append, drop_of_length-le, lt-ltb, le-ltb, le-leb}
+use Rattle.std.proofs.Math.Bool.{cond}
+use mathlib.Core.List.{List, [], ◌∷◌}
+use Rattle.std.proofs.Math.ListN.{length}
+use Rattle.std.proofs.Math.Seq.{drop-cons}
+use Rattle.std.proofs.lemmas.Bool.{lt-leb}
+use Rattle.integers.specs.Parts.{up, dn, sum, neg, apart}
+use Rattle.lists.specs.Lists.{joined}
+use Rattle.lists.specs.Values.{values_same, length_list_of, list_of_at}
+use Rattle.network.specs.Network.{Weights, via, around}
+use Rattle.network.proofs.NetworkLaws.{Upto, via_same}
+use Rattle.network.specs.Table.{max_boundaries}
+use Rattle.sheet.specs.Sizes.{max_slots}
+use Rattle.limit_places.specs.LentTableLaws.{place_inside}
+use Rattle.print_bytes.specs.Writing.{plan_head, unit_line, carried_line, fits_head, none_head, at_most_line, at_least_line, shortfall_line}
+use Rattle.pages.specs.Page.{units_at, slot_counts, placed_line, unit_lines, slot_line_at, slot_lines, plan_page, range_line_at, range_lines, fits_page}
+use Rattle.pages.specs.Page.{step_line, step_lines, ring_lines, shortfall_of, none_page, RingFits}
+
+-- a page is three parts
+pub three_length : (a b c : List ℕ) → length (joined (a ∷ b ∷ c ∷ [])) ≡ length a + (length b + length c)
+three_length a b c = simp length-append (omega arith)
+
+-- ---- lines that agree slot by slot
+pub record SameSlots (span : ℕ) (f g : ℕ → ℕ) : Type 0 where
+  pub each : (t : ℕ) → 1 ≤ t → t ≤ span → f t ≡ g t
+
+pub slot_lines_same : (span : ℕ) {count count' least least' greatest greatest' : ℕ → ℕ} → SameSlots span count count' → SameSlots span least least'
+    → SameSlots span greatest greatest' → slot_lines span count least greatest ≡ slot_lines span count' least' greatest'
+unfolding slot_lines slot_line_at
+slot_lines_same span {count} {count'} {least} {least'} {greatest} {greatest'} c l g =
+    ap joined
+    (values_same (slot_line_at count least greatest) (slot_line_at count' least' greatest') 1 (suc span - 1)
+    (λ t h k. let m : t ≤ span = omega arith in rw (c.each t h m, l.each t h m, g.each t h m)))
+
+-- a plan's page depends on the least and greatest counts of its slots alone
+pub plan_page_same : (span : ℕ) (loaders slots earliest latest : List ℕ) {least least' greatest greatest' : ℕ → ℕ} → SameSlots span least least'
+    → SameSlots span greatest greatest'
+    → plan_page span loaders slots earliest latest least greatest ≡ plan_page span loaders slots earliest latest least' greatest'
+unfolding plan_page
+plan_page_same span loaders slots earliest latest l g =
+    ap (λ ls. joined (plan_head (length slots) ∷ unit_lines span loaders slots earliest latest ∷ ls ∷ []))
+    (slot_lines_same span (record { each = λ t h k. refl }) l g)
+
+-- and so does the page of a sheet that fits
+pub fits_page_same : (span units : ℕ) {least least' greatest greatest' : ℕ → ℕ} → SameSlots span least least' → SameSlots span greatest greatest'
+    → fits_page span units least greatest ≡ fits_page span units least' greatest'
+unfolding fits_page range_lines range_line_at
+fits_page_same span units {least} {least'} {greatest} {greatest'} l g =
+    ap (λ ls. joined (fits_head units ∷ joined ls ∷ []))
+    (values_same (range_line_at least greatest) (range_line_at least' greatest') 1 (suc span - 1)
+    (λ t h k. let m : t ≤ span = omega arith in rw (l.each t h m, g.each t h m)))
+
+-- ---- a unit's line, by where its slot lies
+module _ (span k x e l : ℕ) where
+  pub placed_inside : x ≤ span → placed_line span k x e l ≡ unit_line k x e l
+  unfolding placed_line
+  placed_inside h = rw (le-leb x span h)
+
+  pub placed_past : span < x → placed_line span k x e l ≡ carried_line k e l
+  unfolding placed_line
+  placed_past h = rw (lt-leb x span h)
+
+-- ---- each slot's count, read from the list of counts
+pub counts_at : (plan : List ℕ) (t : ℕ) → t < max_boundaries → get_or (slot_counts plan) t 0 ≡ units_at plan t
+unfolding slot_counts
+counts_at plan t h = list_of_at (units_at plan) max_boundaries t 0 h
+
+pub counts_length : (plan : List ℕ) → length (slot_counts plan) ≡ max_boundaries
+unfolding slot_counts
+counts_length plan = length_list_of (units_at plan) max_boundaries
+
+-- the page of a plan, with each slot's count read from the list of counts
+pub page_counted : (span : ℕ) (loaders plan earliest latest counts : List ℕ) (least greatest : ℕ → ℕ) → span ≤ max_slots → counts ≡ slot_counts plan
+    → plan_page span loaders plan earliest latest least greatest
+    ≡ joined (plan_head (length plan) ∷ unit_lines span loaders plan earliest latest ∷ slot_lines span (λ t. get_or counts t 0) least greatest ∷ [])
+unfolding plan_page
+page_counted span loaders plan earliest latest counts least greatest h e =
+    ap (λ ls. joined (plan_head (length plan) ∷ unit_lines span loaders plan earliest latest ∷ ls ∷ []))
+    (slot_lines_same span counted (record { each = λ t k m. refl }) (record { each = λ t k m. refl }))
+  where
+    counted : SameSlots span (units_at plan) (λ t. get_or counts t 0)
+    counted = record { each = λ t k m. let small : t < max_boundaries = omega arith in sym (ap (λ c. get_or c t 0) e ∙ counts_at plan t small) }
+
+-- ---- the steps of a ring
+
+-- the entry of a step lies in the table
+pub step_inside : {w : ℕ} {limits : List ℤ} {ring : List ℕ} → RingFits w limits ring → (i j : ℕ) → i < length ring → j < length ring
+    → get_or ring i 0 * w + get_or ring j 0 < length limits
+step_inside {w} {limits} {ring} f i j hi hj =
+    omega (arith, place_inside w (get_or ring i 0) (get_or ring j 0) (f.inside i hi) (f.inside j hj), f.entries)
+
+module _ (d : Weights) (a b : ℕ) where
+  pub step_forward : a < b → step_line d a b ≡ at_most_line (up (d a b)) (suc a) b
+  unfolding step_line
+  step_forward h = rw (lt-ltb a b h)
+
+  pub step_backward : b ≤ a → step_line d a b ≡ at_least_line (dn (d a b)) (suc b) a
+  unfolding step_line
+  step_backward h = rw (le-ltb a b h) (ap (λ k. at_least_line k (suc b) a) (neg (d a b)).0)
+
+module _ (d : Weights) (ring : List ℕ) where
+  -- all lines, from the first boundary on
+  pub ring_start : 1 ≤ length ring → ring_lines d ring ≡ step_lines d (get_or ring 0 0) (drop 1 ring) (get_or ring 0 0)
+  unfolding ring_lines
+  ring_start h = go ring h
+    where
+      go : (r : List ℕ) → 1 ≤ length r → ring_lines d r ≡ step_lines d (get_or r 0 0) (drop 1 r) (get_or r 0 0)
+      go [] h = absurd (omega arith)
+      go (x ∷ xs) h = refl
+
+  -- the line of the step from place i to place i + 1 stands in front
+  pub ring_next : (i a e : ℕ) → i + 1 < length ring
+      → step_lines d a (drop (i + 1) ring) e ≡ step_line d a (get_or ring (i + 1) 0) ∷ step_lines d (get_or ring (i + 1) 0) (drop (i + 1 + 1) ring) e
+  unfolding step_lines
+  ring_next i a e h = rw (add-one (i + 1), drop-cons ring (i + 1) 0 h)
+
+  -- the last step goes back to the first boundary
+  pub ring_end : (i a e : ℕ) → length ring ≤ i + 1 → step_lines d a (drop (i + 1) ring) e ≡ step_line d a e ∷ []
+  unfolding step_lines
+  ring_end i a e h = rw (drop_of_length-le ring h)
+
+  -- the weights from place i on, and back to the first boundary
+  abbrev pub weight_from : ℕ → ℤ
+  weight_from i = via d (get_or ring i 0) (drop (i + 1) ring) (get_or ring 0 0)
+
+  weight_start : 1 ≤ length ring → around d ring ≡ weight_from 0
+  weight_start h = go ring h
+    where
+      go : (r : List ℕ) → 1 ≤ length r → around d r ≡ via d (get_or r 0 0) (drop 1 r) (get_or r 0 0)
+      go [] h = absurd (omega arith)
+      go (x ∷ xs) h = refl
+
+  -- what the first i steps rise and fall by, and what the others add up to, make up the ring's sum
+  pub record Walked (i rise fall : ℕ) : Type 0 where
+    pub rest : rise + up (weight_from i) + dn (around d ring) ≡ up (around d ring) + fall + dn (weight_from i)
+
+  pub walked_none : 1 ≤ length ring → Walked 0 0 0
+  walked_none h = record { rest = omega (arith, ap up (weight_start h), ap dn (weight_start h)) }
+
+  pub walked_next : (i rise fall : ℕ) → i + 1 < length ring → Walked i rise fall
+      → Walked (i + 1) (rise + up (d (get_or ring i 0) (get_or ring (i + 1) 0))) (fall + dn (d (get_or ring i 0) (get_or ring (i + 1) 0)))
+  walked_next i rise fall h w =
+      let e : weight_from i ≡ d (get_or ring i 0) (get_or ring (i + 1) 0) +ℤ weight_from (i + 1) = rw (add-one (i + 1), drop-cons ring (i + 1) 0 h) refl in
+      record { rest = omega (arith, w.rest, ap up e, ap dn e, sum (d (get_or ring i 0) (get_or ring (i + 1) 0)) (weight_from (i + 1))) }
+
+  -- with the last step the ring is closed
+  pub walked_all : (i rise fall : ℕ) → length ring ≤ i + 1 → Walked i rise fall
+      → fall + dn (d (get_or ring i 0) (get_or ring 0 0)) - (rise + up (d (get_or ring i 0) (get_or ring 0 0))) ≡ shortfall_of d ring
+  walked_all i rise fall h w =
+      let e : weight_from i ≡ d (get_or ring i 0) (get_or ring 0 0) = rw (drop_of_length-le ring h) refl in
+      ⊎_elim
+      (λ z. omega (arith, w.rest, ap up e, ap dn e, neg (around d ring)))
+      (λ z. omega (arith, w.rest, ap up e, ap dn e, neg (around d ring)))
+      (apart (around d ring))
+
+-- ---- the page of a ring depends on the limits of its own steps alone
+module _ (top : ℕ) (d e : Weights) (same : (a b : ℕ) → a ≤ top → b ≤ top → d a b ≡ e a b) where
+  step_line_same : (a b : ℕ) → a ≤ top → b ≤ top → step_line d a b ≡ step_line e a b
+  unfolding step_line
+  step_line_same a b ha hb =
+      ap (λ v. cond (ltb a b) (at_most_line (up v) (suc a) b) (at_least_line (up (neg_ℤ v)) (suc b) a)) (same a b ha hb)
+
+  step_lines_same : (a : ℕ) (bs : List ℕ) (z : ℕ) → a ≤ top → Upto top bs → z ≤ top → step_lines d a bs z ≡ step_lines e a bs z
+  unfolding step_lines
+  step_lines_same a [] z ha h hz = ap (λ l. l ∷ []) (step_line_same a z ha hz)
+  step_lines_same a (b ∷ bs) z ha h hz = ap₂ (λ l ls. l ∷ ls) (step_line_same a b ha h.0) (step_lines_same b bs z h.0 h.1 hz)
+
+  pub none_page_same : (ring : List ℕ) → Upto top ring → none_page d ring ≡ none_page e ring
+  unfolding none_page ring_lines
+  none_page_same [] h = refl
+  none_page_same (a ∷ bs) h =
+      ap₂ (λ ls k. joined (none_head ∷ joined ls ∷ shortfall_line (up (neg_ℤ k)) ∷ []))
+      (step_lines_same a bs a h.0 h.1 h.0) (via_same top d e same a bs a h.0 h.1 h.0)

@@ -1,0 +1,2 @@
+pub mod ConclusionLaws
+pub mod SolvingLaws

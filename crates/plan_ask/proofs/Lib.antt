@@ -1,0 +1,3 @@
+pub mod AskingLaws
+pub mod ListedLaws
+pub mod SolvableLaws

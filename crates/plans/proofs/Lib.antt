@@ -1,0 +1,9 @@
+pub mod OrderLaws
+pub mod SeatingLaws
+pub mod UniquenessLaws
+pub mod FairLaws
+pub mod FeasibleLaws
+pub mod CountLaws
+pub mod PrintedLaws
+pub mod LookedLaws
+pub mod DistinctLaws
