@@ -31,13 +31,13 @@ loop-again c =
     let l = c.loop-j in
     ⊎_elim
     (λ p.
-    let e = ap (λ (n : ℕ). get_or xs n 0) p.1 in
-    let t = p.0.true in
-    (omega (arith, p.1), omega arith, refl, lowest_next xs l.low l.j c.if-c-j.low l.invariant.3 (omega (arith, e, t)) (omega (arith, e))))
+    let e = ap (λ (n : ℕ). get_or xs n 0) p.low-is in
+    let t = p.if-c-j.true in
+    (omega (arith, p.low-is), omega arith, refl, lowest_next xs l.low l.j c.if-c-j.low l.invariant.3 (omega (arith, e, t)) (omega (arith, e))))
     (λ p.
-    let e = ap (λ (n : ℕ). get_or xs n 0) p.1 in
-    let t = p.0.false in
-    (omega (arith, p.1), omega arith, refl, lowest_next xs l.low l.j c.if-c-j.low l.invariant.3 (omega (arith, e)) (omega (arith, e, t))))
+    let e = ap (λ (n : ℕ). get_or xs n 0) p.low-is in
+    let t = p.if-c-j.false in
+    (omega (arith, p.low-is), omega arith, refl, lowest_next xs l.low l.j c.if-c-j.low l.invariant.3 (omega (arith, e)) (omega (arith, e, t))))
     c.if-c-j.branch-raw
 
 returns : tie.Need-returns invariant-loop decreases-loop

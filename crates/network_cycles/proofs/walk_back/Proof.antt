@@ -44,9 +44,9 @@ walk_back_spec = tie.close (tie.spec invariant-loop decreases-loop (λ c. omega 
     (λ c. omega (arith, bounds c.before, c.source_of-u.ensures.inside)) (λ c κs. omega (arith, bounds c.before))
     (λ c. omega (arith, bounds c.before.before.before))
     (λ c. let l = c in l.loop-to.invariant.long ∙ sym l.requires.2)
-    (λ c. let s : Sourced = c.before.before.before in
+    (λ c. let s : Sourced = c.before.before in
     walk_found (weights s) s.before.loop-to.invariant s.source_of-u.ensures c.place_of-j.ensures c.if-j-w.true)
     (λ c. omega (arith, bounds c.before.before.before)) (λ c. omega (arith, bounds c.before.before.before))
     (λ c. omega (arith, bounds c.before.before.before)) (λ c. omega (arith, bounds c.before.before.before))
-    (λ c. let s : Sourced = c.before.before.before in
+    (λ c. let s : Sourced = c.before.before in
     walk_next (weights s) s.before.loop-to.invariant s.source_of-u.ensures c.place_of-j.ensures c.if-j-w.false))
