@@ -47,13 +47,13 @@ abbrev InMiddle : Type 0
 InMiddle = tie.After-load_row invariant-loop2 decreases-loop2 invariant-loop decreases-loop invariant-pass decreases-pass
 
 abbrev start : InMiddle → tie.Start invariant-loop2 decreases-loop2 invariant-loop decreases-loop invariant-pass decreases-pass
-start c = c.before.before.before.before.before
+start c = c.before.before.before.before
 
 abbrev width : InMiddle → ℕ
 width c = (start c).args.w
 
 abbrev turn : InMiddle → tie.At-pass invariant-loop2 decreases-loop2 invariant-loop decreases-loop invariant-pass decreases-pass
-turn c = c.before.before.before.before
+turn c = c.before.before.before
 
 abbrev middle_at : InMiddle → ℕ
 middle_at c = (turn c).pass.m
@@ -62,14 +62,14 @@ abbrev started : InMiddle → List ℤ
 started c = (turn c).pass.t
 
 abbrev copy : InMiddle → List ℤ
-copy c = c.Load-row.new.1.1.1.0
+copy c = c.load_row.new.out
 
 copy_room : (c : InMiddle) → length (copy c) ≡ max_boundaries
-copy_room c = c.Load-row.auto.1.1.1.0 ∙ (turn c).pass.invariant.room
+copy_room c = c.load_row.auto.out ∙ (turn c).pass.invariant.room
 
 -- one middle boundary more is below the last
 below : (c : InMiddle) → middle_at c < (start c).args.to
-below c = c.before.before.before.pass-test.true
+below c = c.pass-test.true
 
 middle_below : (c : InMiddle) → middle_at c < width c
 middle_below c = omega (arith, below c, (start c).requires)
@@ -78,7 +78,7 @@ mid_here : (c : InMiddle) → MidIs (width c) (middle_at c) (started c) (copy c)
 mid_here c =
     let inside = row_inside (middle_at c) (width c) (middle_below c) in
     let S = begins_small (turn c).pass.invariant (below c) (start c).requires.5 in
-    mid_is (turn c).pass.mid-1 (middle_below c) S (omega (arith, (start c).requires, (turn c).pass.invariant.long)) c.Load-row.ensures
+    mid_is (turn c).pass.mid (middle_below c) S (omega (arith, (start c).requires, (turn c).pass.invariant.long)) c.load_row.ensures
 
 -- ---- in a turn of the loop over rows
 abbrev InRow : Type 0
@@ -88,10 +88,10 @@ abbrev middle_of : InRow → InMiddle
 middle_of c = c.before.before.before
 
 abbrev row_at : InRow → ℕ
-row_at c = c.before.loop-a.a
+row_at c = c.loop-a.a
 
 abbrev table : InRow → List ℤ
-table c = c.before.loop-a.t
+table c = c.loop-a.t
 
 abbrev from : InRow → ℕ
 from c = row_at c * width (middle_of c)
@@ -107,12 +107,12 @@ am c = to_z w16 (of_z w16 (get_or (part c) (middle_at (middle_of c)) (pos 0)))
 
 row_room : (c : InRow) → (from c + width (middle_of c) ≤ length (table c)) × (size c ≡ width (middle_of c)) × (width (middle_of c) ≤ max_boundaries)
 row_room c =
-    let pre = (start (middle_of c)).pre in
+    let pre = (start (middle_of c)).requires in
     let inside = row_inside (row_at c) (width (middle_of c)) c.loop-a-test.true in
-    (omega (arith, (turn (middle_of c)).pass.invariant.long, c.before.loop-a.invariant.long), omega arith, omega arith)
+    (omega (arith, (turn (middle_of c)).pass.invariant.long, c.loop-a.invariant.long), omega arith, omega arith)
 
 row_here : (c : InRow) → RowIs (width (middle_of c)) (row_at c) (started (middle_of c)) (part c)
-row_here c = row_is c.before.loop-a.invariant (size c) (row_room c).1 (omega (arith, row_room c))
+row_here c = row_is c.loop-a.invariant (size c) (row_room c).1 (omega (arith, row_room c))
 
 -- ---- the table with the row put back, as a break leaves it
 abbrev put : InRow → List ℤ → List ℤ
@@ -121,7 +121,7 @@ put c row = back (from c) (size c) row (table c)
 put_long : (c : InRow) (row : List ℤ) → length row ≡ width (middle_of c) → length (put c row) ≡ length (start (middle_of c)).args.t.now
 put_long c row n =
     back_length (from c) (size c) row (table c) (omega (arith, row_room c)) (omega (arith, row_room c))
-    ∙ c.before.loop-a.invariant.long ∙ (turn (middle_of c)).pass.invariant.long
+    ∙ c.loop-a.invariant.long ∙ (turn (middle_of c)).pass.invariant.long
 
 broken : (c : InRow) (row : List ℤ) → length row ≡ width (middle_of c)
     → ((next : Passed) → after_rows (width (middle_of c)) 0 (width (middle_of c)) (middle_at (middle_of c)) (started (middle_of c)) next ≡ stopped)
@@ -129,7 +129,7 @@ broken : (c : InRow) (row : List ℤ) → length row ≡ width (middle_of c)
     Ran a.w a.t.now (pass_from (a.to - a.from) a.from a.w a.t.now) Stopped (put c row))
 broken c row n e =
     let m = middle_of c in
-    let l = c.before.loop-a in
+    let l = c.loop-a in
     let inside = row_inside (row_at c) (width m) c.loop-a-test.true in
     let fits : from c + size c ≤ length (table c) = omega (arith, row_room c) in
     let n' : length row ≡ size c = omega (arith, row_room c) in
@@ -164,7 +164,7 @@ abbrev stretch_row : InStretch → InRow
 stretch_row c = over_row (over_of c)
 
 abbrev first : InStretch → ℕ
-first c = c.before.before.loop-k.k * stretch
+first c = c.loop-k.k * stretch
 
 abbrev stop : InStretch → ℕ
 stop c = c.stretch_end-e.result
@@ -172,25 +172,25 @@ stop c = c.stretch_end-e.result
 stretch_here : (c : InStretch)
     → (first c < stop c) × (stop c ≤ width (middle_of (stretch_row c))) × (width (middle_of (stretch_row c)) ≤ max_boundaries)
 stretch_here c =
-    let h : first c < width (middle_of (stretch_row c)) = omega (arith, c.before.loop-k-test.true, (over_of c).stretches-n.ensures) in
+    let h : first c < width (middle_of (stretch_row c)) = omega (arith, c.loop-k-test.true, (over_of c).stretches-n.ensures) in
     (omega (arith, c.stretch_end-e.ensures), omega (arith, c.stretch_end-e.ensures), (row_room (stretch_row c)).2)
 
 cols_here : (c : InStretch)
-    → (let r = stretch_row c in let m = middle_of r in let q = c.before.before.loop-k in
-    ColsInv (am r) (copy m) (part r) (width m) (row_at r) q.outcome q.row-1 (first c))
+    → (let r = stretch_row c in let m = middle_of r in let q = c.loop-k in
+    ColsInv (am r) (copy m) (part r) (width m) (row_at r) q.outcome-1 q.row (first c))
 cols_here c =
     let r = stretch_row c in
     let m = middle_of r in
-    let q = c.before.before.loop-k in
+    let q = c.loop-k in
     let e : min (first c) (width m) ≡ first c = omega (arith, stretch_here c) in
-    subst (λ (b : ℕ). ColsInv (am r) (copy m) (part r) (width m) (row_at r) q.outcome q.row-1 b) e q.invariant
+    subst (λ (b : ℕ). ColsInv (am r) (copy m) (part r) (width m) (row_at r) q.outcome-1 q.row b) e q.invariant
 
 -- ---- after the row step
 abbrev Relaxed : Type 0
 Relaxed = tie.After-relax_row invariant-loop2 decreases-loop2 invariant-loop decreases-loop invariant-pass decreases-pass
 
 abbrev stretch_of : Relaxed → InStretch
-stretch_of c = c.before.before.before.before
+stretch_of c = c.before.before.before
 
 abbrev relaxed_row : Relaxed → InRow
 relaxed_row c = stretch_row (stretch_of c)
@@ -198,7 +198,7 @@ relaxed_row c = stretch_row (stretch_of c)
 abbrev stepped : Relaxed → List ℤ
 stepped c =
     let at = stretch_of c in
-    back (first at) (stop at - first at) c.relax_row.new.row at.before.before.loop-k.row-1
+    back (first at) (stop at - first at) c.relax_row.new.row at.loop-k.row
 
 stepped_long : (c : Relaxed) → length (stepped c) ≡ width (middle_of (relaxed_row c))
 stepped_long c =
@@ -210,7 +210,7 @@ abbrev Looked : Type 0
 Looked = tie.After-falls invariant-loop2 decreases-loop2 invariant-loop decreases-loop invariant-pass decreases-pass
 
 abbrev relaxed_of : Looked → Relaxed
-relaxed_of c = c.before.before.before
+relaxed_of c = c.before.before
 
 -- ---- the needs
 pass_holds : tie.Need-pass-init invariant-loop2 decreases-loop2 invariant-loop decreases-loop invariant-pass decreases-pass
@@ -226,18 +226,18 @@ loop2_holds : tie.Need-loop-k-init invariant-loop2 decreases-loop2 invariant-loo
 loop2_holds c =
     let r = over_row c in
     let m = middle_of r in
-    let o = r.before.loop-a in
+    let o = r.loop-a in
     let e : 0 ≡ min (0 * stretch) (width m) = omega arith in
-    subst (λ (b : ℕ). ColsInv (am r) (copy m) (part r) (width m) (row_at r) o.outcome (part r) b) e (cols_start o.invariant.none (row_here r).long)
+    subst (λ (b : ℕ). ColsInv (am r) (copy m) (part r) (width m) (row_at r) o.outcome-1 (part r) b) e (cols_start o.invariant.none (row_here r).long)
 
 relax_row_requires : tie.Need-relax_row-requires invariant-loop2 decreases-loop2 invariant-loop decreases-loop invariant-pass decreases-pass
 relax_row_requires c κs =
-    let at : InStretch = c.before.before.before in
+    let at : InStretch = c.before.before in
     let m = middle_of (stretch_row at) in
     let b = first at in
     let e = stop at in
     let s = stretch_here at in
-    let n = part_length b (e - b) at.before.before.loop-k.row-1 (omega (arith, s, (cols_here at).long)) in
+    let n = part_length b (e - b) at.loop-k.row (omega (arith, s, (cols_here at).long)) in
     let o = part_length b (e - b) (copy m) (omega (arith, s, copy_room m)) in
     (omega (arith, n, o), stretch_fits (over (over_of at)) b (e - b) (omega (arith, s)))
 
@@ -247,10 +247,10 @@ loop2_again c =
     let at = stretch_of x in
     let r = stretch_row at in
     let m = middle_of r in
-    let q = at.before.before.loop-k in
+    let q = at.loop-k in
     let s = stretch_here at in
     let n : stop at ≡ min ((q.k + 1) * stretch) (width m) = omega (arith, at.stretch_end-e.ensures) in
-    subst (λ (b : ℕ). ColsInv (am r) (copy m) (part r) (width m) (row_at r) q.outcome (stepped x) b) n
+    subst (λ (b : ℕ). ColsInv (am r) (copy m) (part r) (width m) (row_at r) q.outcome-1 (stepped x) b) n
     (cols_again (cols_here at) (stop at) s.0 s.1 x.relax_row.ensures c.falls.ensures c.if-falls.false)
 
 loop-again : tie.Need-loop-a-preserved invariant-loop2 decreases-loop2 invariant-loop decreases-loop invariant-pass decreases-pass
@@ -260,7 +260,7 @@ loop-again c =
     let s = over f in
     let q = c.loop-k in
     let hb : width (middle_of r) ≤ min (q.k * stretch) (width (middle_of r)) = omega (arith, c.loop-k-test.false, f.stretches-n.ensures) in
-    rows_again r.before.loop-a.invariant r.loop-a-test.true (size r) q.invariant.none (row_room r).1 (omega (arith, row_room r))
+    rows_again r.loop-a.invariant r.loop-a-test.true (size r) q.invariant.none (row_room r).1 (omega (arith, row_room r))
     (row_done s q.invariant hb) (row_low s false (q.invariant.fine (omega (arith, r.loop-a-test.true, hb))))
 
 pass_again : tie.Need-pass-preserved invariant-loop2 decreases-loop2 invariant-loop decreases-loop invariant-pass decreases-pass
@@ -275,7 +275,7 @@ returns-2 c =
     let r = stretch_row at in
     let s = stretch_here at in
     let low = cols_low (cols_here at) (stop at) s.0 s.1 x.relax_row.ensures c.falls.ensures c.if-falls.true in
-    broken r (stepped x) (stepped_long x) (rows_low r.before.loop-a.invariant r.loop-a-test.true (row_low (over (over_of at)) true low))
+    broken r (stepped x) (stepped_long x) (rows_low r.loop-a.invariant r.loop-a-test.true (row_low (over (over_of at)) true low))
 
 pub run_middles_spec : {M : Type 1} → statement M
 run_middles_spec = tie.close (tie.spec invariant-loop2 decreases-loop2 invariant-loop decreases-loop invariant-pass decreases-pass pass_holds
@@ -288,9 +288,9 @@ run_middles_spec = tie.close (tie.spec invariant-loop2 decreases-loop2 invariant
     (λ c κs. omega (arith, c.loop-k-test.true, c.stretches-n.ensures))
     (λ c. omega (arith, stretch_here c)) (λ c. omega (arith, stretch_here c)) (λ c. omega (arith, stretch_here c))
     (λ c. omega (arith, stretch_here c, (cols_here c).long))
-    (λ c. omega (arith, stretch_here c.before)) (λ c. omega (arith, stretch_here c.before)) (λ c. omega (arith, stretch_here c.before.before))
-    (λ c. omega (arith, stretch_here c.before.before, copy_room (middle_of (stretch_row c.before.before)))) relax_row_requires
-    (λ c κs. let x : Relaxed = c.before.before in omega (arith, stepped_long x, (relaxed_row x).loop-a-test.true))
+    (λ c. omega (arith, stretch_here c.before)) (λ c. omega (arith, stretch_here c.before)) (λ c. omega (arith, stretch_here c.before))
+    (λ c. omega (arith, stretch_here c.before, copy_room (middle_of (stretch_row c.before)))) relax_row_requires
+    (λ c κs. let x : Relaxed = c.before in omega (arith, stepped_long x, (relaxed_row x).loop-a-test.true))
     (λ c. omega (arith, stretch_here (stretch_of (relaxed_of c.before))))
     (λ c. omega (arith, (stretch_of (relaxed_of c.before)).loop-k-test.true)) loop2_again
     (λ c. let r = over_row c.before.before.before in omega (arith, r.loop-a-test.true, row_room r))
