@@ -31,12 +31,12 @@ next c =
     let s = l.invariant in
     let h = c.loop-from-test.true in
     let decided : Bool → Type 0 = λ t. Decides t (AdmitsAt a.w a.d.now a.m.now a.f.0 l.middle a.l.0) in
-    ⊎_elim (λ w. rw (w.1, w.2) (
-      search_yes s h (omega arith) (omega (arith, s.after)) (subst decided w.0.true c.admits.ensures),
+    ⊎_elim (λ w. rw (w.from-is, w.to-is) (
+      search_yes s h (omega arith) (omega (arith, s.after)) (subst decided w.if-admits.true c.admits.ensures),
       omega (arith, s.after, s.before),
     ))
-    (λ w. rw (w.1, w.2) (
-      search_no s h (omega arith) (omega (arith, s.before)) (subst decided w.0.false c.admits.ensures),
+    (λ w. rw (w.from-is, w.to-is) (
+      search_no s h (omega arith) (omega (arith, s.before)) (subst decided w.if-admits.false c.admits.ensures),
       omega (arith, s.after, s.before),
     ))
     c.if-admits.branch-raw

@@ -57,9 +57,9 @@ loop-again c =
     let fx : SFits w16 (get_or xs l.i (pos 0)) = search rules in
     let fy : SFits w16 (get_or ys l.i (pos 0)) = search rules in
     let fr : SFits w16 c.lesser-r.result = search rules in
-    let e : c.lesser-r.result ≡ min_ℤ (to_z w16 l.r) (value_at xs l.i +ℤ value_at ys l.i) =
+    let e : c.lesser-r.result ≡ min_ℤ (to_z w16 l.r-bits) (value_at xs l.i +ℤ value_at ys l.i) =
     simp (to_z-of_z fx, to_z-of_z fy, to_z-of_z (fits st.before.before.before.before.before.before.before l.i (omega arith))) at c.lesser-r.ensures in
-    (omega arith, refl, simp (to_z-of_z fr) (rw e (least_more l.i xs ys (to_z w16 l.r) (omega arith) l.invariant.2)))
+    (omega arith, refl, simp (to_z-of_z fr) (rw e (least_more l.i xs ys (to_z w16 l.r-bits) (omega arith) l.invariant.2)))
 
 returns : tie.Need-returns invariant-loop decreases-loop
 returns c =
@@ -67,7 +67,7 @@ returns c =
     let xs = c.args.xs.now in
     let ys = c.args.ys.now in
     let e : l.i ≡ length xs = omega arith in
-    subst (λ (n : ℕ). LeastSum n xs ys (to_z w16 l.r)) e l.invariant.2
+    subst (λ (n : ℕ). LeastSum n xs ys (to_z w16 l.r-bits)) e l.invariant.2
 
 pub least_sum_spec : {M : Type 1} → statement M
 least_sum_spec = tie.close (tie.spec invariant-loop decreases-loop (λ c. omega arith) (λ c. omega arith) add_r loop-holds (λ c. omega arith) (λ c. omega arith)

@@ -97,15 +97,15 @@ returns-2 c =
     settled_lower st.requires.0 st.args.b.0 st.requires.1 (least (summed r.before.before.before.before.before)) (simp (to_z-of_z f) at r.relax_row.ensures) low
     (sym (before_window c.before) ∙ c.if-less-2.false)
 
-returns-3 : tie.Need-returns-then-less-2
+returns-3 : tie.Need-returns
 returns-3 c =
     let k = c in
-    let st = start k.before.before.before.before.before.before.before.before.before.before.before in
-    let f : SFits w16 (lowest k.before.before.before.before.before.before.before.before.before.before.before) = search rules in
+    let st = start k.before.before.before in
+    let f : SFits w16 (lowest k.before.before.before) = search rules in
     let fb : SFits w16 (get_or st.args.z.now st.args.b.0 (pos 0)) = search rules in
-    let h : lt_z (lowest k.before.before.before.before.before.before.before.before.before.before.before) (value_at st.args.z.now st.args.b.0) ≡ false =
+    let h : lt_z (lowest k.before.before.before) (value_at st.args.z.now st.args.b.0) ≡ false =
     simp (to_z-of_z f, to_z-of_z fb) at (sym c.less.ensures ∙ c.if-less.false) in
-    settled_still st.requires.0 st.args.b.0 st.requires.1 (least k.before.before.before.before.before.before.before.before.before.before.before) h
+    settled_still st.requires.0 st.args.b.0 st.requires.1 (least k.before.before.before) h
 
 pub settle_spec : {M : Type 1} → statement M
 settle_spec = tie.close (tie.spec (λ c. omega (arith, inside c)) (λ c. omega (arith, inside c)) (λ c κs. tt) (λ c κs. tt)

@@ -5,6 +5,7 @@ use Rattle.network_cuts.specs.Decider.{Sinking, Settling, height_at}
 use lib.ListN.{length}
 use Rattle.slots.specs.Slots.{slot_end}
 use mathlib.Core.Path.{◌≡◌, sym, subst, ◌∙◌}
+use borrow.Author.Rules.{rules}
 use Rattle.network_cuts.proofs.sink.Statement.{statement}
 use Rattle.network_cuts.proofs.sink.Tie as tie
 
@@ -18,22 +19,22 @@ decreases-loop d m w f v l z₀ z = height_at w d f.0 z
 abbrev Swept : Type 0
 Swept = tie.After-sweep-s invariant-loop decreases-loop
 
-long : (s : Swept) → length s.sweep-s.last.z ≡ length s.before.before.before.args.z.now
-long s = s.sweep-s.kept.1.1.1.1.1.1.0 ∙ s.before.before.loop.invariant.long ∙ sym s.before.before.before.requires.long
+long : (s : Swept) → length s.sweep-s.new.z ≡ length s.args.z.now
+long s = s.sweep-s.auto.z ∙ s.loop.invariant.long ∙ sym s.requires.long
 
-swept : (s : Swept) (r : Settled) → s.sweep-s.result ≡ r → let a = s.before.before.before.args in
-    Settling a.w a.d.now a.m.now a.f.0 a.v.0 a.l.0 0 (slot_end a.f.0) s.before.before.loop.z
-    s.sweep-s.last.z r
+swept : (s : Swept) (r : Settled) → s.sweep-s.result ≡ r → let a = s.args in
+    Settling a.w a.d.now a.m.now a.f.0 a.v.0 a.l.0 0 (slot_end a.f.0) s.loop.z
+    s.sweep-s.new.z r
 swept s r e =
-    let a = s.before.before.before.args in
-    let z = s.before.before.loop.z in
-    let z' = s.sweep-s.last.z in
+    let a = s.args in
+    let z = s.loop.z in
+    let z' = s.sweep-s.new.z in
     subst (Settling a.w a.d.now a.m.now a.f.0 a.v.0 a.l.0 0 (slot_end a.f.0) z z') e s.sweep-s.ensures
 
 pub sink_spec : {M : Type 1} → statement M
 sink_spec = tie.close (tie.spec invariant-loop decreases-loop (λ c. c.requires) (λ c κs. c.loop.invariant)
-    (λ c. c.in-Still.keys1) (λ c. long c.before.before.before)
-    (λ c. let s = c in still_admits s.loop.invariant _ (swept s _ c.enum_told-1.given.1))
-    (λ c. c.in-Lost.keys2) (λ c. long c.before.before.before) (λ c. swept c.before.before.before _ c.enum_told-in-Lost-1.given.1)
-    (λ c. c.in-Lower.keys3) (λ c. (swept c.before.before.before _ c.enum_told-in-Lower-1.given.1).1)
-    (λ c. (swept c.before.before.before _ c.enum_told-in-Lower-1.given.1).0))
+    (λ c. search rules) (λ c. long c.before.before)
+    (λ c. still_admits c.loop.invariant _ (swept c.before.before _ c.in-Still.is))
+    (λ c. search rules) (λ c. long c.before.before) (λ c. swept c.before.before _ c.in-Lost.is)
+    (λ c. search rules) (λ c. (swept c.before.before _ c.in-Lower.is).1)
+    (λ c. (swept c.before.before _ c.in-Lower.is).0))

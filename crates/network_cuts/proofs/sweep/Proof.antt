@@ -9,6 +9,7 @@ use mathlib.Core.Logic.{⊎_elim}
 use mathlib.Core.Path.{◌≡◌, sym, subst, ◌∙◌}
 use Prim.Native.Nat.{◌≤◌, ◌-◌, ◌+◌}
 use native.Mathlib.Omega.{arith}
+use borrow.Author.Rules.{rules}
 use Rattle.network_cuts.proofs.sweep.Statement.{statement}
 use Rattle.network_cuts.proofs.sweep.Tie as tie
 
@@ -36,7 +37,7 @@ returns c =
     let a = s.args in
     let l = s.loop-b in
     let z' = s.settle-s.new.z in
-    subst (Settling a.w a.d.now a.m.now a.f.0 a.v.0 a.l.0 l.b (l.b + 1) l.z z') c.enum_told-in-Lost-1.given.1 s.settle-s.ensures
+    subst (Settling a.w a.d.now a.m.now a.f.0 a.v.0 a.l.0 l.b (l.b + 1) l.z z') c.in-Lost.is s.settle-s.ensures
 
 loop-again : tie.Need-loop-b-preserved invariant-loop decreases-loop
 loop-again c =
@@ -47,16 +48,16 @@ loop-again c =
     let z' = s.settle-s.new.z in
     let made = Settling a.w a.d.now a.m.now a.f.0 a.v.0 a.l.0 l.b (l.b + 1) l.z z' in
     ⊎_elim (λ w.
-    let e : s.settle-s.result ≡ Still = w.1.given.1 in
-    let t : c.match-s.lower ≡ l.lower = w.2 in
+    let e : s.settle-s.result ≡ Still = w.in-Still.is in
+    let t : c.match-s.lower ≡ l.lower = w.lower-is in
     let n = subst made e s.settle-s.ensures in (
       omega arith,
       subst (Sinking a.w a.d.now a.m.now a.f.0 a.v.0 a.l.0) (sym n.0) i.1,
       rw t (swept_still a.w a.f.0 a.v.0 a.l.0 a.d.now a.m.now a.z.now l.lower l.b l.z z' i.2 n),
     ))
     (λ w.
-    let e : s.settle-s.result ≡ Lower = w.1.given.1 in
-    let t : c.match-s.lower ≡ true = w.2 in
+    let e : s.settle-s.result ≡ Lower = w.in-Lower.is in
+    let t : c.match-s.lower ≡ true = w.lower-is in
     let n = subst made e s.settle-s.ensures in
     (omega arith, n.0, rw t (swept_lower a.w a.f.0 a.v.0 a.l.0 a.d.now a.m.now a.z.now l.lower l.b l.z z' i.2 n)))
     c.match-s.branch-raw
@@ -65,18 +66,18 @@ loop-again c =
 abbrev Done : Type 0
 Done = tie.After-loop-b invariant-loop decreases-loop
 
-long : (c : Done) → length c.before.loop-b.z ≡ length c.before.before.before.args.z.now
-long c = c.before.loop-b.invariant.1.long ∙ sym c.before.before.before.requires.long
+long : (c : Done) → length c.loop-b.z ≡ length c.args.z.now
+long c = c.loop-b.invariant.1.long ∙ sym c.requires.long
 
-swept : (c : Done) (t : Bool) → c.before.loop-b.lower ≡ t → let a = c.before.before.before.args in
-    Settling a.w a.d.now a.m.now a.f.0 a.v.0 a.l.0 0 (slot_end a.f.0) a.z.now c.before.loop-b.z (fell t)
+swept : (c : Done) (t : Bool) → c.loop-b.lower ≡ t → let a = c.args in
+    Settling a.w a.d.now a.m.now a.f.0 a.v.0 a.l.0 0 (slot_end a.f.0) a.z.now c.loop-b.z (fell t)
 swept c t e =
-    let a = c.before.before.before.args in
-    let l = c.before.loop-b in
+    let a = c.args in
+    let l = c.loop-b in
     let s = subst (λ t. Settling a.w a.d.now a.m.now a.f.0 a.v.0 a.l.0 0 l.b a.z.now l.z (fell t)) e l.invariant.2 in
     swept_end a.w a.f.0 a.v.0 a.l.0 a.d.now a.m.now a.z.now t l.b l.z (omega arith) s
 
 pub sweep_spec : {M : Type 1} → statement M
-sweep_spec = tie.close (tie.spec invariant-loop decreases-loop (λ c κs. tt) loop-holds settle_requires (λ c. c.in-Still.keys1) (λ c. c.in-Lower.keys2) (λ c. c.in-Lost.keys3)
+sweep_spec = tie.close (tie.spec invariant-loop decreases-loop (λ c κs. tt) loop-holds settle_requires (λ c. search rules) (λ c. search rules) (λ c. search rules)
     same_length returns (λ c. omega arith) (λ c. omega arith) loop-again (λ c. long c.before) (λ c. swept c.before true c.if-lower.true)
     (λ c. long c.before) (λ c. swept c.before false c.if-lower.false))
