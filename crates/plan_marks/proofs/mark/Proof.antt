@@ -51,7 +51,7 @@ cast_marks : tie.Need-overflow_cast-marks invariant-loop decreases-loop
 cast_marks c =
     let turn = c in
     let st = start turn.before.before.before.before.before in
-    omega (arith, c.Slot-seen.ensures, st.requires.0.inside turn.loop-j.j (omega arith), st.requires.1.0)
+    omega (arith, c.slot_seen.ensures, st.requires.0.inside turn.loop-j.j (omega arith), st.requires.1.0)
 
 loop-again : tie.Need-loop-j-preserved invariant-loop decreases-loop
 loop-again c =
@@ -61,8 +61,8 @@ loop-again c =
     let at = c.mark_place-at in (
       omega arith,
       refl,
-      length-set l.marks at.result c.Slot-seen.result ∙ l.invariant.2,
-      rw (at.ensures, c.Slot-seen.ensures) (marked_more st.requires.0 l.j l.marks (omega arith) (omega (arith, st.requires.1.1, l.invariant.2)) l.invariant.3),
+      length-set l.marks at.result c.slot_seen.result ∙ l.invariant.2,
+      rw (at.ensures, c.slot_seen.ensures) (marked_more st.requires.0 l.j l.marks (omega arith) (omega (arith, st.requires.1.1, l.invariant.2)) l.invariant.3),
     )
 
 returns : tie.Need-returns invariant-loop decreases-loop
@@ -75,8 +75,8 @@ returns c =
 
 pub mark_spec : {M : Type 1} → statement M
 mark_spec = tie.close (tie.spec invariant-loop decreases-loop loop-holds (λ c. omega arith) (λ c. omega arith)
-    (λ c. omega (arith, (start c.before).pre.0.paired)) (λ c. omega (arith, (start c.before.before).pre.0.paired)) mark_place_requires
-    (λ c. omega (arith, (start c.before.before.before).pre.0.seats))
-    (λ c. omega (arith, (start c.before.before.before.before).pre.0.seats)) (λ c κs. (below c.before.before.before.before).2) cast_marks
+    (λ c. omega (arith, (start c.before).requires.0.paired)) (λ c. omega (arith, (start c.before.before).requires.0.paired)) mark_place_requires
+    (λ c. omega (arith, (start c.before.before.before).requires.0.seats))
+    (λ c. omega (arith, (start c.before.before.before.before).requires.0.seats)) (λ c κs. (below c.before.before.before.before).2) cast_marks
     (λ c. omega (arith, place c.before.before)) (λ c. place c.before.before) (λ c. omega arith) (λ c. omega arith) loop-again
     (λ c. c.loop-j.invariant.2) returns)

@@ -58,19 +58,19 @@ cast_out c =
     let at = c in
     let st = start at.before.before.before.before.before in
     let mark = get_or st.args.marks.now at.mark_place-at.result 0 in
-    omega (arith, c.Slot-seen.ensures, seen_most st.args.turned st.args.w mark (mark_low at.before.before), st.requires.0.2)
+    omega (arith, c.slot_seen.ensures, seen_most st.args.turned st.args.w mark (mark_low at.before.before), st.requires.0.2)
 
 loop-again : tie.Need-loop-j-preserved invariant-loop decreases-loop
 loop-again c =
     let turn = c in
     let a = (start turn.before.before.before.before.before).args in
     let read = ap (λ (i : ℕ). seen a.turned a.w (get_or a.marks.now i 0)) c.mark_place-at.ensures in
-    (refl, fill_next turn.loop-j.invariant.1 (c.Slot-seen.ensures ∙ read) (omega arith) (omega (arith, (start turn.before.before.before.before.before).requires.0)))
+    (refl, fill_next turn.loop-j.invariant.1 (c.slot_seen.ensures ∙ read) (omega arith) (omega (arith, (start turn.before.before.before.before.before).requires.0)))
 
 pub read_marks_spec : {M : Type 1} → statement M
 read_marks_spec = tie.close (tie.spec invariant-loop decreases-loop (λ c. (refl, fill_start)) (λ c. omega arith) (λ c. omega arith)
-    (λ c. omega (arith, (start c.before).pre.0)) (λ c. omega (arith, (start c.before.before).pre.0)) mark_place_requires
+    (λ c. omega (arith, (start c.before).requires.0)) (λ c. omega (arith, (start c.before.before).requires.0)) mark_place_requires
     (λ c. omega (arith, place c)) (λ c. place c.before) (λ c κs. mark_low c.before) cast_out
-    (λ c. omega (arith, (start c.before.before.before.before.before).pre.0))
-    (λ c. omega (arith, (start c.before.before.before.before.before).pre.0)) (λ c. omega arith) (λ c. omega arith) loop-again
+    (λ c. omega (arith, (start c.before.before.before.before.before).requires.0))
+    (λ c. omega (arith, (start c.before.before.before.before.before).requires.0)) (λ c. omega arith) (λ c. omega arith) loop-again
     (λ c. c.loop-j.invariant.1.long) (λ c. fill_end c.loop-j.invariant.1 (omega arith)))
