@@ -85,14 +85,14 @@ one : (c : tie.In-loop-b invariant-loop2 decreases-loop2 invariant-loop decrease
     → let a = (start c.before.before.before).args in
     let r = c.loop-a in
     let l = c.loop-b in
-    Turn a.w (windows_of a.first.now a.last.now) r.t l.t r.a l.b (r.a * a.w + (l.b - 1)) (to_z w16 l.sum)
+    Turn a.w (windows_of a.first.now a.last.now) r.t l.t r.a l.b (r.a * a.w + (l.b - 1)) (to_z w16 l.sum-bits)
 one c =
     let s = start c.before.before.before in
     let a = s.args in
     let r = c.loop-a in
     let l = c.loop-b in
     let fit = s.requires.1 in
-    turn a.w (windows_of a.first.now a.last.now) r.t l.t r.a l.b (to_z w16 l.sum) l.invariant.0
+    turn a.w (windows_of a.first.now a.last.now) r.t l.t r.a l.b (to_z w16 l.sum-bits) l.invariant.0
     (omega (arith, windows_of_length a.first.now a.last.now fit.paired, fit.few))
     l.invariant.1 l.invariant.2 (omega arith) l.invariant.3 l.invariant.4 l.invariant.5
 

@@ -33,7 +33,7 @@ is_new_requires c κs =
 link_requires : tie.Need-link-requires invariant-loop decreases-loop
 link_requires c κs =
     let p = asked c.before.before in
-    (p.loop-j.invariant.2.wide, omega (arith, (start p).pre), omega (arith, (start p).pre, p.loop-j.invariant.1))
+    (p.loop-j.invariant.2.wide, omega (arith, (start p).requires), omega (arith, (start p).requires, p.loop-j.invariant.1))
 
 loop-again : tie.Need-loop-j-preserved invariant-loop decreases-loop
 loop-again c =
@@ -46,7 +46,7 @@ loop-again c =
     let new = sym then.is_new.ensures ∙ then.if-is_new.true in (
       omega arith,
       k.auto.nexts ∙ l.invariant.1,
-      rw (k.ensures.0, k.ensures.1) (linked_more ks l.heads l.nexts l.j l.invariant.2 (omega (arith, (start p).pre, l.invariant.1))),
+      rw (k.ensures.0, k.ensures.1) (linked_more ks l.heads l.nexts l.j l.invariant.2 (omega (arith, (start p).requires, l.invariant.1))),
       l.invariant.3 ∙ new_next ks l.j h new,
     )
 

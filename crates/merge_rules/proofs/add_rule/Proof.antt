@@ -12,7 +12,7 @@ returns c qs before held =
     tightens a.from a.to a.low a.high a.n a.froms.now a.tos.now a.lows.now a.highs.now qs before held k.result k.ensures
     (omega arith) c.larger.result c.smaller.result c.larger.ensures c.smaller.ensures
 
-returns-2 : tie.Need-returns-then-p-n
+returns-2 : tie.Need-returns
 returns-2 c qs before held =
     let s = c in
     let a = s.args in

@@ -81,7 +81,7 @@ inside c = omega (arith, size (start (turn c)))
 
 added : (c : tie.After-slice_known-in-loop-i-4-1 invariant-loop decreases-loop) → let p = turn c in let s = start p in let k = (call c).add_rule-count in
     AtFront (with_rule (merged_rules (take p.loop-i.i (rules s))) (get_or (rules s) p.loop-i.i no_rule)) k.result (rooms s)
-    (columns k.last.1.1.1.1.1.0 k.last.1.1.1.1.1.1.0 k.last.1.1.1.1.1.1.1.0 k.last.1.1.1.1.1.1.1.1.0)
+    (columns k.new.froms k.new.tos k.new.lows k.new.highs)
 added c =
     let p = turn c in
     let s = start p in

@@ -37,10 +37,10 @@ loop-again c =
     let l = c in
     (omega arith, first_failed (test l.before.before.before.before.before) (size l.before.before.before.before.before) l.loop-j.j (omega arith) (le-ltb _ _ c.if-high-j.false) ∙ l.loop-j.invariant.1)
 
-returns-2 : tie.Need-returns-then-high-j invariant-loop decreases-loop
+returns-2 : tie.Need-returns invariant-loop decreases-loop
 returns-2 c =
     let l = c in
-    sym (first_none (test l.before.before.before.before.before) (size l.before.before.before.before.before) l.loop-j.j (omega arith)) ∙ l.loop-j.invariant.1
+    sym (first_none (test l.before.before) (size l.before.before) l.loop-j.j (omega arith)) ∙ l.loop-j.invariant.1
 
 pub first_crossed_spec : {M : Type 1} → statement M
 first_crossed_spec = tie.close (tie.spec invariant-loop decreases-loop (λ c. (omega arith, ap (λ (k : ℕ). first_from k 0 (test c)) (sub-zero (size c)))) (λ c. omega arith)

@@ -5,6 +5,7 @@ use mathlib.Core.Bool.{Bool}
 use Prim.Native.Nat.{ℕ, ◌-◌, ◌≤◌}
 use native.Mathlib.Omega.{arith}
 use lib.ListN.{length}
+use Rattle.std.proofs.Common.{eq-eqb, ne_eqb}
 use Rattle.lists.specs.Last.{last_below, last_passing, last_passed, last_failed}
 use Rattle.merge_rules.specs.Columns.{stretch_at}
 use Rattle.merge_rules.proofs.StretchLaws.{same_from, other_from}
@@ -24,7 +25,7 @@ returns : tie.Need-returns-then-tos-n invariant-loop decreases-loop
 returns c =
     let l = c in
     let a = l.args in
-    let here = same_from a.froms.now a.tos.now a.f a.t (l.loop-n.n - 1) c.if-froms-n.true ∙ c.if-tos-n.true in
+    let here = same_from a.froms.now a.tos.now a.f a.t (l.loop-n.n - 1) c.if-froms-n.true ∙ eq-eqb _ _ c.if-tos-n.true in
     last_passed (test l.before.before.before.before.before.before) (length a.froms.now) l.loop-n.n (omega arith) here ∙ l.loop-n.invariant.1
 
 loop-again : tie.Need-loop-n-preserved invariant-loop decreases-loop
@@ -32,8 +33,8 @@ loop-again c =
     let l = c in
     let a = l.args in
     let other =
-    ⊎_elim (λ w. same_from a.froms.now a.tos.now a.f a.t (l.loop-n.n - 1) w.0.true ∙ w.2.false)
-    (λ w. other_from a.froms.now a.tos.now a.f a.t (l.loop-n.n - 1) w.false) c.else-froms-n.branch-raw in
+    ⊎_elim (λ w. same_from a.froms.now a.tos.now a.f a.t (l.loop-n.n - 1) w.if-froms-n.true ∙ ne_eqb _ _ w.if-tos-n.false)
+    (λ w. other_from a.froms.now a.tos.now a.f a.t (l.loop-n.n - 1) w.if-froms-n.false) c.else-froms-n.branch-raw in
     (omega arith, last_failed (test l.before.before.before.before) (length a.froms.now) l.loop-n.n (omega arith) other ∙ l.loop-n.invariant.1)
 
 returns-2 : tie.Need-returns invariant-loop decreases-loop

@@ -5,6 +5,7 @@ use mathlib.Core.Bool.{Bool}
 use Prim.Native.Nat.{ℕ, ◌-◌, ◌≤◌}
 use native.Mathlib.Omega.{arith}
 use native.Mathlib.Nat.{sub-zero}
+use Rattle.std.proofs.Common.{eq-eqb, ne_eqb}
 use Rattle.lists.specs.First.{first_from, first_place, first_passed, first_failed, first_none}
 use Rattle.merge_rules.specs.Columns.{stretch_at}
 use Rattle.merge_rules.proofs.StretchLaws.{same_from, other_from}
@@ -24,7 +25,7 @@ returns : tie.Need-returns-then-tos-j invariant-loop decreases-loop
 returns c =
     let l = c in
     let a = l.args in
-    let here = same_from a.froms.now a.tos.now a.f a.t l.loop-j.j c.if-froms-j.true ∙ c.if-tos-j.true in
+    let here = same_from a.froms.now a.tos.now a.f a.t l.loop-j.j c.if-froms-j.true ∙ eq-eqb _ _ c.if-tos-j.true in
     sym (first_passed (test l.before.before.before.before.before.before) a.n l.loop-j.j (omega arith) here) ∙ l.loop-j.invariant.1
 
 loop-again : tie.Need-loop-j-preserved invariant-loop decreases-loop
@@ -32,8 +33,8 @@ loop-again c =
     let l = c in
     let a = l.args in
     let other =
-    ⊎_elim (λ w. same_from a.froms.now a.tos.now a.f a.t l.loop-j.j w.0.true ∙ w.2.false)
-    (λ w. other_from a.froms.now a.tos.now a.f a.t l.loop-j.j w.false) c.else-froms-j.branch-raw in
+    ⊎_elim (λ w. same_from a.froms.now a.tos.now a.f a.t l.loop-j.j w.if-froms-j.true ∙ ne_eqb _ _ w.if-tos-j.false)
+    (λ w. other_from a.froms.now a.tos.now a.f a.t l.loop-j.j w.if-froms-j.false) c.else-froms-j.branch-raw in
     (omega arith, first_failed (test l.before.before.before.before) a.n l.loop-j.j (omega arith) other ∙ l.loop-j.invariant.1)
 
 returns-2 : tie.Need-returns invariant-loop decreases-loop

@@ -34,10 +34,10 @@ verdict_then c v e = refusal_then (lists c) (rooms c) v (sym c.ask_lists-asked.e
 
 -- where the lists' answer was yes
 abbrev asked : tie.In-Yes → tie.After-ask_lists-asked
-asked c = c.before.before
+asked c = c.before
 
 given_lists : (c : tie.In-Yes) → Listed (lists (asked c))
-given_lists c = lists_yes (lists (asked c)) (sym (asked c).ask_lists-asked.ensures ∙ ap verdict_of c.enum_told-1.given.1)
+given_lists c = lists_yes (lists (asked c)) (sym (asked c).ask_lists-asked.ensures ∙ ap verdict_of c.in-Yes.is)
 
 -- the rooms, as they are asked
 rooms_decide : (c : tie.After-rooms_fit) (b : Bool) → c.rooms_fit.result ≡ b
@@ -46,7 +46,7 @@ rooms_decide c b e =
     let told : tie.In-Yes = c.before.before in
     let l = (lists (asked told)).constraints in
     let r = (start (asked told)).args.rooms in
-    verdict_then (asked told) all_yes (ap verdict_of told.enum_told-1.given.1)
+    verdict_then (asked told) all_yes (ap verdict_of told.in-Yes.is)
     ∙ ap (λ (fit : Bool). cond fit all_yes (no 12 0)) (asks_rooms l (lists_read l (given_lists told).lists) r
     ∙ ap (λ (w : ℕ). lengths_fit w (length l.first) r) (sym c.boundaries.ensures) ∙ sym c.rooms_fit.ensures ∙ e)
 
@@ -54,5 +54,5 @@ pub ask_spec : {M : Type 1} → statement M
 ask_spec = tie.close (tie.spec (λ c κs. search rules) (λ c. search rules) (λ c. search rules)
     (λ c κs. span_bound (lists (asked c)).constraints (given_lists c).sheet)
     (λ c κs. omega (arith, c.boundaries.ensures, span_bound (lists (asked c.before)).constraints (given_lists c.before).sheet))
-    (λ c. sym (verdict_then c.before.before.before _ (ap verdict_of c.asked-1.given.1)))
+    (λ c. sym (verdict_then c.before _ (ap verdict_of c.in-No.is)))
     (λ c. sym (rooms_decide c.before _ c.if-rooms_fit.true)) (λ c. sym (rooms_decide c.before _ c.if-rooms_fit.false)))

@@ -72,7 +72,7 @@ past_lists : (c : tie.Then-all_agree) → left 0 (s₁ c) ≡ left 1 (s₁ c)
 past_lists c = yes_here _ 13 0 _ (agree_all c)
 
 past_span : (c : tie.Then-is_span) → left 0 (s₂ c) ≡ left 2 (s₂ c)
-past_span c = past_lists c.before.before ∙ yes_here _ 6 0 _ (asks_span (constraints (s₂ c)) ∙ sym c.is_span_lem.ensures ∙ c.if-is_span.true)
+past_span c = past_lists c.before.before ∙ yes_here _ 6 0 _ (asks_span (constraints (s₂ c)) ∙ sym c.is_span.ensures ∙ c.if-is_span.true)
 
 past_units : (c : tie.Else-first-gt-MAX_UNITS) → left 0 (s₂ c.before) ≡ left 3 (s₂ c.before)
 past_units c =
@@ -105,7 +105,7 @@ past_loaders c = past_stretches c.before.before ∙ yes_here _ 16 0 _ (sym c.all
 returns-2 : tie.Need-returns-else-is_span
 returns-2 c =
     let p : tie.Then-all_agree = c.before.before in
-    sym (past_lists p ∙ no_here _ 6 0 _ (asks_span (constraints (s₁ p)) ∙ sym c.is_span_lem.ensures ∙ c.if-is_span.false))
+    sym (past_lists p ∙ no_here _ 6 0 _ (asks_span (constraints (s₁ p)) ∙ sym c.is_span.ensures ∙ c.if-is_span.false))
 
 returns-3 : tie.Need-returns-then-first-gt-MAX_UNITS
 returns-3 c =
@@ -134,7 +134,7 @@ all_new_requires c κs = omega (arith, (all_agreed (t₁ c)).0, (p₄ c.before.b
 carried_place_requires : tie.Need-carried_place-carried-requires
 carried_place_requires c κs =
     let p : tie.Then-is_span = c.before.before in
-    ((within_iff 1 max_slots (constraints (s₄ c)).span).0 (subst T (sym (sym p.is_span_lem.ensures ∙ p.if-is_span.true)) tt)).1
+    ((within_iff 1 max_slots (constraints (s₄ c)).span).0 (subst T (sym (sym p.is_span.ensures ∙ p.if-is_span.true)) tt)).1
 
 -- the last question, as it is asked
 counts_asked : (c : tie.After-all_rise-3) → counts_fit (given_by (lists (s₇ c.before))) ≡ c.all_rise-3.result

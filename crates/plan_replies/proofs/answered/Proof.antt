@@ -6,4 +6,4 @@ use Rattle.plan_replies.proofs.answered.Statement.{statement}
 use Rattle.plan_replies.proofs.answered.Tie as tie
 
 pub answered_spec : {M : Type 1} → statement M
-answered_spec = tie.close (tie.spec (λ c. search rules) (λ c. search rules) (λ c. search rules) (λ c. sym (ap fit_reply c.fit.given.1)))
+answered_spec = tie.close (tie.spec (λ c. search rules) (λ c. search rules) (λ c. search rules) (λ c. sym (ap fit_reply c.in-None.is)))

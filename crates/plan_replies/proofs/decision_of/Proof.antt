@@ -6,4 +6,4 @@ use Rattle.plan_replies.proofs.decision_of.Statement.{statement}
 use Rattle.plan_replies.proofs.decision_of.Tie as tie
 
 pub decision_of_spec : {M : Type 1} → statement M
-decision_of_spec = tie.close (tie.spec (λ c. search rules) (λ c. search rules) (λ c. search rules) (λ c. sym (ap fit_reply c.fit.given.1)))
+decision_of_spec = tie.close (tie.spec (λ c. search rules) (λ c. search rules) (λ c. search rules) (λ c. sym (ap fit_reply c.in-None.is)))

@@ -105,7 +105,7 @@ loop-holds c =
     )
 
 shared_slice_read_apply_rule_2 : tie.Need-bounds-to-k invariant-loop decreases-loop
-shared_slice_read_apply_rule_2 c = omega (arith, (fillable_lists (entry_of c.before.before.before).pre).stretches, c.loop-k.invariant.0)
+shared_slice_read_apply_rule_2 c = omega (arith, (fillable_lists (entry_of c.before.before.before).requires).stretches, c.loop-k.invariant.0)
 
 shared_slice_read_apply_rule_3 : tie.Need-bounds-low-k invariant-loop decreases-loop
 shared_slice_read_apply_rule_3 c =
@@ -114,7 +114,7 @@ shared_slice_read_apply_rule_3 c =
 
 shared_slice_read_apply_rule_4 : tie.Need-bounds-high-k invariant-loop decreases-loop
 shared_slice_read_apply_rule_4 c =
-    omega (arith, (fillable_lists (entry_of c.before.before.before.before.before).pre).highs, c.loop-k.invariant.0)
+    omega (arith, (fillable_lists (entry_of c.before.before.before.before.before).requires).highs, c.loop-k.invariant.0)
 
 apply_rule_requires : tie.Need-apply_rule-requires invariant-loop decreases-loop
 apply_rule_requires c κs =
@@ -162,7 +162,7 @@ returns c =
 
 pub fill_limits_spec : {M : Type 1} → statement M
 fill_limits_spec = tie.close (tie.spec invariant-loop decreases-loop boundaries_requires
-    (λ c κs. rw c.boundaries-w.ensures (room (opened c.before), fillable_windows (opened c.before).pre)) fill_forward_requires loop-holds
+    (λ c κs. rw c.boundaries-w.ensures (room (opened c.before), fillable_windows (opened c.before).requires)) fill_forward_requires loop-holds
     (λ c. omega arith)
     (λ c. omega arith) (λ c. omega (arith, c.loop-k.invariant.0)) (λ c. omega arith) shared_slice_read_apply_rule_2 (λ c. omega arith)
     shared_slice_read_apply_rule_3 (λ c. omega arith) shared_slice_read_apply_rule_4 apply_rule_requires (λ c. omega arith) loop-again
