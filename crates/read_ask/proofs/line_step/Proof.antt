@@ -33,14 +33,14 @@ unfolding step_of
 returns-2 c =
     let z = start c.before.before in
     let a = z.args in
-    line_stepped a.house (numbers z) a.s a.line _ _ (arrays z) _ a.heads.now a.nexts.now c.enum_told-1.given.1 refl z.pre.0 refl
+    line_stepped a.house (numbers z) a.s a.line _ _ (arrays z) _ a.heads.now a.nexts.now c.enum_told-1.given.1 refl z.requires.0 refl
 
 returns-3 : tie.Need-returns-in-Sheet
 returns-3 c =
     let z = start c.before.before.before.before in
     let a = z.args in
     let r = c.sheet_step in
-    let stays = sheet_stays a.s _ _ _ z.pre.0 a.house (numbers z) _ r.result r.ensures in
+    let stays = sheet_stays a.s _ _ _ z.requires.0 a.house (numbers z) _ r.result r.ensures in
     line_stepped a.house (numbers z) a.s a.line _ _ (arrays z) _ a.heads.now a.nexts.now c.line-in-Sheet-1.given.1
     stays.0 stays.1 (kept_sheet r.result (arrays z) a.s _)
 
@@ -64,7 +64,7 @@ returns-5 c =
     let a = z.args in
     let r = d.rule_step in
     let e = r.ensures in
-    let stays = rule_stays a.s _ _ _ z.pre.0 a.house (numbers z) _ _ _ _ r.result e.0 in
+    let stays = rule_stays a.s _ _ _ z.requires.0 a.house (numbers z) _ _ _ _ r.result e.0 in
     line_stepped a.house (numbers z) a.s a.line _ _ (arrays z) _ a.heads.now a.nexts.now l.line-in-Rule-1.given.1
     stays.0 stays.1 (kept_rule r.result (arrays z) a.s _ _ _ _ _ _ _ _ e.1.0 e.1.1.0 e.1.1.1.0 e.1.1.1.1)
 

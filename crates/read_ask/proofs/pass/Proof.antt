@@ -92,12 +92,12 @@ loop-holds c =
     )
 
 line_at_requires : tie.Need-line_at-found-requires invariant-loop decreases-loop
-line_at_requires c κs = (in_whole c, (start c.before).pre.0)
+line_at_requires c κs = (in_whole c, (start c.before).requires.0)
 
 line_step_requires : tie.Need-line_step-step-requires invariant-loop decreases-loop
 line_step_requires c κs =
     let h = at_head c.before.before.before.before.before.before.before.before.before in
-    (h.loop-at.invariant.1, still_holds max_units max_rules (held h) (lent (start h)) (sizes h) (start h).pre.1)
+    (h.loop-at.invariant.1, still_holds max_units max_rules (held h) (lent (start h)) (sizes h) (start h).requires.1)
 
 -- what the line's step means, where it was made
 refuses : (c : tie.After-nexts-in-loop-at-1 invariant-loop decreases-loop) (q : ℕ) → (stepped c).line_step-step.result ≡ No q →
@@ -107,7 +107,7 @@ refuses c q e =
     let r = stepped c in
     let f = found r in
     let h = at_head f in
-    asking_no _ _ _ _ _ _ _ h.loop-at.invariant.0 (start h).pre.1.in_loader f.line_at_lem.result.next (in_whole (in_turn_lem f)) f.line_at_lem.ensures.1
+    asking_no _ _ _ _ _ _ _ h.loop-at.invariant.0 (start h).requires.1.in_loader f.line_at_lem.result.next (in_whole (in_turn_lem f)) f.line_at_lem.ensures.1
     f.line_at_lem.result.line f.line_at_lem.ensures.0 q (sym r.line_step-step.ensures.0 ∙ e)
 
 goes_on_lem : (c : tie.After-nexts-in-loop-at-1 invariant-loop decreases-loop) (more : Sheet) → (stepped c).line_step-step.result ≡ On more →
@@ -122,7 +122,7 @@ goes_on_lem c more e =
     let h = at_head f in
     let x = f.line_at_lem.result.line in
     let k = r.last.1.1.1 in (
-      asking_on _ _ _ _ _ _ _ h.loop-at.invariant.0 (start h).pre.1.in_loader f.line_at_lem.result.next (in_whole (in_turn_lem f)) f.line_at_lem.ensures.1
+      asking_on _ _ _ _ _ _ _ h.loop-at.invariant.0 (start h).requires.1.in_loader f.line_at_lem.result.next (in_whole (in_turn_lem f)) f.line_at_lem.ensures.1
           x f.line_at_lem.ensures.0 more (after (stepped c)) (sym r.ensures.0 ∙ e)
           (r.ensures.1.1 ∙ ap (λ (o : Step). kept_by o (held h) h.loop-at.s x) e),
       subst (λ (o : Step). ChainedBy o k.0 k.1.1.1.1.1.1.1.0 k.1.1.1.1.1.1.1.1.0) e r.ensures.1.0,
@@ -139,7 +139,7 @@ loop-less c = let f = found (stepped c.before.before.before) in omega (arith, f.
 
 last_line_requires : tie.Need-last_line-q-requires invariant-loop decreases-loop
 last_line_requires c κs =
-    (past_whole c.before, omega (arith, c.if-at-text.true), (start c.before.before).pre.0)
+    (past_whole c.before, omega (arith, c.if-at-text.true), (start c.before.before).requires.0)
 
 returns-2 : tie.Need-returns-then-at-text invariant-loop decreases-loop
 returns-2 c =

@@ -16,7 +16,7 @@ module _ (c : tie.After-scan-found) where
 
   scanned : ScannedAs begun.args.house begun.args.text.now begun.args.at c.scan-found.result.end c.scan-found.result.kind c.scan-found.result.plain
       (replicate 8 0) c.scan-found.new.values
-  scanned = c.scan-found.ensures.0 begun.args.house begun.pre.1
+  scanned = c.scan-found.ensures.0 begun.args.house begun.requires.1
 
   end_inside : c.scan-found.result.end + 1 ≤ length begun.args.text.now
   end_inside =

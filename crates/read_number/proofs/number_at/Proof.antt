@@ -31,17 +31,17 @@ one z = upto_one z.args.s.now z.args.at z.requires.0 z.requires.1
 two : (c : tie.Else-not-is_digit) → let a = (start c).args in
     let s = a.s.now in
     Upto s a.at 2 (get_or s a.at 0 ∷ get_or s (a.at + 1) 0 ∷ [])
-two c = upto_more _ _ 1 _ (one (start c)) (sym c.is_digit.ensures ∙ not-false _ c.if-not-is_digit.false)
+two c = upto_more _ _ 1 _ (one (start c)) (sym c.is_digit.ensures ∙ c.if-not-is_digit.false)
 
 three : (c : tie.Else-not-is_digit-2) → let a = (start (first c)).args in
     let s = a.s.now in
     Upto s a.at 3 (get_or s a.at 0 ∷ get_or s (a.at + 1) 0 ∷ get_or s (a.at + 2) 0 ∷ [])
-three c = upto_more _ _ 2 _ (two (first c)) (sym c.is_digit-2.ensures ∙ not-false _ c.if-not-is_digit-2.false)
+three c = upto_more _ _ 2 _ (two (first c)) (sym c.is_digit-2.ensures ∙ c.if-not-is_digit-2.false)
 
 four : (c : tie.Else-not-is_digit-3) → let a = (start (first (second c))).args in
     let s = a.s.now in
     Upto s a.at 4 (get_or s a.at 0 ∷ get_or s (a.at + 1) 0 ∷ get_or s (a.at + 2) 0 ∷ get_or s (a.at + 3) 0 ∷ [])
-four c = upto_more _ _ 3 _ (three (second c)) (sym c.is_digit-3.ensures ∙ not-false _ c.if-not-is_digit-3.false)
+four c = upto_more _ _ 3 _ (three (second c)) (sym c.is_digit-3.ensures ∙ c.if-not-is_digit-3.false)
 
 -- where a digit follows, the first one is no zero
 no_zero : (c : tie.Else-one-eq0) → let a = (start c.before).args in not (eqb (get_or a.s.now a.at 0) 48) ≡ true
@@ -53,7 +53,7 @@ no_zero c =
 -- the digits are known to be all
 all_one : (c : tie.Then-not-is_digit)
     → let a = c.args in leading (drop a.at a.s.now) ≡ get_or a.s.now a.at 0 ∷ []
-all_one c = upto_all _ _ 1 _ (one c.before.before.before.before.before.before) (sym c.is_digit.ensures ∙ not-true _ c.if-not-is_digit.true)
+all_one c = upto_all _ _ 1 _ (one c.before.before.before.before.before.before) (sym c.is_digit.ensures ∙ c.if-not-is_digit.true)
 
 returns : tie.Need-returns-then-not-is_digit
 unfolding value_from
@@ -84,7 +84,7 @@ unfolding value_from
 returns-3 c =
     let d = c in
     let a = (start d.before.before.before.before.before).args in
-    let all = upto_all _ _ 2 _ (two d.before.before.before.before.before) (sym c.is_digit-2.ensures ∙ not-true _ c.if-not-is_digit-2.true) in
+    let all = upto_all _ _ 2 _ (two d.before.before.before.before.before) (sym c.is_digit-2.ensures ∙ c.if-not-is_digit-2.true) in
     let x = d.digit-one.ensures in
     let y = c.digit.ensures in (
       few_read _ (_ ∷ []) _ a.at (omega arith) (no_zero d.before.before.before.before) (omega (arith, x.0, y.0)) ∙ ap (λ ds. number_read ds a.at) (sym all),
@@ -97,7 +97,7 @@ returns-4 c =
     let e = c in
     let d = e in
     let a = (start d.before.before.before.before.before.before.before.before.before).args in
-    let all = upto_all _ _ 3 _ (three e.before.before.before.before) (sym c.is_digit-3.ensures ∙ not-true _ c.if-not-is_digit-3.true) in
+    let all = upto_all _ _ 3 _ (three e.before.before.before.before) (sym c.is_digit-3.ensures ∙ c.if-not-is_digit-3.true) in
     let x = d.digit-one.ensures in
     let y = e.digit.ensures in
     let z = c.digit-2.ensures in (
@@ -141,16 +141,16 @@ number_at_spec = tie.close (tie.spec
     ))
     (λ c κs. search rules) (λ c. search rules) (λ c. omega (arith, upto_inside _ _ 1 _ (one c.before.before.before.before.before.before))) returns
     (λ c κs. search rules) returns-2 (λ c. search rules)
-    (λ c κs. sym c.is_digit.ensures ∙ not-false _ c.if-not-is_digit.false) (λ c. search rules)
+    (λ c κs. sym c.is_digit.ensures ∙ c.if-not-is_digit.false) (λ c. search rules)
     (λ c. omega (arith, upto_inside _ _ 2 _ (two c.before.before))) (λ c. upto_inside _ _ 2 _ (two c.before.before.before))
     (λ c. omega (arith, c.shared_slice_known-4-1.given ((start c.before.before.before).args.at + 2))) (λ c κs. search rules)
     (λ c. search rules) (λ c. omega (arith, upto_inside _ _ 2 _ (two c.before.before.before.before.before))) returns-3 (λ c. search rules)
-    (λ c κs. sym c.is_digit-2.ensures ∙ not-false _ c.if-not-is_digit-2.false) (λ c. search rules)
+    (λ c κs. sym c.is_digit-2.ensures ∙ c.if-not-is_digit-2.false) (λ c. search rules)
     (λ c. omega (arith, upto_inside _ _ 3 _ (three c.before))) (λ c. upto_inside _ _ 3 _ (three c.before.before))
     (λ c. omega (arith, c.shared_slice_known-5-1.given ((start (first c.before.before)).args.at + 3))) (λ c κs. search rules)
     (λ c. search rules) (λ c. omega (arith, upto_inside _ _ 3 _ (three c.before.before.before.before))) returns-4
     (λ c. omega (arith, upto_inside _ _ 4 _ (four c))) (λ c. upto_inside _ _ 4 _ (four c.before))
     (λ c. omega (arith, c.shared_slice_known-6-1.given ((start (first (second c.before))).args.at + 4))) (λ c κs. search rules)
     (λ c κs. search rules) returns-5 (λ c. search rules)
-    (λ c κs. sym c.is_digit-3.ensures ∙ not-false _ c.if-not-is_digit-3.false) (λ c. search rules)
+    (λ c κs. sym c.is_digit-3.ensures ∙ c.if-not-is_digit-3.false) (λ c. search rules)
     (λ c. search rules) (λ c. omega (arith, upto_inside _ _ 4 _ (four c.before.before.before.before))) returns-6)

@@ -81,6 +81,6 @@ loop-again c k e =
 
 pub search_spec : {M : Type 1} → statement M
 search_spec = tie.close (tie.spec invariant-loop decreases-loop (λ c κs. tt) (λ c κs. tt) (λ c k e. search_start k _ _)
-    (λ c κs. (in_whole c, (start c.before).pre)) found (λ c. omega (arith, c.if-left-eq0.false)) add_at add_n loop-less loop-again
+    (λ c κs. (in_whole c, (start c.before).requires)) found (λ c. omega (arith, c.if-left-eq0.false)) add_at add_n loop-less loop-again
     (λ c. let h = c in
     search_none _ _ _ _ _ _ (searching h.before) (omega (arith, c.loop-at-test.false, h.lines_end-whole.ensures))))

@@ -42,8 +42,8 @@ number c h t = (c.to_stop-stop.ensures h t).at_number c.if-stop-lt-ENDS.false
 -- one of the houses whose tables they are
 some_number : (c : tie.Else-stop-lt-ENDS invariant-loop decreases-loop) → let s = c in
     let a = (begun (head s.before.before)).args in
-    AtNumber (begun (head s.before.before)).pre.1.0 a.text.now (head s.before.before).loop-stop.i (head s.before.before).loop-stop.state s.to_stop-stop.result.place s.to_stop-stop.result.state
-some_number c = let p = (begun (head c.before.before)).pre.1 in number c p.0 p.1
+    AtNumber (begun (head s.before.before)).requires.1.0 a.text.now (head s.before.before).loop-stop.i (head s.before.before).loop-stop.state s.to_stop-stop.result.place s.to_stop-stop.result.state
+some_number c = let p = (begun (head c.before.before)).requires.1 in number c p.0 p.1
 
 number_place : (c : tie.Else-stop-lt-ENDS invariant-loop decreases-loop) → c.to_stop-stop.result.state - ends < stops - ends
 number_place c =
@@ -53,13 +53,13 @@ number_place c =
 
 module _ (c : tie.After-struct_known-in-loop-stop-2-1 invariant-loop decreases-loop) where
   abbrev stopped : tie.Else-stop-lt-ENDS invariant-loop decreases-loop
-  stopped = c.before.before.before
+  stopped = c.before.before.before.before
 
   abbrev at_head : tie.At-loop-stop invariant-loop decreases-loop
   at_head = head stopped.before.before
 
   abbrev read : tie.After-number_at-number invariant-loop decreases-loop
-  read = c.before.before
+  read = c.before.before.before
 
   next_is : let n = read.number_at-number.result in
       n.next ≡ stopped.before.before.to_stop-stop.result.place
@@ -73,7 +73,7 @@ module _ (c : tie.After-struct_known-in-loop-stop-2-1 invariant-loop decreases-l
       omega (
         arith,
         next_is,
-        next_past _ _ _ _ _ _ _ _ (at_head.loop-stop.invariant.2 _ (begun at_head).pre.1.1) _ _ n,
+        next_past _ _ _ _ _ _ _ _ (at_head.loop-stop.invariant.2 _ (begun at_head).requires.1.1) _ _ n,
         n.here,
         feed_here (begun at_head).args.text.now at_head.loop-stop.i at_head.loop-stop.invariant.0.feed,
       )

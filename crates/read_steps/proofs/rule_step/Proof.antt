@@ -25,22 +25,22 @@ order : (c : tie.Else-s-eq0) → eqb (start c).args.s.span 0 ≡ false
 order c = ne_eqb _ _ c.if-s-eq0.false
 
 stretch : (c : tie.Else-not-is_stretch) → let a = (start (ordered c)).args in is_stretch a.s.span a.from a.to ≡ true
-stretch c = sym c.is_stretch.ensures ∙ not-false _ c.if-not-is_stretch.false
+stretch c = sym c.is_stretch.ensures ∙ c.if-not-is_stretch.false
 
 counted : (c : tie.Else-not-is_count) → let a = (start (ordered (stretched c))).args in is_count a.low a.high ≡ true
-counted c = sym c.is_count.ensures ∙ not-false _ c.if-not-is_count.false
+counted c = sym c.is_count.ensures ∙ c.if-not-is_count.false
 
 -- the arrays are what was to be put into them
 all_put : {a b c d : List ℕ} → (a ≡ a) × ((b ≡ b) × ((c ≡ c) × (d ≡ d)))
 all_put = (refl, (refl, (refl, refl)))
 
 returns-2 : tie.Need-returns-then-not-is_stretch
-returns-2 c = (simp (order c.before.before, sym c.is_stretch.ensures ∙ not-true _ c.if-not-is_stretch.true), all_put)
+returns-2 c = (simp (order c.before.before, sym c.is_stretch.ensures ∙ c.if-not-is_stretch.true), all_put)
 
 returns-3 : tie.Need-returns-then-not-is_count
 returns-3 c =
     let e = c in
-    (simp (order (ordered e.before.before), stretch e.before.before, sym c.is_count.ensures ∙ not-true _ c.if-not-is_count.true), all_put)
+    (simp (order (ordered e.before.before), stretch e.before.before, sym c.is_count.ensures ∙ c.if-not-is_count.true), all_put)
 
 returns-4 : tie.Need-returns-then-n-lt-MAX_RULES
 returns-4 c =

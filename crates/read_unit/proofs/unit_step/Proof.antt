@@ -22,25 +22,25 @@ fitted c = c.before.before.before.before.before
 
 -- what they say
 window : (c : tie.Else-not-is_window) → let a = (start c).args in rising 1 a.s.span (last_place a.house a.s.span) a.first a.last ≡ true
-window c = sym c.is_window_lem.ensures ∙ not-false _ c.if-not-is_window.false
+window c = sym c.is_window_lem.ensures ∙ c.if-not-is_window.false
 
 order : (c : tie.Else-not-is_window) → eqb (start c).args.s.span 0 ≡ false
 order c = let a = (start c).args in window_span a.s.span (last_place a.house a.s.span) a.first a.last (window c)
 
 new : (c : tie.Else-not-is_new) → let a = (start (fitted c)).args in is_new (take a.s.units a.numbers.now) a.loader ≡ true
-new c = sym c.is_new.ensures ∙ not-false _ c.if-not-is_new.false
+new c = sym c.is_new.ensures ∙ c.if-not-is_new.false
 
 returns : tie.Need-returns-then-not-is_window
 returns c =
     let t = c in
     let a = t.args in
-    let no = sym t.is_window_lem.ensures ∙ not-true _ t.if-not-is_window.true in
+    let no = sym t.is_window_lem.ensures ∙ t.if-not-is_window.true in
     (ap No c.window_fault.ensures ∙ no_window_lem a.house a.s.span a.first a.last _ no, (tt, (refl, (refl, refl))))
 
 returns-2 : tie.Need-returns-then-not-is_new
 returns-2 c =
     let d = c in
-    (simp (order d.before.before, window d.before.before, sym c.is_new.ensures ∙ not-true _ c.if-not-is_new.true), (tt, (refl, (refl, refl))))
+    (simp (order d.before.before, window d.before.before, sym c.is_new.ensures ∙ c.if-not-is_new.true), (tt, (refl, (refl, refl))))
 
 returns-3 : tie.Need-returns-then-n-lt-MAX_UNITS
 returns-3 c =
