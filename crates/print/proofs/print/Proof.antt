@@ -65,5 +65,5 @@ print_spec = tie.close (tie.spec (λ c κs. tt) (λ c κs. tt) (λ c. c.in-No.ke
     (λ c. c.print_solved.auto.latest)
     (λ c. c.print_solved.auto.ring)
     (λ c.
-    c.before.before.before.before.before.before.before.before.before.before.before.print_solved.auto.page)
+    c.print_solved.auto.page)
     returns-2)

@@ -14,7 +14,7 @@ use Rattle.print_counts.proofs.below.Tie as tie
 
 module _ (z : ℤ) (f : SFits w16 z) where
   widened : to_z w32 (of_z w32 (to_z w16 (of_z w16 z))) ≡ z
-  widened = ap (λ y. to_z w32 (of_z w32 y)) (to_z-of_z f) ∙ to_z-of_z (sfits_widen tt f)
+  widened = ap (λ y. to_z w32 (of_z w32 y)) (to_z-of_z f) ∙ to_z-of_z {w = w32} (sfits_widen {w = w16} {w' = w32} tt f)
 
   minus_fits : SFits w32 (pos 0 -ℤ z)
   minus_fits =

@@ -36,8 +36,8 @@ loop-again c =
     let counted : Counted plan l.j l.counts = l.invariant.1 in (
       omega arith,
       ⊎_elim
-          (λ w. subst (Counted plan (l.j + 1)) (sym w.2) (counted_store less counted (omega (arith, w.0.true, counted.long))))
-          (λ w. subst (Counted plan (l.j + 1)) (sym w.1) (counted_pass less counted (omega (arith, w.0.false, counted.long))))
+          (λ w. subst (Counted plan (l.j + 1)) (sym w.counts-is) (counted_store less counted (omega (arith, w.if-slot-counts.true, counted.long))))
+          (λ w. subst (Counted plan (l.j + 1)) (sym w.counts-is) (counted_pass less counted (omega (arith, w.if-slot-counts.false, counted.long))))
           c.if-slot-counts.branch-raw,
     )
 

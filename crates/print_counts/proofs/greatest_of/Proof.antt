@@ -24,7 +24,7 @@ returns c =
     let t = s.args.table.now in
     let end = c.end-end in
     let start = c.start-start in
-    c.above.ensures ∙ ap up (to_z-of_z {w = w16} (record { sfits = c.entry_at.type-inv }) ∙ c.entry_at.ensures)
+    c.above.ensures ∙ ap up (to_z-of_z {w = w16} (record { sfits = c.entry_at.type_inv }) ∙ c.entry_at.ensures)
     ∙ ap (λ (w : ℕ). up (entry w t start.result.0 end.result.0)) c.boundaries.ensures
     ∙ ap₂ (λ (x y : ℕ). up (entry (boundaries_of s.args.span) t x y)) start.ensures end.ensures
 

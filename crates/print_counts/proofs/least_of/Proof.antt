@@ -23,7 +23,7 @@ returns c =
     let t = s.args.table.now in
     let end = c.end-end in
     let start = c.start-start in
-    c.below.ensures ∙ ap dn (to_z-of_z {w = w16} (record { sfits = c.entry_at.type-inv }) ∙ c.entry_at.ensures)
+    c.below.ensures ∙ ap dn (to_z-of_z {w = w16} (record { sfits = c.entry_at.type_inv }) ∙ c.entry_at.ensures)
     ∙ ap (λ (w : ℕ). dn (entry w t end.result.0 start.result.0)) c.boundaries.ensures
     ∙ ap₂ (λ (x y : ℕ). dn (entry (boundaries_of s.args.span) t x y)) end.ensures start.ensures
 

@@ -1,5 +1,4 @@
 -- A line of three numbers, by its words.
-use mathlib.Core.Path.{refl}
 use borrow.Author.Rules.{rules}
 use Rattle.forms.specs.Words.{text}
 use Rattle.print_bytes.specs.Writing.{range_line}
@@ -9,10 +8,6 @@ use Rattle.print_lines.proofs.put_range.Tie as tie
 pub put_range_spec : {M : Type 1} → statement M
 unfolding range_line text
 put_range_spec = tie.close (tie.spec
-    (λ c. refl)
-    (λ c. refl)
-    (λ c. refl)
-    (λ c. refl)
-    (λ c κs. c.before.before.before.before.before.before.requires)
+    (λ c κs. c.requires)
     (λ c. search rules)
-    (λ c. c.before.before.put_three_numbers.ensures))
+    (λ c. c.put_three_numbers.ensures))

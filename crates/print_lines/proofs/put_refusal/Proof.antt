@@ -1,5 +1,4 @@
 -- A line of two numbers, by its words.
-use mathlib.Core.Path.{refl}
 use borrow.Author.Rules.{rules}
 use Rattle.forms.specs.Words.{text}
 use Rattle.print_bytes.specs.Writing.{refused_line}
@@ -9,9 +8,6 @@ use Rattle.print_lines.proofs.put_refusal.Tie as tie
 pub put_refusal_spec : {M : Type 1} → statement M
 unfolding refused_line text
 put_refusal_spec = tie.close (tie.spec
-    (λ c. refl)
-    (λ c. refl)
-    (λ c. refl)
-    (λ c κs. c.before.before.before.before.before.requires)
+    (λ c κs. c.requires)
     (λ c. search rules)
-    (λ c. c.before.before.put_two_numbers.ensures))
+    (λ c. c.put_two_numbers.ensures))

@@ -1,5 +1,5 @@
 -- Four words with a number behind each, and the end: `after-k` says that after k of these pairs the rest of the line is left to write.
-use mathlib.Core.Path.{refl, ◌∙◌}
+use mathlib.Core.Path.{◌∙◌}
 use mathlib.Core.List.{List, [], ◌∷◌}
 use Prim.Native.Nat.{ℕ}
 use lib.ListN.{drop}
@@ -61,22 +61,17 @@ after_4 c =
 pub put_slot_spec : {M : Type 1} → statement M
 unfolding text
 put_slot_spec = tie.close (tie.spec
-    (λ c. refl)
-    (λ c κs. pending_room (begun c.before.before.before.before.before.before.before.before))
-    (λ c κs. pending_room (pending_after (begun c.before.before.before.before.before.before.before.before.before.before.before.before.before.before) c.put_word-next.ensures))
-    (λ c. refl)
-    (λ c κs. pending_room (after_1 c.before.before.before.before.before.before.before.before.before.before.before.before.before.before.before))
-    (λ c κs. pending_room (pending_after (after_1 c.before.before.before.before.before.before.before.before.before.before.before.before.before.before.before.before.before.before.before)
+    (λ c κs. pending_room (begun c.before.before.before.before))
+    (λ c κs. pending_room (pending_after (begun c.before.before.before.before.before.before.before.before) c.put_word-next.ensures))
+    (λ c κs. pending_room (after_1 c.before.before.before.before.before))
+    (λ c κs. pending_room (pending_after (after_1 c.before.before.before.before.before.before.before.before.before)
     c.put_word-next3.ensures))
-    (λ c. refl)
-    (λ c κs. pending_room (after_2 c.before.before.before.before.before.before.before.before.before.before.before.before.before.before.before.before.before.before.before))
-    (λ c κs. pending_room (pending_after (after_2 c.before.before.before.before.before.before.before.before.before.before.before.before.before.before.before.before.before.before.before.before.before.before.before.before.before)
+    (λ c κs. pending_room (after_2 c.before.before.before.before.before))
+    (λ c κs. pending_room (pending_after (after_2 c.before.before.before.before.before.before.before.before.before)
     c.put_word-next5.ensures))
-    (λ c. refl)
-    (λ c κs. pending_room (after_3 c.before.before.before.before.before.before.before.before.before.before.before.before.before.before.before.before.before.before))
-    (λ c κs. pending_room (pending_after (after_3 c.before.before.before.before.before.before.before.before)
-    c.before.before.before.put_word-next7.ensures))
-    (λ c. refl)
-    (λ c κs. pending_room (after_4 c.before.before.before.before))
-    (λ c. c.before.before.put_no_number.auto.page ∙ (after_4 c.before.before.before.before.before.before.before).kept)
-    (λ c. pending_nothing (pending_after (after_4 c.before.before.before.before.before.before.before) c.before.before.put_no_number.ensures)))
+    (λ c κs. pending_room (after_3 c.before.before.before.before.before))
+    (λ c κs. pending_room (pending_after (after_3 c.before.before.before.before.before.before.before.before.before)
+    c.put_word-next7.ensures))
+    (λ c κs. pending_room (after_4 c.before.before.before.before.before))
+    (λ c. c.put_no_number.auto.page ∙ (after_4 c.before.before.before.before.before.before.before.before).kept)
+    (λ c. pending_nothing (pending_after (after_4 c.before.before.before.before.before.before.before.before) c.put_no_number.ensures)))

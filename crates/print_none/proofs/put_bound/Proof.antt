@@ -1,5 +1,4 @@
 -- A line of three numbers, by its words.
-use mathlib.Core.Path.{refl}
 use native.Mathlib.Omega.{arith}
 use borrow.Author.Rules.{rules}
 use Rattle.forms.specs.Words.{text}
@@ -9,11 +8,8 @@ use Rattle.print_none.proofs.put_bound.Tie as tie
 pub put_bound_spec : {M : Type 1} → statement M
 unfolding text
 put_bound_spec = tie.close (tie.spec
-    (λ c. refl)
     (λ c. omega arith)
-    (λ c. refl)
     (λ c. omega arith)
-    (λ c. refl)
-    (λ c κs. c.before.before.before.before.before.before.before.before.requires.1)
+    (λ c κs. c.requires.1)
     (λ c. search rules)
-    (λ c. c.before.before.put_three_numbers.ensures))
+    (λ c. c.put_three_numbers.ensures))

@@ -23,14 +23,12 @@ begun c = pending_whole _ refl c.requires.1
 pub put_fits_spec : {M : Type 1} → statement M
 unfolding fits_head text
 put_fits_spec = tie.close (tie.spec
-    (λ c. refl)
     (λ c. omega arith)
-    (λ c. refl)
-    (λ c κs. pending_room (begun c.before.before.before.before.before.before.before.before.before.before.before.before.before))
+    (λ c κs. pending_room (begun c.before.before.before.before.before.before))
     (λ c κs.
     let s = c.before.before.before.before.before.before.before.before in
-    ((s.requires.0.0, s.requires.0.2), pending_room (pending_after (begun s) c.before.before.before.put_one_number-next.ensures)))
+    ((s.requires.0.0, s.requires.0.2), pending_room (pending_after (begun s) c.put_one_number-next.ensures)))
     (λ c. search rules)
     (λ c. pending_nothing (pending_after (pending_after (begun
-    c.before.before.before.before.before.before.before.before.before.before.before)
-    c.before.before.before.before.before.before.put_one_number-next.ensures) c.before.before.put_ranges.ensures)))
+    c.before.before.before.before.before.before.before.before.before.before.before.before.before)
+    c.put_one_number-next.ensures) c.put_ranges.ensures)))

@@ -43,7 +43,7 @@ returns c =
     let o = p.before.before.before in
     let a = (start o).args in
     let k = c.keep_plan.ensures in
-    asked_yes a.page.now a.at (bytes (start o)) o.put_plan-length.result (size o) p.before.holds.result p.before.holds.ensures _ _ _ _ _ _
+    asked_yes a.page.now a.at (bytes (start o)) o.put_plan-length.result (size o) p.holds.result p.holds.ensures _ _ _ _ _ _
     p.if-holds.true c.write-next.result (rw (part o) at c.write-next.ensures) refl (rw (k.0, k.1, k.2, k.3) refl)
 
 returns-2 : tie.Need-returns-else-holds
@@ -58,7 +58,7 @@ print_plan_spec = tie.close (tie.spec (λ c. refl) (λ c κs. let s = c in
     (s.requires.0, own_room max_page s.requires.1.1))
     (λ c κs. tt)
     (λ c κs.
-    c.before.before.before.before.before.before.before.before.before.before.before.before.before.before.before.before.before.requires.1.0)
+    c.requires.1.0)
     (λ c. long c.before.before.before.before.before.before.before.before.before.before.before.before.before.before.before.before)
     (λ c. sym (length-take-le _ _ (long
     c.before.before.before.before.before.before.before.before.before.before.before.before.before.before.before.before.before)))

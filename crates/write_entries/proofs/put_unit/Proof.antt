@@ -1,39 +1,32 @@
 -- Whose sheet it is decides which form is written.
 use mathlib.Core.Path.{sym, subst}
-use mathlib.Core.List.{List}
-use Prim.Native.Nat.{ℕ}
 use borrow.Author.Rules.{rules}
-use Rattle.forms.specs.declared.House.{House}
 use Rattle.print_bytes.specs.Writing.{Room, Written}
 use Rattle.sheet_texts.specs.SheetText.{unit_text}
 use Rattle.write_entries.specs.Lines.{unit_with}
 use Rattle.write_entries.proofs.put_unit.Statement.{statement}
 use Rattle.write_entries.proofs.put_unit.Tie as tie
 
--- the line, by its house
-abbrev line : tie.Start → House → List ℕ
-line c house = let a = c.args in unit_text house (unit_with a.loader a.first a.last)
-
 put_own_unit_requires : tie.Need-put_own_unit-requires
 unfolding unit_text
 put_own_unit_requires c κs =
     let s = c in
-    subst (λ house. Room s.args.page.now s.args.at (line s.before.before.before.before house)) c.enum_told-1.given.1 s.requires.1
+    subst (λ house. Room s.args.page.now s.args.at (unit_text house (unit_with s.args.loader s.args.first s.args.last))) c.in-Ours.is s.requires.1
 
 put_job_requires : tie.Need-put_job-requires
 unfolding unit_text
 put_job_requires c κs =
     let s = c in
     rw c.hours.ensures
-    (subst (λ house. Room s.args.page.now s.args.at (line s.before.before.before.before.before house)) c.enum_told-in-Partner-1.given.1 s.requires.1)
+    (subst (λ house. Room s.args.page.now s.args.at (unit_text house (unit_with s.args.loader s.args.first s.args.last))) c.in-Partner.is s.requires.1)
 
 returns : tie.Need-returns-in-Ours
 unfolding unit_text
 returns c =
     let s = c in
     let put = c.put_own_unit in
-    subst (λ house. Written s.args.page.now s.args.at (line s.before.before.before.before.before.before.before house) put.new.page put.result)
-    (sym c.enum_told-1.given.1)
+    subst (λ house. Written s.args.page.now s.args.at (unit_text house (unit_with s.args.loader s.args.first s.args.last)) put.new.page put.result)
+    (sym c.in-Ours.is)
     put.ensures
 
 returns-2 : tie.Need-returns-in-Partner
@@ -41,8 +34,8 @@ unfolding unit_text
 returns-2 c =
     let s = c in
     let put = c.put_job in
-    subst (λ house. Written s.args.page.now s.args.at (line s.before.before.before.before.before.before.before.before house) put.new.page put.result)
-    (sym c.enum_told-in-Partner-1.given.1)
+    subst (λ house. Written s.args.page.now s.args.at (unit_text house (unit_with s.args.loader s.args.first s.args.last)) put.new.page put.result)
+    (sym c.in-Partner.is)
     (rw c.hours.ensures at put.ensures)
 
 pub put_unit_spec : {M : Type 1} → statement M
