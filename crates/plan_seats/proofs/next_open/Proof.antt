@@ -6,7 +6,7 @@ use Prim.Native.Nat.{ℕ, ◌-◌, ◌≤◌, ◌<◌}
 use native.Mathlib.Omega.{arith}
 use lib.Dec.{eqb}
 use lib.ListN.{length}
-use borrow.Author.Tests.{eq-eqb, ne_eqb}
+use borrow.Author.Tests.{eq-eqb, ne_eqb, le-leb, lt-leb}
 use Rattle.lists.specs.First.{first_from, first_passed, first_failed, first_none}
 use Rattle.plans.specs.Seating.{at}
 use Rattle.plan_seats.specs.Seats.{open_at}
@@ -41,13 +41,13 @@ returns : tie.Need-returns-then-first-unit invariant-loop decreases-loop
 returns c =
     let l = c in
     let st = l in
-    sym (first_passed (test st.before.before.before.before.before.before.before) (size st.before.before.before.before.before.before.before) l.loop-p.p (omega arith) (free _ _ c.if-plan-unit-eq0.true ∙ c.if-first-unit.true)) ∙ l.loop-p.invariant.1
+    sym (first_passed (test st.before.before.before.before.before.before.before) (size st.before.before.before.before.before.before.before) l.loop-p.p (omega arith) (free _ _ c.if-plan-unit-eq0.true ∙ le-leb _ _ c.if-first-unit.true)) ∙ l.loop-p.invariant.1
 
 loop-again : tie.Need-loop-p-preserved invariant-loop decreases-loop
 loop-again c =
     let l = c in
     let st = l in
-    let failed = ⊎_elim (λ w. free _ _ w.0.true ∙ w.2.false) (λ w. seated _ _ w.false) c.else-plan-unit-eq0.branch-raw in
+    let failed = ⊎_elim (λ w. free _ _ w.if-plan-unit-eq0.true ∙ lt-leb _ _ w.if-first-unit.false) (λ w. seated _ _ w.if-plan-unit-eq0.false) c.else-plan-unit-eq0.branch-raw in
     (omega arith, first_failed (test st.before.before.before.before.before) (size st.before.before.before.before.before) l.loop-p.p (omega arith) failed ∙ l.loop-p.invariant.1)
 
 returns-2 : tie.Need-returns invariant-loop decreases-loop

@@ -16,10 +16,10 @@ use Rattle.plan_seats.proofs.rise.Tie as tie
 
 -- where the slot ends, and where it starts
 abbrev end : tie.After-result-2-1 → ℕ
-end c = c.end-end.result-1.0
+end c = c.end-end.result.0
 
 abbrev start : tie.After-result-2-1 → ℕ
-start c = c.start-start.result-1.0
+start c = c.start-start.result.0
 
 abbrev high : tie.After-result-2-1 → ℤ
 high c = get_or c.args.counts.now (end c) (pos 0)

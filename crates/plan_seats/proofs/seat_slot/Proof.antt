@@ -22,7 +22,7 @@ start c = c.before.before.before.before
 
 module _ (c : tie.After-next_open-place invariant-loop decreases-loop) where
   abbrev l : tie.At-loop invariant-loop decreases-loop
-  l = c.before.before.before
+  l = c.before.before
 
   next : let a = (start l).args in
       let first = at a.first.now in
@@ -38,7 +38,7 @@ module _ (c : tie.After-next_open-place invariant-loop decreases-loop) where
       l.loop.invariant.1 c.next_open-place.ensures (rw (sym left) l.loop.invariant.3)
 
   unit_inside : c.next_open-place.result < length (start l).args.order.now → at (start l).args.order.now c.next_open-place.result < length l.loop.plan
-  unit_inside h = omega (arith, l.loop.invariant.2, (start l).pre.1 c.next_open-place.result h)
+  unit_inside h = omega (arith, l.loop.invariant.2, (start l).requires.1 c.next_open-place.result h)
 
 -- the place is not the end of the order
 here : (c : tie.Else-place-order invariant-loop decreases-loop) → c.next_open-place.result < length (start (l c.before)).args.order.now
@@ -80,10 +80,10 @@ loop-again c =
           (taken (at a.first.now) a.slot a.order.now a.count a.plan.now r left plan (here e.before) (n.1 (here e.before)) n.2),
     )
 
-returns-2 : tie.Need-returns-then-place-order invariant-loop decreases-loop
+returns-2 : tie.Need-returns invariant-loop decreases-loop
 returns-2 c =
     let l = c in
-    let a = (start l.before.before.before).args in
+    let a = (start l.before).args in
     let none : a.count - l.loop.counter ≡ 0 = omega arith in
     slot_full (at a.first.now) a.slot a.order.now a.count a.plan.now l.loop.looked l.loop.plan (rw (sym none) l.loop.invariant.3)
 

@@ -71,7 +71,7 @@ returns c =
     l.loop-slot.slot l.loop-slot.plan l.loop-slot.looked (omega arith) l.loop-slot.invariant.5
 
 pub seat_slots_spec : {M : Type 1} → statement M
-seat_slots_spec = tie.close (tie.spec invariant-loop decreases-loop loop-holds (λ c κs. (omega arith, omega arith, (start c.before).pre.1.2))
-    (λ c. omega (arith, (start c.before.before).pre.1.1)) seat_slot_requires
+seat_slots_spec = tie.close (tie.spec invariant-loop decreases-loop loop-holds (λ c κs. (omega arith, omega arith, (start c.before).requires.1.2))
+    (λ c. omega (arith, (start c.before.before).requires.1.1)) seat_slot_requires
     (λ c. let l = c in omega (arith, few c.before.before, l.loop-slot.invariant.4, (start l.before.before.before.before.before.before).requires.1.1))
     (λ c. omega arith) (λ c. omega arith) loop-again (λ c. c.loop-slot.invariant.3) returns)
