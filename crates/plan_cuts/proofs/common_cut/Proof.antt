@@ -13,9 +13,9 @@ use Rattle.plan_cuts.proofs.common_cut.Tie as tie
 abbrev Found : Type 0
 Found = tie.After-last_marked-l
 
-place : (c : Found) → c.last_marked-l.result < c.before.before.before.args.w
+place : (c : Found) → c.last_marked-l.result < c.args.w
 place c =
-    let st = c.before.before.before in
+    let st = c in
     let n = st.requires.3 in
     omega (arith, last_inside st.args.row.now c.last_marked-l.result (omega (arith, n, st.requires.2)) c.last_marked-l.ensures, n)
 
@@ -31,7 +31,7 @@ returns c =
     let st = at in
     let a = st.args in
     let e = c.larger-v.ensures in
-    common_known a.w a.d.now a.m.now a.f.0 a.row.now at.last_marked-l.result c.larger-v.result (place at)
+    common_known a.w a.d.now a.m.now a.f.0 a.row.now at.last_marked-l.result c.larger-v.result (place at.before.before.before.before)
     at.last_marked-l.ensures st.requires.5 (omega (arith, e)) c.if-known-v.true
 
 admits_requires : tie.Need-admits-requires
@@ -40,8 +40,8 @@ admits_requires c κs =
     let st = at in
     let a = st.args in
     let e = c.larger-v.ensures in
-    let known = st.requires.5 at.last_marked-l.result (place at) (omega (arith, c.if-known-v.false)) in
-    (st.requires.0, (st.requires.1, omega (arith, e), omega (arith, c.if-known-v.false, known.inside), place at))
+    let known = st.requires.5 at.last_marked-l.result (place at.before.before.before.before) (omega (arith, c.if-known-v.false)) in
+    (st.requires.0, (st.requires.1, omega (arith, e), omega (arith, c.if-known-v.false, known.inside), place at.before.before.before.before))
 
 returns-2 : tie.Need-returns-then-admits
 returns-2 c =

@@ -41,7 +41,7 @@ inside : (c : tie.In-loop-l invariant-loop decreases-loop)
 inside c =
     let i = c.loop-l.invariant.0 in
     let h = c.loop-l-test.true in
-    (h, (start c.before).pre.0.0.most, omega (arith, i.long), omega (arith, i.wide))
+    (h, c.requires.0.0.most, omega (arith, i.long), omega (arith, i.wide))
 
 least_cut_requires : tie.Need-least_cut-low-requires invariant-loop decreases-loop
 least_cut_requires c κs =
@@ -71,8 +71,8 @@ moved c =
     let at = c in
     let l = at.loop-l in
     let h = c.loop-l-test.true in
-    ⊎_elim (λ w. rw (w.3, w.4) (cutting_mark l.invariant.0 h w.2.result.0 w.0.true w.2.ensures))
-    (λ w. rw (w.1, w.2, c.larger-low.ensures) (cutting_skip l.invariant.0 h (omega (arith, w.0.false))))
+    ⊎_elim (λ w. rw (w.row-is, w.low-is) (cutting_mark l.invariant.0 h w.least_cut-low.result.0 w.if-known-gt0.true w.least_cut-low.ensures))
+    (λ w. rw (w.row-is, w.low-is, c.larger-low.ensures) (cutting_skip l.invariant.0 h (omega (arith, w.if-known-gt0.false))))
     c.if-known-gt0.branch-raw
 
 loop-again : tie.Need-loop-l-preserved invariant-loop decreases-loop

@@ -74,8 +74,8 @@ returns c =
     λ f k hf hk. l.invariant.done f k (omega arith) hk
 
 pub cut_windows_spec : {M : Type 1} → statement M
-cut_windows_spec = tie.close (tie.spec invariant-loop decreases-loop loop-holds (λ c. omega (arith, row_fits c, c.well-formed))
-    (λ c. omega (arith, row_fits c, c.well-formed)) (λ c. omega (arith, row_fits c, c.well-formed))
-    (λ c. omega (arith, row_fits c, c.well-formed)) (λ c. omega (arith, row_fits c, c.well-formed))
-    (λ c. omega (arith, row_fits c, c.well-formed)) (λ c. search rules) cut_row_requires add_f
+cut_windows_spec = tie.close (tie.spec invariant-loop decreases-loop loop-holds (λ c. omega (arith, row_fits c, c.well_formed))
+    (λ c. omega (arith, row_fits c, c.well_formed)) (λ c. omega (arith, row_fits c, c.well_formed))
+    (λ c. omega (arith, row_fits c, c.well_formed)) (λ c. omega (arith, row_fits c, c.well_formed))
+    (λ c. omega (arith, row_fits c, c.well_formed)) (λ c. search rules) cut_row_requires add_f
     (λ c. omega (arith, c.loop-f-test.true)) loop-again (λ c. c.loop-f.invariant.long) returns)

@@ -38,6 +38,6 @@ returns-2 c =
 
 pub last_marked_spec : {M : Type 1} → statement M
 last_marked_spec = tie.close (tie.spec invariant-loop decreases-loop (λ c. (omega arith, λ j h. get_or-eq_default c.args.row.now 0 h))
-    (λ c. omega (arith, c.loop-n-test.true)) (λ c. omega (arith, c.loop-n.invariant.0, c.well-formed))
+    (λ c. omega (arith, c.loop-n-test.true)) (λ c. omega (arith, c.loop-n.invariant.0, c.well_formed))
     (λ c. omega (arith, c.loop-n-test.true, c.loop-n.invariant.0)) returns
     (λ c. omega (arith, c.loop-n-test.true)) loop-again returns-2)
