@@ -15,7 +15,7 @@ ours : tie.Need-pass-requires
 ours c κs =
     let told = c in
     let p = told.requires in (
-      tables_of _ _ _ _ told.enum_told-1.given.1 c.table-grid.ensures
+      tables_of _ _ _ _ told.in-Ours.is c.table-grid.ensures
           told.class_table-table.ensures,
       p,
     )
@@ -24,7 +24,7 @@ partners : tie.Need-pass-requires-in-Partner
 partners c κs =
     let told = c in
     let p = told.requires in (
-      tables_of _ _ _ _ told.enum_told-in-Partner-1.given.1 c.table-grid-in-Partner.ensures
+      tables_of _ _ _ _ told.in-Partner.is c.table-grid-in-Partner.ensures
           told.class_table-table.ensures,
       p,
     )

@@ -9,5 +9,5 @@ use Rattle.read_line.proofs.note_matched.Tie as tie
 pub note_matched_spec : {M : Type 1} → statement M
 note_matched_spec = tie.close (tie.spec (λ c κs. search rules) (λ c. search rules) (λ c. search rules)
     (λ c. note_closed c.args.s.now _ (omega arith)
-    (sym c.list_end-end.ensures ∙ c.end-1.given.1))
-    (λ c. note_open _ (sym c.list_end-end.ensures ∙ c.enum_told-1.given.1)))
+    (sym c.in-At.ensures))
+    (λ c. note_open _ (sym c.in-Unmatched.ensures)))

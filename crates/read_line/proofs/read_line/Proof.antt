@@ -18,21 +18,21 @@ as_kind h j k p v s x e f = f ∙ ap (λ i. line_said h i p v s) (sym e)
 
 pub read_line_spec : {M : Type 1} → statement M
 read_line_spec = tie.close (tie.spec (λ c. search rules) (λ c. search rules)
-    (λ c κs. c.requires.1 c.enum_told-in-Note-1.given.1)
+    (λ c κs. c.requires.1 c.in-Note.is)
     (λ c. search rules) (λ c. search rules) (λ c κs. search rules) (λ c. search rules) (λ c. search rules) (λ c. search rules) (λ c. search rules)
     (λ c κs. let s = c.requires.0 in (s.each 2, s.each 3)) (λ c κs. search rules)
     (λ c. search rules) (λ c. search rules) (λ c. search rules) (λ c. search rules) (λ c. search rules)
     (λ c κs. let s = c.requires.0 in (s.each 4, s.each 5)) (λ c κs. search rules) (λ c. search rules)
     (λ c. search rules)
-    (λ c. as_kind _ _ _ _ _ _ _ c.enum_told-in-Note-1.given.1
+    (λ c. as_kind _ _ _ _ _ _ _ c.in-Note.is
     (ap (λ t. cond t Note (Refused 11)) (sym (sym c.note_matched.ensures ∙ c.if-note_matched.true))))
-    (λ c. as_kind _ _ _ _ _ _ _ c.enum_told-in-Note-1.given.1
+    (λ c. as_kind _ _ _ _ _ _ _ c.in-Note.is
     (ap (λ t. cond t Note (Refused 11)) (sym (sym c.note_matched.ensures ∙ c.if-note_matched.false))))
-    (λ c. as_kind _ _ _ _ _ _ _ c.enum_told-in-Sheet-1.given.1 c.checked.ensures)
-    (λ c. as_kind _ _ _ _ _ _ _ c.enum_told-in-Unit-1.given.1
+    (λ c. as_kind _ _ _ _ _ _ _ c.in-Sheet.is c.checked.ensures)
+    (λ c. as_kind _ _ _ _ _ _ _ c.in-Unit.is
     (c.checked-in-Unit.ensures
-    ∙ ap (λ l. cond c.args.plain l (Refused 4)) c.unit_line_lem.ensures))
-    (λ c. as_kind _ _ _ _ _ _ _ c.enum_told-in-Rule-1.given.1
+    ∙ ap (λ l. cond c.args.plain l (Refused 4)) c.unit_line-unit.ensures))
+    (λ c. as_kind _ _ _ _ _ _ _ c.in-Rule.is
     (c.checked-in-Rule.ensures
-    ∙ ap (λ l. cond c.args.plain l (Refused 4)) c.rule_line_lem.ensures))
+    ∙ ap (λ l. cond c.args.plain l (Refused 4)) c.rule_line-rule.ensures))
     (λ c. search rules))

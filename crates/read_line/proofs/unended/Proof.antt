@@ -8,12 +8,12 @@ use Rattle.read_line.proofs.unended.Tie as tie
 
 pub unended_spec : {M : Type 1} → statement M
 unended_spec = tie.close (tie.spec (λ c. search rules) (λ c. search rules)
-    (λ c κs. c.requires c.enum_told-in-Note-1.given.1) (λ c. search rules) (λ c. search rules) (λ c. search rules) (λ c. search rules)
+    (λ c κs. c.requires c.in-Note.is) (λ c. search rules) (λ c. search rules) (λ c. search rules) (λ c. search rules)
     (λ c. search rules)
     (λ c. let a = c.args in
     ap (λ t. cond t 3 11) (sym (sym c.note_matched.ensures ∙ c.if-note_matched.true))
-    ∙ ap (λ k. unended_fault k a.s.now) (sym c.enum_told-in-Note-1.given.1))
+    ∙ ap (λ k. unended_fault k a.s.now) (sym c.in-Note.is))
     (λ c. let a = c.args in
     ap (λ t. cond t 3 11) (sym (sym c.note_matched.ensures ∙ c.if-note_matched.false))
-    ∙ ap (λ k. unended_fault k a.s.now) (sym c.enum_told-in-Note-1.given.1))
+    ∙ ap (λ k. unended_fault k a.s.now) (sym c.in-Note.is))
     (λ c. search rules) (λ c. search rules) (λ c. search rules) (λ c. search rules))

@@ -15,10 +15,10 @@ unfolding sought
 number_is k text j = sought_number (spots k text) j
 
 returns : tie.Need-returns-in-At
-returns c = ap number_in (sym c.found-1.given.1 ∙ c.seek-found.ensures) ∙ number_is _ _ _
+returns c = ap number_in (c.in-At.ensures) ∙ number_is _ _ _
 
 returns-2 : tie.Need-returns-in-Past
-returns-2 c = ap number_in (sym c.enum_told-1.given.1 ∙ c.seek-found.ensures) ∙ number_is _ _ _
+returns-2 c = ap number_in (c.in-Past.ensures) ∙ number_is _ _ _
 
 pub line_number_spec : {M : Type 1} → statement M
 line_number_spec = tie.close (tie.spec (λ c κs. tt) (λ c. search rules) (λ c. search rules) returns returns-2)

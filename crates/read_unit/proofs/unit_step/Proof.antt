@@ -22,7 +22,7 @@ fitted c = c.before.before.before.before.before
 
 -- what they say
 window : (c : tie.Else-not-is_window) → let a = (start c).args in rising 1 a.s.span (last_place a.house a.s.span) a.first a.last ≡ true
-window c = sym c.is_window_lem.ensures ∙ c.if-not-is_window.false
+window c = sym c.is_window.ensures ∙ c.if-not-is_window.false
 
 order : (c : tie.Else-not-is_window) → eqb (start c).args.s.span 0 ≡ false
 order c = let a = (start c).args in window_span a.s.span (last_place a.house a.s.span) a.first a.last (window c)
@@ -34,7 +34,7 @@ returns : tie.Need-returns-then-not-is_window
 returns c =
     let t = c in
     let a = t.args in
-    let no = sym t.is_window_lem.ensures ∙ t.if-not-is_window.true in
+    let no = sym t.is_window.ensures ∙ t.if-not-is_window.true in
     (ap No c.window_fault.ensures ∙ no_window_lem a.house a.s.span a.first a.last _ no, (tt, (refl, (refl, refl))))
 
 returns-2 : tie.Need-returns-then-not-is_new
