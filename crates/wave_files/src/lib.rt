@@ -2,7 +2,8 @@
 // system gives.
 #![tactic(auto)]
 
-ghost use Rattle.std.specs.Prelude.{◌≤◌, length};
+ghost use Rattle.std.specs.Prelude.{◌<◌, ◌≤◌, length, take, OnOk};
+ghost use Rattle.std.specs.Io.KnownBytes.{Consumes, IsAtEnd};
 
 use std::env::FillError;
 use std::fmt::InlineText;
@@ -46,14 +47,17 @@ pub fn say_why(rt: &HostRuntime, what: &[u8], why: &io::Error) {
     say(rt, b"\n");
 }
 
-// Reads until the input ends or the buffer is full, or a read fails: how many bytes were read, and why no more. A read may be short, as of a pipe or a terminal.
+// Reads until the input ends or the buffer is full, or a read fails: how many bytes were read, and why no more. They are the next ones of a reader whose bytes are
+// known, and all of them where there is room for more. A read may be short, as of a pipe or a terminal.
 fn read_all<R: Read>(file: &mut R, buffer: &mut [u8]) -> (usize, io::Result<()>)
-    ensures { result.0 ≤ length buffer.new }
+    ensures within { result.0 ≤ length buffer.new }
+    ensures bytes { Consumes (R.remaining file.old) (R.remaining file.new) (take result.0 buffer.new) }
+    ensures end { OnOk result.1 (result.0 < length buffer.new → IsAtEnd (R.remaining file.new)) }
 {
     let mut done: usize = 0;
     while done < buffer.len() {
         match file.read(&mut buffer[done..]) {
-            Ok(0) => break,
+            Ok(0) => return (done, Ok(())),
             Ok(n) => done += n,
             Err(why) => return (done, Err(why)),
         }
