@@ -1,10 +1,22 @@
-// What the program reads, standard input and the files that its words name, and what it says on standard error of them. The contracts of the C functions say
-// nothing of the bytes that come.
+// What the program reads, standard input and the files that its words name, and what it says on standard error of them. No contract of std says which bytes the
+// system gives.
 #![tactic(auto)]
 
-ghost use Rattle.std.specs.Prelude.{◌≤◌, length};
+ghost use Rattle.std.specs.Prelude.{◌<◌, ◌≤◌, length, take, OnOk};
+ghost use Rattle.std.specs.Io.KnownBytes.{Consumes, IsAtEnd};
 
-use libc::{PATH_MAX, STDERR_FILENO, STDIN_FILENO};
+use std::env::FillError;
+use std::fmt::InlineText;
+use std::fs::File;
+use std::io::Read;
+use std::rt::Env;
+use std::{io, str};
+
+// A name and the NUL behind it have so many bytes at the most.
+const PATH_MAX: usize = 4096;
+
+// Longer than any text of an error.
+const MAX_WHY: usize = 320;
 
 // How many bytes were read, and whether a read failed on the way.
 #[derive(Clone, Copy)]
@@ -13,82 +25,120 @@ pub struct Input {
     pub failed: bool,
 }
 
-// Reads until the input ends or the buffer is full. A read may be short, as of a pipe or a terminal.
-fn read_all(file: i32, buffer: &mut [u8]) -> Input
-    ensures { result.length ≤ length buffer.new }
+// On standard error. Where that takes no more, nobody can be told.
+pub fn say(rt: &HostRuntime, words: &[u8]) {
+    let _ = rt.stderr().write_all(words);
+}
+
+// An error's text without the system's number for it, which std puts behind the words.
+fn without_number(text: &str) -> &str {
+    match text.split_once(" (os error ") {
+        Some((words, _)) => words,
+        None => text,
+    }
+}
+
+// A line on standard error: what failed, a colon and the system's word for why.
+pub fn say_why(rt: &HostRuntime, what: &[u8], why: &io::Error) {
+    let text = InlineText::<{ MAX_WHY }>::of(why);
+    say(rt, what);
+    say(rt, b": ");
+    say(rt, without_number(text.as_str()).as_bytes());
+    say(rt, b"\n");
+}
+
+// Reads until the input ends or the buffer is full, or a read fails: how many bytes were read, and why no more. They are the next ones of a reader whose bytes are
+// known, and all of them where there is room for more. A read may be short, as of a pipe or a terminal.
+fn read_all<R: Read>(file: &mut R, buffer: &mut [u8]) -> (usize, io::Result<()>)
+    ensures within { result.0 ≤ length buffer.new }
+    ensures bytes { Consumes (R.remaining file.old) (R.remaining file.new) (take result.0 buffer.new) }
+    ensures end { OnOk result.1 (result.0 < length buffer.new → IsAtEnd (R.remaining file.new)) }
 {
     let mut done: usize = 0;
     while done < buffer.len() {
-        let got = libc::read(file, &mut buffer[done..]);
-        if got < 0 {
-            return Input {
-                length: done,
-                failed: true,
-            };
+        match file.read(&mut buffer[done..]) {
+            Ok(0) => return (done, Ok(())),
+            Ok(n) => done += n,
+            Err(why) => return (done, Err(why)),
         }
-        let n = io::count(got, &buffer[done..]);
-        if n == 0 {
-            break;
-        }
-        done += n;
     }
-    Input {
-        length: done,
-        failed: false,
-    }
+    (done, Ok(()))
 }
 
 // Standard input, and a word where it cannot be read.
-pub fn read_stdin(buffer: &mut [u8]) -> Input
+pub fn read_stdin(rt: &HostRuntime, buffer: &mut [u8]) -> Input
     ensures { result.length ≤ length buffer.new }
 {
-    let input = read_all(STDIN_FILENO, buffer);
-    if input.failed {
-        os::fail(b"read");
+    let mut stdin = rt.stdin();
+    let (length, end) = read_all(&mut stdin, buffer);
+    if let Err(why) = &end {
+        say_why(rt, b"read", why);
     }
-    input
+    Input {
+        length,
+        failed: end.is_err(),
+    }
 }
 
 // The word before the system's own, which says why.
-fn say_unread(name: &[u8]) {
-    io::write_all(STDERR_FILENO, b"wave: cannot read ");
-    os::fail(name);
+fn say_unread(rt: &HostRuntime, name: &[u8], why: &io::Error) {
+    say(rt, b"wave: cannot read ");
+    say_why(rt, name, why);
+}
+
+// A name is text to std, so no file is opened by one that is not UTF-8.
+fn open_read(rt: &HostRuntime, name: &[u8]) -> io::Result<File> {
+    match str::from_utf8(name) {
+        Ok(path) => File::open(rt, path),
+        Err(_) => Err(io::Error::from(io::ErrorKind::InvalidFilename)),
+    }
 }
 
 // The file of this name, and a word where it cannot be opened or read, as where it is a folder.
-fn read_file(name: &[u8], buffer: &mut [u8]) -> Input
+fn read_file(rt: &HostRuntime, name: &[u8], buffer: &mut [u8]) -> Input
     ensures { result.length ≤ length buffer.new }
 {
-    let file = os::open_read(name);
-    if file < 0 {
-        say_unread(name);
-        return Input {
-            length: 0,
-            failed: true,
-        };
+    let mut file = match open_read(rt, name) {
+        Ok(file) => file,
+        Err(why) => {
+            say_unread(rt, name, &why);
+            return Input {
+                length: 0,
+                failed: true,
+            };
+        }
+    };
+    let (length, end) = read_all(&mut file, buffer);
+    if let Err(why) = &end {
+        say_unread(rt, name, why);
     }
-    let input = read_all(file, buffer);
-    if input.failed {
-        say_unread(name);
+    Input {
+        length,
+        failed: end.is_err(),
     }
-    libc::close(file);
-    input
 }
 
 // The file that the i-th word names. No file has a name as long as PATH_MAX, so a word that does not fit is none.
-fn read_named(i: usize, buffer: &mut [u8]) -> Input
+fn read_named(rt: &HostRuntime, i: usize, buffer: &mut [u8]) -> Input
     ensures { result.length ≤ length buffer.new }
 {
     let mut name = [0u8; PATH_MAX];
-    let n = os::arg(i, &mut name);
-    if os::errno() != 0 {
-        os::fail(b"wave: cannot read a file");
-        return Input {
-            length: 0,
-            failed: true,
-        };
+    match rt.arg(i, &mut name) {
+        Ok(n) => read_file(rt, &name[..n], buffer),
+        Err(why) => {
+            say(
+                rt,
+                match why {
+                    FillError::NotPresent => b"wave: cannot read a file: Invalid argument\n",
+                    FillError::TooLong => b"wave: cannot read a file: File name too long\n",
+                },
+            );
+            Input {
+                length: 0,
+                failed: true,
+            }
+        }
     }
-    read_file(&name[..n], buffer)
 }
 
 // How many bytes were read of the first of two files and of the second, and whether one of them could not be read.
@@ -100,10 +150,10 @@ pub struct Inputs {
 }
 
 // The files that the i-th word and the j-th one name. Where the first cannot be read, the second is left alone.
-pub fn read_two(i: usize, one: &mut [u8], j: usize, two: &mut [u8]) -> Inputs
+pub fn read_two(rt: &HostRuntime, i: usize, one: &mut [u8], j: usize, two: &mut [u8]) -> Inputs
     ensures { (result.first ≤ length one.new) × (result.second ≤ length two.new) }
 {
-    let first = read_named(i, one);
+    let first = read_named(rt, i, one);
     if first.failed {
         return Inputs {
             first: 0,
@@ -111,7 +161,7 @@ pub fn read_two(i: usize, one: &mut [u8], j: usize, two: &mut [u8]) -> Inputs
             failed: true,
         };
     }
-    let second = read_named(j, two);
+    let second = read_named(rt, j, two);
     Inputs {
         first: first.length,
         second: second.length,
@@ -119,11 +169,31 @@ pub fn read_two(i: usize, one: &mut [u8], j: usize, two: &mut [u8]) -> Inputs
     }
 }
 
+// How many words the program was started with, its own name among them.
+pub fn count_words(rt: &HostRuntime) -> usize {
+    for i in 0..usize::MAX {
+        if let Err(FillError::NotPresent) = rt.arg(i, &mut []) {
+            return i;
+        }
+    }
+    usize::MAX
+}
+
+// The i-th word at the start of the buffer, and its length. One that is longer than the buffer comes as none, and so does one that is not there.
+pub fn put_word(rt: &HostRuntime, i: usize, buffer: &mut [u8]) -> usize
+    ensures { result ≤ length buffer.new }
+{
+    match rt.arg(i, buffer) {
+        Ok(n) => n,
+        Err(_) => 0,
+    }
+}
+
 // A word on standard error, and the i-th word of the program behind it.
-pub fn say_name(word: &[u8], i: usize) {
+pub fn say_name(rt: &HostRuntime, word: &[u8], i: usize) {
     let mut name = [0u8; PATH_MAX];
-    let n = os::arg(i, &mut name);
-    io::write_all(STDERR_FILENO, word);
-    io::write_all(STDERR_FILENO, &name[..n]);
-    io::write_all(STDERR_FILENO, b"\n");
+    let n = put_word(rt, i, &mut name);
+    say(rt, word);
+    say(rt, &name[..n]);
+    say(rt, b"\n");
 }

@@ -1,6 +1,6 @@
-// What the program does: it reads a sheet from standard input, or two from files, and writes to standard output what its word asks for. The contracts of the C
-// functions say nothing of the bytes that come and go; what is promised is what a word asks for, and of the bytes that were read what `wave_inputs` says; and
-// that all ends and does nothing undefined.
+// What the program does: it reads a sheet from standard input, or two from files, and writes to standard output what its word asks for. The contracts of std
+// say nothing of the bytes that come from the system and go to it; what is promised is what a word asks for, and of the bytes that were read what `wave_inputs`
+// says; and that all ends and does nothing undefined.
 #![tactic(auto)]
 
 ghost use Rattle.std.specs.Prelude.{◌≤◌};
@@ -8,7 +8,6 @@ ghost use Rattle.sheet.specs.Sizes.{max_bytes};
 
 use convert_lists::Converted;
 use forms::House;
-use libc::{STDERR_FILENO, STDOUT_FILENO};
 use merge_text::Merged;
 use print_page::MAX_PAGE;
 use wave_faults::MAX_FAULT;
@@ -22,70 +21,70 @@ use write_lines::MAX_TEXT;
 const MAX_DIGITS: usize = 131072;
 
 // What the program was started for: a plan where no word is given.
-fn read_words() -> Asked {
-    let count = os::arg_count();
+fn read_words(rt: &HostRuntime) -> Asked {
+    let count = wave_files::count_words(rt);
     // The first is the program's own name.
     if count < 2 {
         return Asked::Answer(House::Ours, Query::Plan);
     }
     // A longer word comes as none, which asks for nothing.
     let mut word = [0u8; MAX_WORD];
-    let n = os::arg(1, &mut word);
+    let n = wave_files::put_word(rt, 1, &mut word);
     wave_words::asked_by(&word[..n], count - 2)
 }
 
-fn write_page(page: &[u8]) {
-    if !io::write_all(STDOUT_FILENO, page) {
-        os::fail(b"write");
+fn write_page(rt: &HostRuntime, page: &[u8]) {
+    if let Err(why) = rt.write_all(page) {
+        wave_files::say_why(rt, b"write", &why);
     }
 }
 
 // Which unit or rule a refusal by 17 or 18 is of, on standard error.
-fn show_fault(number: usize, line: usize)
+fn show_fault(rt: &HostRuntime, number: usize, line: usize)
     requires { line ≤ max_bytes }
 {
     let mut words = [0u8; MAX_FAULT];
     let end = wave_faults::put_fault(&mut words, number, line);
-    io::write_all(STDERR_FILENO, &words[..end]);
+    wave_files::say(rt, &words[..end]);
 }
 
 // From standard input to standard output.
-fn answer_pipe(house: House, query: Query) {
+fn answer_pipe(rt: &HostRuntime, house: House, query: Query) {
     let mut text = [0u8; TEXT_BYTES];
-    let input = wave_files::read_stdin(&mut text);
+    let input = wave_files::read_stdin(rt, &mut text);
     if input.failed {
         return;
     }
     let mut page = [0u8; MAX_PAGE];
     let end = wave_inputs::answer_input(house, query, &text, input.length, &mut page);
-    write_page(&page[..end]);
+    write_page(rt, &page[..end]);
 }
 
-fn convert_pipe(from: House, to: House) {
+fn convert_pipe(rt: &HostRuntime, from: House, to: House) {
     let mut text = [0u8; TEXT_BYTES];
-    let input = wave_files::read_stdin(&mut text);
+    let input = wave_files::read_stdin(rt, &mut text);
     if input.failed {
         return;
     }
     let mut page = [0u8; MAX_TEXT];
     let converted = wave_inputs::convert_input(from, to, &text, input.length, &mut page);
     match converted {
-        Converted::Sheet(end) => write_page(&page[..end]),
+        Converted::Sheet(end) => write_page(rt, &page[..end]),
         Converted::Refused(refusal, end) => {
-            write_page(&page[..end]);
-            show_fault(refusal.number, refusal.line);
+            write_page(rt, &page[..end]);
+            show_fault(rt, refusal.number, refusal.line);
         }
     }
 }
 
 // Which file a refusal is of, by the places of the two names among the words, on standard error. Only 27 is of neither.
-fn show_blamed(sheet: usize, first: usize, second: usize) {
+fn show_blamed(rt: &HostRuntime, sheet: usize, first: usize, second: usize) {
     match sheet {
-        1 => wave_files::say_name(b"wave: the refusal is of the first sheet, ", first),
-        2 => wave_files::say_name(b"wave: the refusal is of the second sheet, ", second),
+        1 => wave_files::say_name(rt, b"wave: the refusal is of the first sheet, ", first),
+        2 => wave_files::say_name(rt, b"wave: the refusal is of the second sheet, ", second),
         _ => {
-            io::write_all(
-                STDERR_FILENO,
+            wave_files::say(
+                rt,
                 b"wave: no unit of the two sheets has this loader number\n",
             );
         }
@@ -93,29 +92,29 @@ fn show_blamed(sheet: usize, first: usize, second: usize) {
 }
 
 // From two files to standard output. The words behind `merge` are their names.
-fn merge_files() {
+fn merge_files(rt: &HostRuntime) {
     let mut one = [0u8; TEXT_BYTES];
     let mut two = [0u8; TEXT_BYTES];
-    let inputs = wave_files::read_two(2, &mut one, 3, &mut two);
+    let inputs = wave_files::read_two(rt, 2, &mut one, 3, &mut two);
     if inputs.failed {
         return;
     }
     let mut page = [0u8; MAX_TEXT];
     let merged = wave_inputs::merge_inputs(&one, inputs.first, &two, inputs.second, &mut page);
     match merged {
-        Merged::Sheet(end) => write_page(&page[..end]),
+        Merged::Sheet(end) => write_page(rt, &page[..end]),
         Merged::Refused(_, sheet, end) => {
-            write_page(&page[..end]);
-            show_blamed(sheet, 2, 3);
+            write_page(rt, &page[..end]);
+            show_blamed(rt, sheet, 2, 3);
         }
     }
 }
 
 // The names are the last words behind `line`.
-fn find_line(loader: u16) {
+fn find_line(rt: &HostRuntime, loader: u16) {
     let mut one = [0u8; TEXT_BYTES];
     let mut two = [0u8; TEXT_BYTES];
-    let inputs = wave_files::read_two(3, &mut one, 4, &mut two);
+    let inputs = wave_files::read_two(rt, 3, &mut one, 4, &mut two);
     if inputs.failed {
         return;
     }
@@ -129,21 +128,22 @@ fn find_line(loader: u16) {
         &mut page,
     );
     match shown {
-        Shown::Line(end) => write_page(&page[..end]),
+        Shown::Line(end) => write_page(rt, &page[..end]),
         Shown::Refused(sheet, end) => {
-            write_page(&page[..end]);
-            show_blamed(sheet, 3, 4);
+            write_page(rt, &page[..end]);
+            show_blamed(rt, sheet, 3, 4);
         }
     }
 }
 
-fn line_files() {
+fn line_files(rt: &HostRuntime) {
     let mut word = [0u8; MAX_DIGITS];
-    let n = os::arg(2, &mut word);
+    let n = wave_files::put_word(rt, 2, &mut word);
     let named = wave_loader::loader_of(&word[..n]);
     match named {
-        Loader::Number(loader) => find_line(loader),
+        Loader::Number(loader) => find_line(rt, loader),
         Loader::NoNumber => wave_files::say_name(
+            rt,
             b"wave: LOADER must be one or more digits, not ",
             2,
         ),
@@ -151,22 +151,22 @@ fn line_files() {
 }
 
 // The words there are, on standard error.
-fn show_usage() {
-    io::write_all(
-        STDERR_FILENO,
+fn show_usage(rt: &HostRuntime) {
+    wave_files::say(
+        rt,
         b"usage: wave [plan|fits|partner|from-partner|to-partner] < SHEET\n",
     );
-    io::write_all(STDERR_FILENO, b"       wave merge FIRST SECOND\n");
-    io::write_all(STDERR_FILENO, b"       wave line LOADER FIRST SECOND\n");
+    wave_files::say(rt, b"       wave merge FIRST SECOND\n");
+    wave_files::say(rt, b"       wave line LOADER FIRST SECOND\n");
 }
 
-pub fn run() {
-    let asked = read_words();
+pub fn run(rt: &HostRuntime) {
+    let asked = read_words(rt);
     match asked {
-        Asked::Answer(house, query) => answer_pipe(house, query),
-        Asked::Convert(from, to) => convert_pipe(from, to),
-        Asked::Merge => merge_files(),
-        Asked::Line => line_files(),
-        Asked::Unknown => show_usage(),
+        Asked::Answer(house, query) => answer_pipe(rt, house, query),
+        Asked::Convert(from, to) => convert_pipe(rt, from, to),
+        Asked::Merge => merge_files(rt),
+        Asked::Line => line_files(rt),
+        Asked::Unknown => show_usage(rt),
     }
 }
