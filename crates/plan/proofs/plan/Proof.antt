@@ -21,7 +21,7 @@ before c = let a = c.args in lent a.table.now a.plan.now a.earliest.now a.latest
 
 -- back to the start, from the questions' answer
 abbrev start : tie.After-ask-asked → tie.Start
-start c = c.before.before.before.before.before.before.before.before.before.before.before.before.before.before.before.before.before.before
+start c = c.before.before.before.before.before.before.before.before.before.before.before.before.before
 
 -- which is that of the rooms' own lengths
 verdict : (c : tie.After-ask-asked) (v : Verdict) → verdict_of c.ask-asked.result ≡ v → refusal_in (lists (start c)) (plan_lent (before (start c))) ≡ v
@@ -29,26 +29,26 @@ verdict c v = asked_of (lists (start c)) _ (plan_lent (before (start c))) _ v c.
 
 -- where the answer was yes
 abbrev asked : tie.In-Yes → tie.Start
-asked c = start c.before.before
+asked c = start c.before
 
 yes : (c : tie.In-Yes) → refusal_in (lists (asked c)) (plan_lent (before (asked c))) ≡ all_yes
-yes c = verdict c.before.before all_yes (ap verdict_of c.enum_told-1.given.1)
+yes c = verdict c.before all_yes (ap verdict_of c.in-Yes.is)
 
 solve_requires : tie.Need-solve-requires
 solve_requires c κs = let p : tie.In-Yes = c.before.before.before.before.before in asked_yes (lists (asked p)) _ (yes p)
 
 returns : tie.Need-returns-in-No
 returns c =
-    let d : tie.After-ask-asked = c.before.before.before in
-    let f = c.asked-1.given in
+    let d : tie.After-ask-asked = c.before in
+    let f = c.in-No in
     let l = lists (start d) in
     refused_settled l _ (planned (given_by l)) (WithRing (given_by l) (ringed (given_by l))) (before (start d))
-    f.0.0.number f.0.0.line (verdict d _ (ap verdict_of f.1))
+    f.refusal.number f.refusal.line (verdict d _ (ap verdict_of f.is))
 
 returns-2 : tie.Need-returns-in-Yes
 returns-2 c =
     let r = c in
-    let p : tie.In-Yes = r.before.before.before.before.before.before in
+    let p : tie.In-Yes = r.before.before.before.before.before.before.before.before.before.before.before.before.before.before.before.before in
     let l = lists (asked p) in
     solved_settled l _ (planned (given_by l)) (WithRing (given_by l) (ringed (given_by l))) (before (asked p)) (yes p)
     (reply_of c.answered.result) (fit_reply r.solve.result) c.answered.ensures _ r.solve.ensures

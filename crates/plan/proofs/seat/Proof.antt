@@ -21,7 +21,7 @@ before c = let a = c.args in seat_rooms a.table.now a.plan.now a.earliest.now a.
 
 -- back to the start, from the questions' answer
 abbrev start : tie.After-ask-asked → tie.Start
-start c = c.before.before.before.before.before.before.before.before.before.before.before.before.before.before.before.before
+start c = c.before.before.before.before.before.before.before.before.before.before.before.before
 
 -- which is that of the rooms' own lengths
 verdict : (c : tie.After-ask-asked) (v : Verdict) → verdict_of c.ask-asked.result ≡ v → refusal_in (lists (start c)) (seat_lent (before (start c))) ≡ v
@@ -29,28 +29,28 @@ verdict c v = asked_of (lists (start c)) _ (seat_lent (before (start c))) _ v c.
 
 -- where the answer was yes
 abbrev asked : tie.In-Yes → tie.Start
-asked c = start c.before.before
+asked c = start c.before
 
 yes : (c : tie.In-Yes) → refusal_in (lists (asked c)) (seat_lent (before (asked c))) ≡ all_yes
-yes c = verdict c.before.before all_yes (ap verdict_of c.enum_told-1.given.1)
+yes c = verdict c.before all_yes (ap verdict_of c.in-Yes.is)
 
 seat_requires : tie.Need-seat-requires
 seat_requires c κs = let p : tie.In-Yes = c.before.before.before.before in asked_yes (lists (asked p)) _ (yes p)
 
 returns : tie.Need-returns-in-No
 returns c =
-    let d : tie.After-ask-asked = c.before.before.before in
-    let f = c.asked-1.given in
+    let d : tie.After-ask-asked = c.before in
+    let f = c.in-No in
     let l = lists (start d) in
-    let v = verdict d _ (ap verdict_of f.1) in (
-      refused_settled l _ (seated (given_by l)) (SeatNone (given_by l)) (before (start d)) f.0.0.number f.0.0.line v,
+    let v = verdict d _ (ap verdict_of f.is) in (
+      refused_settled l _ (seated (given_by l)) (SeatNone (given_by l)) (before (start d)) f.refusal.number f.refusal.line v,
       sym (looked_by_lem l _ _ v),
     )
 
 returns-2 : tie.Need-returns-in-Yes
 returns-2 c =
     let r = c in
-    let p : tie.In-Yes = r.before.before.before.before.before in
+    let p : tie.In-Yes = r.before.before.before.before.before.before.before.before.before.before.before.before.before in
     let l = lists (asked p) in
     let told = c.seat_answer.ensures in
     let left = r.seat.ensures in (

@@ -41,24 +41,24 @@ close_limits_requires c κs =
 find_ring_requires : tie.Need-find_ring-n-requires
 find_ring_requires c κs =
     let d = c in
-    let st = start d.before.before.before.before.before in
-    ring_asked (lists st) _ st.requires (room st) (holds st).0 d.close_limits-outcome.result (table d.before.before.before.before.before) d.close_limits-outcome.ensures
-    c.enum_told-1.given.1 (length (ring st)) (holds st).1
+    let st = start d.before.before.before.before in
+    ring_asked (lists st) _ st.requires (room st) (holds st).0 d.close_limits-outcome.result (table d.before.before.before.before) d.close_limits-outcome.ensures
+    c.in-Stopped.is (length (ring st)) (holds st).1
 
 returns : tie.Need-returns-in-Stopped
 returns c =
     let f = c in
     let d = f in
-    let st = start d.before.before.before.before.before.before.before.before.before in
-    ring_left_lem (lists st) _ st.requires (room st) (holds st).0 d.close_limits-outcome.result (table d.before.before.before.before.before.before.before.before.before) d.close_limits-outcome.ensures
-    f.enum_told-1.given.1 (ring st)
+    let st = start d.before.before.before.before.before.before.before.before in
+    ring_left_lem (lists st) _ st.requires (room st) (holds st).0 d.close_limits-outcome.result (table d.before.before.before.before.before.before.before.before) d.close_limits-outcome.ensures
+    f.in-Stopped.is (ring st)
     f.find_ring-n.result f.find_ring-n.new.table f.find_ring-n.new.ring f.find_ring-n.ensures
 
 returns-2 : tie.Need-returns-in-Finished
 returns-2 c =
     let d = c in
-    let st = start d.before.before.before in
-    fits_left (lists st) _ st.requires (room st) (holds st).0 d.close_limits-outcome.result (table d.before.before.before) d.close_limits-outcome.ensures c.enum_told-in-Finished-1.given.1 (ring st)
+    let st = start d.before.before in
+    fits_left (lists st) _ st.requires (room st) (holds st).0 d.close_limits-outcome.result (table d.before.before) d.close_limits-outcome.ensures c.in-Finished.is (ring st)
 
 pub decide_spec : {M : Type 1} → statement M
 decide_spec = tie.close (tie.spec close_limits_requires (λ c. c.in-Stopped.keys1) find_ring_requires (λ c. c.in-Finished.keys2)

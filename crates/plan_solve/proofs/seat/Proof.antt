@@ -45,14 +45,14 @@ close_limits_requires c κs =
 
 -- where the pass finished
 abbrev closed : tie.In-Finished → tie.After-close_limits-outcome
-closed c = c.before.before.before
+closed c = c.before.before
 
 front : (c : tie.In-Finished) → let st = start (closed c) in let s = given (lists st) in
     (t : List ℤ) × (passed s ≡ finished t) × (table (closed c) ≡ table_in s t (room st))
 front c =
     let d = closed c in
     let st = start d in
-    closed_table (lists st) _ st.requires (room st) (holds st).0 d.close_limits-outcome.result (table d) d.close_limits-outcome.ensures c.enum_told-in-Finished-1.given.1
+    closed_table (lists st) _ st.requires (room st) (holds st).0 d.close_limits-outcome.result (table d) d.close_limits-outcome.ensures c.in-Finished.is
 
 units_ready : (c : tie.After-boundaries-w) → let st = start (closed c.before) in
     Ready (given (lists st)) c.boundaries-w.result st.args.first.now st.args.last.now (table (closed c.before))
@@ -71,11 +71,11 @@ fill_plan_requires c κs =
 returns : tie.Need-returns-in-Stopped
 returns c =
     let d = c in
-    let st = start d.before.before.before in
-    let stopped = c.enum_told-1.given.1 in (
-      none_seated (lists st) _ st.requires (room st) (holds st).0 d.close_limits-outcome.result (table d.before.before.before) d.close_limits-outcome.ensures stopped
+    let st = start d.before.before in
+    let stopped = c.in-Stopped.is in (
+      none_seated (lists st) _ st.requires (room st) (holds st).0 d.close_limits-outcome.result (table d.before.before) d.close_limits-outcome.ensures stopped
           st.args.plan.now st.args.earliest.now st.args.latest.now,
-      none_looked (lists st) _ st.requires (room st) (holds st).0 d.close_limits-outcome.result (table d.before.before.before) d.close_limits-outcome.ensures stopped,
+      none_looked (lists st) _ st.requires (room st) (holds st).0 d.close_limits-outcome.result (table d.before.before) d.close_limits-outcome.ensures stopped,
     )
 
 returns-2 : tie.Need-returns-in-Finished

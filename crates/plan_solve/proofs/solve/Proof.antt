@@ -65,14 +65,14 @@ decide_requires c κs =
 
 -- where it fits
 abbrev decided : tie.In-Fits → tie.After-decide-fit
-decided c = c.before.before.before.before.before
+decided c = c.before.before.before.before
 
 front : (c : tie.In-Fits) → let st = start (decided c) in let s = given (lists st) in
     (t : List ℤ) × (passed s ≡ finished t) × (table (decided c) ≡ table_in s t (room st)) × (ring_left (decided c) ≡ ring st)
 front c =
     let d = decided c in
     let st = start d in
-    decided_fits (given (lists st)) (room st) (ring st) (table d) (ring_left d) (passed (given (lists st))) (told d _ (ap fit_reply c.enum_told-1.given.1))
+    decided_fits (given (lists st)) (room st) (ring st) (table d) (ring_left d) (passed (given (lists st))) (told d _ (ap fit_reply c.in-Fits.is))
 
 units_ready : (c : tie.After-boundaries-w) → let st = start (decided c.before) in
     Ready (given (lists st)) c.boundaries-w.result st.args.first.now st.args.last.now (table (decided c.before))
@@ -92,9 +92,9 @@ returns : tie.Need-returns-in-None
 returns c =
     let f = c in
     let d = f in
-    let st = start d.before.before.before.before.before.before in
-    decided_none (given (lists st)) (room st) (ring st) (table d.before.before.before.before.before.before) (ring_left d.before.before.before.before.before.before) st.args.plan.now st.args.earliest.now st.args.latest.now
-    _ (passed (given (lists st))) (told d.before.before.before.before.before.before _ (ap fit_reply f.fit-1.given.1))
+    let st = start d.before.before.before.before in
+    decided_none (given (lists st)) (room st) (ring st) (table d.before.before.before.before) (ring_left d.before.before.before.before) st.args.plan.now st.args.earliest.now st.args.latest.now
+    _ (passed (given (lists st))) (told d.before.before.before.before _ (ap fit_reply f.in-None.is))
 
 returns-2 : tie.Need-returns-in-Fits
 returns-2 c =
