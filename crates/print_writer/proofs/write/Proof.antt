@@ -14,7 +14,10 @@ use seplogic.Ra.Ura.{Ura}
 use mir.Syntax.{named, erased, w64}
 use mir.Val.{Val, WT, has_ty, vint}
 use base.Logic.{SProp, ent, sep}
-use base.Fml.{Lft, Share, Fml, ftrue, fsep, flft}
+use base.Fml.{Lft, Share, Fml, ftrue, fsep, flft, fbor}
+use types.SemTy.{Arr, Body}
+use types.Hole.{Holey}
+use denote.Memory.{mem as memory_of}
 use prog.Memory.{Memory}
 use prog.Routine.{Routine}
 use prog.Wp.{Calls, Loops, WpFn, Tables}
@@ -41,7 +44,7 @@ use denote.Triple.Spec.{Meets, triple_of}
 use denote.Triple.Statement.{Contract, Triple}
 use denote.Triple.Call.{calls_at}
 use denote.Triple.Clauses.{lasts}
-use denote.Triple.Table.{entered, cited}
+use denote.Triple.Table.{entered}
 use denote.Triple.Walked.{says, needs, Stays, stay_dropped, gave_slice, walk_of, Goes-gave_slice, Walks, ends_at, walked, walk_Meets}
 use denote.Exit.{yes}
 use denote.Signature.{plain}
@@ -52,15 +55,12 @@ use Rattle.print_writer.specs.declared.Writer.{Writer}
 use Rattle.print_writer.specs.contracts.Writer as T
 use Rattle.print_writer.proofs.Writer.TheLaws as T'
 use Rattle.print_writer.specs.contracts.new as new
-use Rattle.print_writer.proofs.new.Symbol as new-def
 use Rattle.print_writer.proofs.new.Symbol.{name as #writer·new}
 use Rattle.print_writer.proofs.new.Met as new-thm
 use Rattle.print_writer.specs.contracts.put as put
-use Rattle.print_writer.proofs.put.Symbol as put-def
 use Rattle.print_writer.proofs.put.Symbol.{name as #writer·put}
 use Rattle.print_writer.proofs.put.Met as put-thm
 use Rattle.print_writer.specs.contracts.place as place
-use Rattle.print_writer.proofs.place.Symbol as place-def
 use Rattle.print_writer.proofs.place.Symbol.{name as #writer·place}
 use Rattle.print_writer.proofs.place.Met as place-thm
 use Rattle.print_writer.specs.contracts.write.Key.{name as #writer·write}
@@ -134,6 +134,13 @@ module _ {M : Type 1} {𝓤 : Ura M} (𝓛 : Logic 𝓤) (mem : Memory → SProp
   abbrev Post : Val → SProp 𝓤
   Post = (walk_of 𝓛 write.ended stayed (write.clauses 𝓛 mem run)).post (((κ, (κ₁, tt)), (q, (q₁, tt)), tt, a, vals), tt)
 
+  -- what is left of the page once its borrow is given up: the last list, and the borrow, closed
+  abbrev Borrow : ℕ → Fml
+  Borrow m = fbor κ (Body (Arr (Holey (memory_of u8)) m) x.ref_ptr.0 x.ref_ptr.1 x.ghost_name)
+
+  abbrev Gave : Fml
+  Gave = fsep (finally u8 x.ghost_name h₁.page.now) (Borrow (length x.now))
+
   -- ---- `new`
   abbrev to_new : (New 𝓛 mem run).Ghost
   to_new = (((κ, tt), (q, tt), tt, (x, (n, tt)), (s ∷ [], (vint w64 n ∷ [], tt))), tt)
@@ -182,26 +189,30 @@ module _ {M : Type 1} {𝓤 : Ura M} (𝓛 : Logic 𝓤) (mem : Memory → SProp
       qed 𝓛 (‵ (flft κ q) ∷ ‵ (OwnWriter κ h₁ v) ∷ []) ∵ nothing ! $ move ! (1 ∷ 0 ∷ []) $ join ! $ nothing ! $ move ! (2 ∷ 0 ∷ []) $ fjoin ! $
       move ! (1 ∷ 0 ∷ []) $ join ! $ frame ! $ done !
 
-  place_back : (v w : Val)
+  place_back : (v w : Val) → Room x.now n bytes.now
       → ent 𝓤 ((Place 𝓛 mem run).post (to_place v) w)
-      (H.⇛ (sep 𝓤 (A.lft κ q) (sep 𝓤 (sem 𝓛 (finally u8 x.ghost_name h₁.page.now)) (sem 𝓛 (usize.own_val h₁.place (w ∷ []))))))
-  place_back v w =
+      (H.⇛ (sep 𝓤 (A.lft κ q) (sep 𝓤 (sem 𝓛 Gave) (sem 𝓛 (usize.own_val h₁.place (w ∷ []))))))
+  place_back v w room =
       qed 𝓛 (later (some (λ (r : ℕ). ((‵ (flft κ q) ⊛ ‵ ftrue) ⊛ ‵ (usize.own_val r (w ∷ []))) ⊛ some
       (λ (zs : (List ℕ × Unit {0}) × Unit {0}). ‵ (lasts place.ended (κ, tt) (h₁, tt) zs) ⊛ raw (fact 𝓤 ((r ≡ h₁.place) × (zs.0.0 ≡ h₁.page.now))))))
       ∷ []) ∵ updating ! $ await ! tt $ pick ! (λ r.
       split ! $ move ! (1 ∷ []) $ pick ! (λ zs. split ! $ move ! (1 ∷ []) $ heard ! ((r ≡ h₁.place) × (zs.0.0 ≡ h₁.page.now)) (λ e. fsplit ! $
-      fsplit ! $ fsplit ! $
-      -- [the last list; as long as the list passed; true; true; the token and the result]
-      ?)))
+      fsplit ! $ fsplit ! $ fsplit ! $
+      -- [the last list; as long as the list passed; the borrow; true; true; the token and the result]
+      rewrite ! 0 (λ (l : List ℕ). ‵ (finally u8 x.ghost_name l)) e.1 refl $
+      rewrite ! 2 (λ (m : ℕ). ‵ (Borrow m)) (bytes_length x.now n bytes.now room) refl $
+      move ! (0 ∷ 2 ∷ []) $ fjoin ! $ move ! (4 ∷ []) $ split ! $
+      rewrite ! 1 (λ (m : ℕ). ‵ (usize.own_val m (w ∷ []))) e.0 refl $
+      split ! $ keep ! (0 ∷ 3 ∷ 2 ∷ []) $ at_once ! $ done !)))
 
   exits : (v : Val) → Room x.now n bytes.now
-      → ent 𝓤 (⋆ 𝓛 (‵ (flft κ q) ∷ raw tokens ∷ ‵ (finally u8 x.ghost_name h₁.page.now) ∷ ‵ (usize.own_val h₁.place (v ∷ [])) ∷ [])) (Post v)
+      → ent 𝓤 (⋆ 𝓛 (‵ (flft κ q) ∷ raw tokens ∷ ‵ Gave ∷ ‵ (usize.own_val h₁.place (v ∷ [])) ∷ [])) (Post v)
   exits v room =
-      qed 𝓛 (‵ (flft κ q) ∷ raw tokens ∷ ‵ (finally u8 x.ghost_name h₁.page.now) ∷ ‵ (usize.own_val h₁.place (v ∷ [])) ∷ []) ∵
+      qed 𝓛 (‵ (flft κ q) ∷ raw tokens ∷ ‵ Gave ∷ ‵ (usize.own_val h₁.place (v ∷ [])) ∷ []) ∵
       suffices ! _ (ends_at 𝓛 write.ended stayed (write.clauses 𝓛 mem run) (((κ, (κ₁, tt)), (q, (q₁, tt)), tt, a, vals), tt) v
       h₁.place (h₁.page.now, (tt, (tt, tt))) (bytes_length x.now n bytes.now room, (tt, (tt, tt)))) $
       says ! (record { filled = refl; moved = refl }) $ join ! $ frame ! $
-      ?
+      nothing ! $ nothing ! $ fjoin ! $ nothing ! $ fjoin ! $ move ! (1 ∷ 0 ∷ []) $ fjoin ! $ frame ! $ done !
 
   module _ (C : Calls 𝓤 H) (Λ : Loops 𝓤 H) (fm : FmC 𝓤 H 𝓛.laws C) (known-new : Triple 𝓤 (C #writer·new) (New 𝓛 mem run))
       (known-put : Triple 𝓤 (C #writer·put) (Put 𝓛 mem run)) (known-place : Triple 𝓤 (C #writer·place) (Place 𝓛 mem run)) where
@@ -238,7 +249,7 @@ module _ {M : Type 1} {𝓤 : Ura M} (𝓛 : Logic 𝓤) (mem : Memory → SProp
         -- [the writer; the tokens; _7; …]: `place`
         move ! (1 ∷ []) $ split ! $ move ! (0 ∷ 2 ∷ []) $ use2 𝓛 (raw ((Place 𝓛 mem run).pre (to_place v₁))) (goes_place v₁) $
         calls_at ! fm (Place 𝓛 mem run) known-place (to_place v₁) (and_then ! (load ! (from ! (stop !)) (look ! 8 refl)) (no_more !)) (λ v.
-        use1 𝓛 (later (‵ (flft κ q) ⊛ (‵ (finally u8 x.ghost_name h₁.page.now) ⊛ ‵ (usize.own_val h₁.place (v ∷ []))))) (place_back v₁ v) $ await ! tt $
+        use1 𝓛 (later (‵ (flft κ q) ⊛ (‵ Gave ⊛ ‵ (usize.own_val h₁.place (v ∷ []))))) (place_back v₁ v room) $ await ! tt $
         split ! $ move ! (1 ∷ []) $ split ! $ move ! (1 ∷ []) $ peeks ! usize (Is usize) (shows 𝓛 usize) h₁.place (v ∷ []) (λ is.
         -- [the result; the last list; the page's token; the other tokens; _7; …]
         land ! (from ! (stop !)) (init ! 18 refl ((uint_Lawful 𝓛 w64).typed h₁.place _ is).0) $
@@ -271,11 +282,11 @@ write_meets {𝓤 = 𝓤} 𝓛 mem run 𝓣 known-new known-put known-place =
     (write_walks 𝓛 mem run 𝓣.C 𝓣.Λ (fm_of 𝓤 𝓛.H 𝓛.laws 𝓣) known-new known-put known-place)
 
 pub write_spec : {M : Type 1} → stated.statement M
-unfolding code.routine tables_of
-write_spec 𝓤 𝓛 𝓜 𝓡 =
-    entered 𝓤 𝓛.H (triple_of 𝓛 write.signature (write.spec 𝓛 𝓜.mem 𝓡.run))
-    (tables 𝓤 𝓛.H 𝓜 𝓡 code.env).C (tables 𝓤 𝓛.H 𝓜 𝓡 code.env).Λ #writer·write code.function (code.unfolded 𝓤 𝓛.H 𝓜 𝓡)
-    (write_meets 𝓛 𝓜.mem 𝓡.run (tables_of 𝓤 𝓛.H 𝓜 (tables 𝓤 𝓛.H 𝓜 𝓡 code.env))
-    (cited 𝓤 𝓛.H (New 𝓛 𝓜.mem 𝓡.run) 𝓜 𝓡 code.env #writer·new new-def.routine code.calls-print-writer::new (new-thm.met 𝓤 𝓛 𝓜 𝓡))
-    (cited 𝓤 𝓛.H (Put 𝓛 𝓜.mem 𝓡.run) 𝓜 𝓡 code.env #writer·put put-def.routine code.calls-print-writer::put (put-thm.met 𝓤 𝓛 𝓜 𝓡))
-    (cited 𝓤 𝓛.H (Place 𝓛 𝓜.mem 𝓡.run) 𝓜 𝓡 code.env #writer·place place-def.routine code.calls-print-writer::place (place-thm.met 𝓤 𝓛 𝓜 𝓡)))
+unfolding tables_of
+write_spec 𝓤 𝓛 𝓜 𝓡 wired =
+    let 𝓣 = tables 𝓤 𝓛.H 𝓜 𝓡 𝓡.env in
+    entered 𝓤 𝓛.H (triple_of 𝓛 write.signature (write.spec 𝓛 𝓜.mem 𝓡.returns)) 𝓣.C 𝓣.Λ #writer·write code.function (code.unfolded 𝓤 𝓛.H 𝓜 𝓡 wired)
+    (write_meets 𝓛 𝓜.mem 𝓡.returns (tables_of 𝓤 𝓛.H 𝓜 𝓣)
+    (new-thm.met 𝓤 𝓛 𝓜 𝓡 (code.calls-print_writer::new 𝓡.env wired))
+    (put-thm.met 𝓤 𝓛 𝓜 𝓡 (code.calls-print_writer::put 𝓡.env wired))
+    (place-thm.met 𝓤 𝓛 𝓜 𝓡 (code.calls-print_writer::place 𝓡.env wired)))
