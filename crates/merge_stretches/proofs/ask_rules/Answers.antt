@@ -107,7 +107,7 @@ asked_both k v h =
     e.past (few k)
 
 pub returns-in-No-clause-verdict : goal.returns-in-No-clause-verdict
-returns-in-No-clause-verdict c = asked_both (goal.at.returns-in-No c).After-combine-all (verdict_of _) c.in-No.ensures
+returns-in-No-clause-verdict c = asked_both (goal.at.returns-in-No-clause-verdict c).After-combine-all _ c.in-No.ensures
 
 pub returns-in-Yes-clause-verdict : goal.returns-in-Yes-clause-verdict
-returns-in-Yes-clause-verdict c = asked_both (goal.at.returns-in-Yes c).After-combine-all (verdict_of _) c.in-Yes.ensures
+returns-in-Yes-clause-verdict c = asked_both (goal.at.returns-in-Yes-clause-verdict c).After-combine-all _ c.in-Yes.ensures
