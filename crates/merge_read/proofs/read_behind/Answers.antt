@@ -7,9 +7,9 @@ use Rattle.merge_read.proofs.read_behind.Goals as goal
 
 pub returns-then-text-gt-MAX_BYTES : goal.returns-then-text-gt-MAX_BYTES
 returns-then-text-gt-MAX_BYTES c = record {
-    result_value = answer_long Ours c.args.text.now c.if-text-gt-MAX_BYTES.true;
-    kept_behind = tt;
-  }
+  result_value = answer_long Ours c.args.text.now c.if-text-gt-MAX_BYTES.true;
+  kept_behind = tt;
+}
 
 pub ask_text-requires : goal.ask_text-requires
 ask_text-requires c =
