@@ -1,4 +1,5 @@
 -- The questions decide, or what deciding a sheet that passed them leaves.
+use borrow.Author.Rules.{rules}
 use mathlib.Core.Path.{◌≡◌, refl, ap}
 use Rattle.questions.specs.Questions.{Verdict, all_yes, verdict_of}
 use Rattle.sheet.specs.Lists.{WrittenLists, written_lists, given_by}
@@ -54,7 +55,7 @@ returns-2 c =
     (decision_reply c.decision_of.result) (fit_reply r.decide.result) c.decision_of.ensures _ r.decide.ensures
 
 pub decide_spec : {M : Type 1} → statement M
-decide_spec = tie.close (tie.spec (λ c κs. tt) (λ c κs. tt) (λ c. c.in-No.keys1) (λ c. c.in-Yes.keys2) decide_requires (λ c κs. tt)
+decide_spec = tie.close (tie.spec (λ c κs. tt) (λ c κs. tt) (λ c. search rules) (λ c. search rules) decide_requires (λ c κs. tt)
     (λ c. refl) (λ c. refl) returns
     (λ c. c.decide.auto.table)
     (λ c. c.decide.auto.ring)

@@ -1,4 +1,5 @@
 -- The questions decide, or what solving a sheet that passed them leaves.
+use borrow.Author.Rules.{rules}
 use mathlib.Core.Path.{◌≡◌, refl, ap}
 use Rattle.questions.specs.Questions.{Verdict, all_yes, verdict_of}
 use Rattle.sheet.specs.Lists.{WrittenLists, written_lists, given_by}
@@ -54,7 +55,7 @@ returns-2 c =
     (reply_of c.answered.result) (fit_reply r.solve.result) c.answered.ensures _ r.solve.ensures
 
 pub plan_spec : {M : Type 1} → statement M
-plan_spec = tie.close (tie.spec (λ c κs. tt) (λ c κs. tt) (λ c. c.in-No.keys1) (λ c. c.in-Yes.keys2) solve_requires (λ c κs. tt)
+plan_spec = tie.close (tie.spec (λ c κs. tt) (λ c κs. tt) (λ c. search rules) (λ c. search rules) solve_requires (λ c κs. tt)
     (λ c. refl) (λ c. refl) (λ c. refl) (λ c. refl) (λ c. refl) returns
     (λ c. c.solve.auto.table)
     (λ c. c.solve.auto.plan)

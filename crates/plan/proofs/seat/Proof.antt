@@ -1,4 +1,5 @@
 -- The questions decide, or what seating a sheet that passed them leaves.
+use borrow.Author.Rules.{rules}
 use mathlib.Core.Path.{◌≡◌, refl, sym, ap, ◌∙◌}
 use Rattle.questions.specs.Questions.{Verdict, all_yes, verdict_of}
 use Rattle.sheet.specs.Lists.{WrittenLists, written_lists, given_by}
@@ -60,7 +61,7 @@ returns-2 c =
     )
 
 pub seat_spec : {M : Type 1} → statement M
-seat_spec = tie.close (tie.spec (λ c κs. tt) (λ c κs. tt) (λ c. c.in-No.keys1) (λ c. c.in-Yes.keys2) seat_requires (λ c κs. tt)
+seat_spec = tie.close (tie.spec (λ c κs. tt) (λ c κs. tt) (λ c. search rules) (λ c. search rules) seat_requires (λ c κs. tt)
     (λ c. refl) (λ c. refl) (λ c. refl) (λ c. refl) returns
     (λ c. c.seat.auto.table)
     (λ c. c.seat.auto.plan)

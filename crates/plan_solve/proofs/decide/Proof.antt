@@ -1,4 +1,5 @@
 -- The pass's outcome decides: where it stopped a ring is found, where it finished its table stands.
+use borrow.Author.Rules.{rules}
 use mathlib.Core.Path.{◌∙◌}
 use mathlib.Core.List.{List}
 use Prim.Native.Nat.{ℕ, ◌≤◌}
@@ -61,7 +62,7 @@ returns-2 c =
     fits_left (lists st) _ st.requires (room st) (holds st).0 d.close_limits-outcome.result (table d.before.before) d.close_limits-outcome.ensures c.in-Finished.is (ring st)
 
 pub decide_spec : {M : Type 1} → statement M
-decide_spec = tie.close (tie.spec close_limits_requires (λ c. c.in-Stopped.keys1) find_ring_requires (λ c. c.in-Finished.keys2)
+decide_spec = tie.close (tie.spec close_limits_requires (λ c. search rules) find_ring_requires (λ c. search rules)
     (λ c. let f = c in f.find_ring-n.auto.table
     ∙ f.close_limits-outcome.auto.table)
     (λ c. c.find_ring-n.auto.ring) returns

@@ -1,4 +1,5 @@
 -- The pass's outcome decides: where it stopped nothing is seated, where it finished seats and windows are filled in by its table.
+use borrow.Author.Rules.{rules}
 use mathlib.Core.Path.{◌≡◌}
 use mathlib.Core.List.{List}
 use Prim.Native.Nat.{◌≤◌}
@@ -91,7 +92,7 @@ returns-2 c =
     )
 
 pub seat_spec : {M : Type 1} → statement M
-seat_spec = tie.close (tie.spec close_limits_requires (λ c. c.in-Stopped.keys1) (λ c. c.in-Finished.keys2)
+seat_spec = tie.close (tie.spec close_limits_requires (λ c. search rules) (λ c. search rules)
     (λ c κs. let st = start (closed c) in span_bound (lists st) st.requires.sheet) fill_plan_requires
     (λ c. c.close_limits-outcome.auto.table) returns
     (λ c. (closed c.before.before.before.before.before.before.before.before.before.before.before

@@ -1,4 +1,5 @@
 -- Deciding says which it is: where the sheet fits, seats and windows are filled in by the table that deciding left.
+use borrow.Author.Rules.{rules}
 use mathlib.Core.Path.{◌≡◌, ap, subst}
 use mathlib.Core.List.{List}
 use Prim.Native.Nat.{ℕ, ◌≤◌}
@@ -109,7 +110,7 @@ returns-2 c =
     (p.fill_plan.ensures (given (lists st)) (units_ready b.before.before.before.before.before.before.before.before.before.before)) (ring st) (ring_left d) f.3
 
 pub solve_spec : {M : Type 1} → statement M
-solve_spec = tie.close (tie.spec decide_requires (λ c. c.in-None.keys1) (λ c. c.in-Fits.keys2)
+solve_spec = tie.close (tie.spec decide_requires (λ c. search rules) (λ c. search rules)
     (λ c κs. let st = start (decided c) in span_bound (lists st) st.requires.sheet) fill_plan_requires
     (λ c. c.decide-fit.auto.table)
     (λ c. c.decide-fit.auto.ring) returns
