@@ -1,0 +1,16 @@
+-- The number of what was found.
+use Rattle.std.proofs.Common.{◌≡◌, ℕ, List, ap, get_or, ◌∙◌}
+use Rattle.read_form.specs.declared.Kind.{Kind}
+use Rattle.read_places.specs.Places.{spots, no_spot, sought}
+use Rattle.read_places.specs.PlacesLaws.{number_in, sought_number}
+use Rattle.read_places.proofs.line_number.Goals as goal
+
+number_is : (k : Kind) (text : List ℕ) (j : ℕ) → number_in (sought k text j) ≡ (get_or (spots k text) j no_spot).number
+unfolding sought
+number_is k text j = sought_number (spots k text) j
+
+pub returns-in-At : goal.returns-in-At
+returns-in-At c = ap number_in c.in-At.ensures ∙ number_is _ _ _
+
+pub returns-in-Past : goal.returns-in-Past
+returns-in-Past c = ap number_in c.in-Past.ensures ∙ number_is _ _ _
