@@ -52,6 +52,6 @@ returns c =
     (rw c.shortfall.ensures at c.put_one_number.ensures))
 
 pub put_none_spec : {M : Type 1} → statement M
-put_none_spec = tie.close (tie.spec (λ c. refl) put_no_number_requires put_steps_requires (λ c. refl)
+put_none_spec = tie.close (tie.spec put_no_number_requires put_steps_requires
     (λ c κs. c.requires.0)
-    (λ c. refl) put_one_number_requires same_length returns)
+    put_one_number_requires same_length returns)

@@ -1,6 +1,6 @@
 -- Forward the limit's positive part, backward its negative part: what is handed over is the line of the step.
 use native.Mathlib.Omega.{arith}
-use mathlib.Core.Path.{refl, ◌≡◌, sym, ap, ap₂, subst, ◌∙◌}
+use mathlib.Core.Path.{◌≡◌, sym, ap, ap₂, subst, ◌∙◌}
 use mathlib.Core.List.{List}
 use Prim.Native.Nat.{ℕ}
 use borrow.Author.Rules.{rules}
@@ -40,7 +40,7 @@ forward : (c : tie.After-slot_before)
 forward c =
     let s = forward_start c in
     let e = c.entry_at-limit in
-    let limit = c.above.ensures ∙ ap up (to_z-of_z {w = w16} (record { sfits = e.type-inv }) ∙ e.ensures) in
+    let limit = c.above.ensures ∙ ap up (to_z-of_z {w = w16} (record { sfits = e.type_inv }) ∙ e.ensures) in
     same at_most_line limit c.slot_after.ensures c.slot_before.ensures
     ∙ sym (step_forward (limits s) s.args.a.0 s.args.b.0 c.if-a-b.true)
 
@@ -54,7 +54,7 @@ backward : (c : tie.After-slot_before-2)
 backward c =
     let s = backward_start c in
     let e = c.entry_at-limit in
-    let limit = c.below.ensures ∙ ap dn (to_z-of_z {w = w16} (record { sfits = e.type-inv }) ∙ e.ensures) in
+    let limit = c.below.ensures ∙ ap dn (to_z-of_z {w = w16} (record { sfits = e.type_inv }) ∙ e.ensures) in
     same at_least_line limit c.slot_after-2.ensures c.slot_before-2.ensures
     ∙ sym (step_backward (limits s) s.args.a.0 s.args.b.0 c.if-a-b.false)
 
@@ -89,5 +89,5 @@ returns-2 c =
     subst (λ l. Written a.page.now a.at l put.new.page put.result) (backward c.before.before.before) put.ensures
 
 pub put_step_spec : {M : Type 1} → statement M
-put_step_spec = tie.close (tie.spec entry_at_requires (λ c. refl) (λ c κs. tt) (λ c κs. omega arith) (λ c κs. tt) put_bound_requires (λ c. search rules) returns
-    (λ c. refl) (λ c κs. tt) (λ c κs. omega arith) (λ c κs. tt) put_bound_requires_2 (λ c. search rules) returns-2)
+put_step_spec = tie.close (tie.spec entry_at_requires (λ c κs. tt) (λ c κs. omega arith) (λ c κs. tt) put_bound_requires (λ c. search rules) returns
+    (λ c κs. tt) (λ c κs. omega arith) (λ c κs. tt) put_bound_requires_2 (λ c. search rules) returns-2)

@@ -36,7 +36,7 @@ step c =
     limits s (boundary s i) (boundary s (i + 1))
 
 step_is : (c : tie.After-entry_at-limit invariant-loop decreases-loop) → to_z w16 (of_z w16 c.entry_at-limit.result) ≡ step c
-step_is c = to_z-of_z {w = w16} (record { sfits = c.entry_at-limit.type-inv }) ∙ c.entry_at-limit.ensures
+step_is c = to_z-of_z {w = w16} (record { sfits = c.entry_at-limit.type_inv }) ∙ c.entry_at-limit.ensures
 
 step_small : (c : tie.After-entry_at-limit invariant-loop decreases-loop) → (up (step c) ≤ max_count) × (dn (step c) ≤ max_count)
 step_small c =
@@ -52,7 +52,7 @@ closing c =
     limits s (boundary s (length s.args.ring.now - 1)) (boundary s 0)
 
 closing_is : (c : tie.After-entry_at-limit-2 invariant-loop decreases-loop) → to_z w16 (of_z w16 c.entry_at-limit-2.result) ≡ closing c
-closing_is c = to_z-of_z {w = w16} (record { sfits = c.entry_at-limit-2.type-inv }) ∙ c.entry_at-limit-2.ensures
+closing_is c = to_z-of_z {w = w16} (record { sfits = c.entry_at-limit-2.type_inv }) ∙ c.entry_at-limit-2.ensures
 
 closing_small : (c : tie.After-entry_at-limit-2 invariant-loop decreases-loop) → (up (closing c) ≤ max_count) × (dn (closing c) ≤ max_count)
 closing_small c =

@@ -26,8 +26,8 @@ put_fits_spec = tie.close (tie.spec
     (λ c. omega arith)
     (λ c κs. pending_room (begun c.before.before.before.before.before.before))
     (λ c κs.
-    let s = c.before.before.before.before.before.before.before.before in
-    ((s.requires.0.0, s.requires.0.2), pending_room (pending_after (begun s) c.put_one_number-next.ensures)))
+    let s = c in
+    ((s.requires.0.0, s.requires.0.2), pending_room (pending_after (begun c.before.before.before.before.before.before.before.before.before.before) c.put_one_number-next.ensures)))
     (λ c. search rules)
     (λ c. pending_nothing (pending_after (pending_after (begun
     c.before.before.before.before.before.before.before.before.before.before.before.before.before)

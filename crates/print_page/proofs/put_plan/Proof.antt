@@ -66,7 +66,7 @@ returns c =
     c.put_units-next2.ensures) c.put_slots.ensures)
 
 pub put_plan_spec : {M : Type 1} → statement M
-put_plan_spec = tie.close (tie.spec (λ c. refl) (λ c κs. (refl, c.requires.0.units)) (λ c. refl)
-    (λ c. omega arith) (λ c. refl) put_one_number_requires put_units_requires (λ c. sym
+put_plan_spec = tie.close (tie.spec (λ c. refl) (λ c κs. (refl, c.requires.0.units))
+    (λ c. omega arith) put_one_number_requires put_units_requires (λ c. sym
     c.count_slots.auto.counts)
     put_slots_requires same_length returns)

@@ -59,7 +59,7 @@ next c =
 put_unit_requires : tie.Need-put_unit-next-requires invariant-loop decreases-loop
 put_unit_requires c κs =
     let turn : tie.In-loop-j invariant-loop decreases-loop = c.before.before.before.before in
-    ((start turn.before).pre.0.1.each turn.loop-j.j turn.loop-j-test.true, pending_room (next turn))
+    ((start turn.before).requires.0.1.each turn.loop-j.j turn.loop-j-test.true, pending_room (next turn))
 
 loop-again : tie.Need-loop-j-preserved invariant-loop decreases-loop
 loop-again c =
