@@ -1,0 +1,9 @@
+-- The call of merge, with its reply as numbers.
+use Rattle.std.proofs.Common.{ap, ◌∙◌}
+use Rattle.tugrokt_replies.specs.Numbers.{reading_of}
+use Rattle.tugrokt_merging.proofs.merge.Goals as goal
+
+pub returns : goal.returns
+returns c =
+    let called = c.merge-reply in
+    record { told = c.numbers_of.ensures ∙ ap reading_of called.ensures.result_value; left = called.ensures.high_after }
