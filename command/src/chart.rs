@@ -968,7 +968,7 @@ mod tests {
     }
 
     fn answered(sheet: &Sheet) -> Answer {
-        tugrokt::told::plan(&sheet).expect("a sheet")
+        tugrokt::told::plan(sheet).expect("a sheet")
     }
 
     fn charted(sheet: &Sheet) -> Vec<Element> {

@@ -20,10 +20,10 @@ pub fn explain(name: &str, house: House, text: &[u8], sheet: &Sheet, page: &[u8]
         return format!("{name}: no plan is lawful, since these limits contradict each other:\n{}", told.none(&ring));
     }
     if page.starts_with(b"(answer fits ") {
-        let Ok(Decision::Fits(counts)) = told::decide(&sheet) else { return String::new() };
+        let Ok(Decision::Fits(counts)) = told::decide(sheet) else { return String::new() };
         return format!("{name}: it fits.\n{}", told.fits(&counts));
     }
-    let Ok(Answer::Plan(plan)) = told::plan(&sheet) else { return String::new() };
+    let Ok(Answer::Plan(plan)) = told::plan(sheet) else { return String::new() };
     format!("{name}: {}.\n{}", told.shares(&plan), told.plan(&plan))
 }
 

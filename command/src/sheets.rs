@@ -226,7 +226,7 @@ fn tell(name: &str, text: &[u8], sheet: &Sheet, asked: &Asked, outcome: &mut Out
     let Some(path) = &asked.chart else { return };
     // Another call may find another ring, so that of the page is drawn.
     let shown = Ring::on_page(sheet, &outcome.page).map(Answer::None);
-    if let Some(answer) = shown.or_else(|| told::plan(&sheet).ok()) {
+    if let Some(answer) = shown.or_else(|| told::plan(sheet).ok()) {
         outcome.note(put_file(path, chart(name, sheet, &answer).as_bytes()));
     }
 }

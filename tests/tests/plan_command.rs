@@ -205,7 +205,7 @@ fn many_at_once() {
 /// A small tree with the command and a kit whose `rt run wave` runs this script.
 fn tree(name: &str, check: &str) -> PathBuf {
     let _alone = STARTING.lock().unwrap();
-    let root = outside(&format!("plan {name}"));
+    let root = outside(&format!("plan/{name}"));
     fs::create_dir_all(root.join("crates/low")).unwrap();
     fs::create_dir_all(root.join("crates/wave/out")).unwrap();
     fs::copy(Path::new(env!("ROOT")).join("plan"), root.join("plan")).unwrap();

@@ -146,7 +146,8 @@ fn replies(lists: &Lists) -> [(usize, usize); 6] {
 
 /// The refusals that the calls of a sheet hand out, in the same order.
 fn handed_out(sheet: &Sheet) -> [Option<Refusal>; 6] {
-    [told::plan(&sheet).err(), told::decide(&sheet).err(), told::seat(&sheet).err(), told::page(&sheet).err(), told::write(&sheet).err(), told::write_partner(&sheet).err()]
+    let (planned, decided, seated) = (told::plan(sheet).err(), told::decide(sheet).err(), told::seat(sheet).err());
+    [planned, decided, seated, told::page(sheet).err(), told::write(sheet).err(), told::write_partner(sheet).err()]
 }
 
 /// The refusals of lists have the place that the model finds, and number and line of the entries' replies.

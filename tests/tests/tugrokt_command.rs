@@ -53,7 +53,7 @@ fn run(name: &str, words: &[&str], file: &str, text: &[u8]) -> (i32, String, Str
 
 /// A folder of a test's own with these files.
 fn folder(name: &str, files: &[(&str, &str)]) -> PathBuf {
-    let folder = outside(&format!("tugrokt {name}"));
+    let folder = outside(&format!("tugrokt/{name}"));
     for (name, text) in files {
         fs::write(folder.join(name), text).unwrap();
     }
@@ -145,7 +145,7 @@ fn two_sheets() {
     let folder = folder("two sheets", &[("one", PAIR.0), ("two", PAIR.1), ("broken", "(sheet 49)\n")]);
     let absolute = folder.join("two");
     let tugrokt = |words: &[&str]| end(spawn(script("tugrokt").args(words).current_dir(&folder)));
-    for (first, second) in [("one", "two"), ("./one", "../tugrokt two sheets/two"), ("one", absolute.to_str().unwrap())] {
+    for (first, second) in [("one", "two"), ("./one", "../two sheets/two"), ("one", absolute.to_str().unwrap())] {
         assert_eq!(tugrokt(&["merge", first, second]), (0, MERGED.into(), String::new()));
         assert_eq!(tugrokt(&["line", "40", first, second]), (0, "(unit 40 (window 2 3))\n".into(), String::new()));
     }

@@ -66,7 +66,7 @@ pub fn run<S: AsRef<OsStr>>(words: &[S], text: &[u8]) -> Ended {
 
 /// A folder of a test's own, with nothing in it. Some lay links down there.
 pub fn folder(name: &str) -> PathBuf {
-    outside(&format!("command {name}"))
+    outside(&format!("command/{name}"))
 }
 
 /// The same with these files.
