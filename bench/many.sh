@@ -11,8 +11,8 @@ cargo build --offline --release --quiet
 bench=$PWD/${CARGO_TARGET_DIR:-target}/release/bench
 ../tugrokt --version >/dev/null
 command=$PWD/../target/bin/tugrokt
-program=$PWD/../target/bin/wave
-[ -x "$program" ] || (cd .. && rt check wave >/dev/null)
+program=$(cd ../crates/wave && pwd)/out/wave
+[ -x "$program" ] || (cd ../crates/wave && rt run </dev/null >/dev/null)
 work=$(mktemp -d)
 trap 'rm -rf "$work"' EXIT
 

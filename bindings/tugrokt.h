@@ -45,7 +45,7 @@
  *
  * A refused call changes nothing that it was lent. Places of a room past those that an answer needs never change.
  *
- * Link target/staticlib/libtugrokt.a, which `rt staticlib tugrokt` makes.
+ * Link crates/tugrokt/out/libtugrokt.a, which `rt lib` makes in crates/tugrokt.
  */
 #ifndef TUGROKT_H
 #define TUGROKT_H

@@ -16,28 +16,28 @@ KINDS = ["Unprintable", "Note", "Sheet", "Unit", "Rule", "Other"]
 
 
 def pieces(name):
-    """A form: its words, "number" and "anyBytes"."""
+    """A form: its words, "number" and "any_bytes"."""
     definition = re.search(r"^%s =(.*?)\n\n" % name, forms_text + "\n\n", re.S | re.M).group(1)
-    return [w or p for w, p in re.findall(r'text "([^"]*)"|(number|anyBytes)', definition)]
+    return [w or p for w, p in re.findall(r'text "([^"]*)"|(number|any_bytes)', definition)]
 
 
 def of_house(name, house):
     """A form's name: itself, or what a form by the house is for this one."""
-    return re.search(r"^%s %s = (\w+)" % (name, house), forms_text, re.M).group(1) if name.endswith("Of") else name
+    return re.search(r"^%s %s = (\w+)" % (name, house), forms_text, re.M).group(1) if name.endswith("_of") else name
 
 
 def shapes(house):
-    return [(kind, of_house(name, house)) for kind, name in re.findall(r"shape (\w+) \(?(\w+)(?: h\))?", kinds_text.split("shapesOf h =")[1].split("\n\n")[0])]
+    return [(kind, of_house(name, house)) for kind, name in re.findall(r"shape (\w+) \(?(\w+)(?: h\))?", kinds_text.split("shapes_of h =")[1].split("\n\n")[0])]
 
 
 def signs(name):
     """A form sign by sign: bytes, "digit" and then "more" for a number, "free" for any bytes."""
-    kept = {"number": ("digit", "more"), "anyBytes": ("free",)}
+    kept = {"number": ("digit", "more"), "any_bytes": ("free",)}
     return tuple(s for p in pieces(name) for s in kept.get(p, p))
 
 
 def sample(name):
-    return "".join({"number": "0", "anyBytes": ""}.get(p, p) for p in pieces(name))
+    return "".join({"number": "0", "any_bytes": ""}.get(p, p) for p in pieces(name))
 
 
 def over(ways, byte):

@@ -1,7 +1,6 @@
 //! Links the library by which the tests call the network, and tells the tests where the planner's library and the program are.
 //!
-//! The program is `../target/bin/wave`, brought up to date by `rt check wave`. Where `TUGROKT_WAVE` names a program, that one is
-//! run.
+//! The program is `../crates/wave/out/wave`, brought up to date by `rt run`. Where `TUGROKT_WAVE` names a program, that one is run.
 
 #[path = "../bindings/staticlib.rs"]
 mod staticlib;
@@ -21,12 +20,9 @@ fn main() {
     println!("cargo:rustc-env=ROOT={}", root.display());
 }
 
-/// The program of the repository. `rt check` proves and links it again only where something has changed.
+/// The program of the repository. `rt run` proves and links it, and runs it on an empty text.
 fn built(root: &Path) -> PathBuf {
-    println!("cargo:rerun-if-changed={}", root.join("crates").display());
-    println!("cargo:rerun-if-changed={}", root.join("crates.txt").display());
-    let program = root.join("target/bin/wave");
+    let program = staticlib::made(root, "wave", "wave", &["run"]);
     println!("cargo:rerun-if-changed={}", program.display());
-    staticlib::rt(root, &["check", "wave"]);
     program
 }

@@ -1,8 +1,8 @@
 /*
  * Turns a sheet from standard input into the partner's form, or a partner's sheet into ours.
  *
- *     rt staticlib tugrokt
- *     cc -I bindings bindings/examples/convert.c target/staticlib/libtugrokt.a -o convert
+ *     (cd crates/tugrokt && rt lib)
+ *     cc -I bindings bindings/examples/convert.c crates/tugrokt/out/libtugrokt.a -o convert
  *     ./convert to-partner <SHEET
  *     ./convert from-partner <SHEET
  */

@@ -5,7 +5,7 @@
 
 use std::io::{self, Read, Write};
 use std::process::ExitCode;
-use tugrokt::Sheet;
+use tugrokt::told;
 
 // How it ends, as the command does; with 0 for a sheet in the other form.
 const REFUSED: u8 = 2;
@@ -23,8 +23,8 @@ fn run(to_partner: bool) -> io::Result<u8> {
     // One byte more than the longest text is enough to have a longer one refused.
     io::stdin().lock().take(tugrokt::MAX_BYTES as u64 + 1).read_to_end(&mut text)?;
     let converted = match to_partner {
-        true => Sheet::read(&text).and_then(|sheet| sheet.write_partner()),
-        false => Sheet::read_partner(&text).and_then(|sheet| sheet.write()),
+        true => told::read(&text).and_then(|sheet| told::write_partner(&sheet)),
+        false => told::read_partner(&text).and_then(|sheet| told::write(&sheet)),
     };
     let (page, status) = match converted {
         Ok(page) => (page, 0),

@@ -1,8 +1,8 @@
 /*
  * Reads a sheet from standard input, decides it, and prints how few and how many deliveries each slot can hold, or the ring.
  *
- *     rt staticlib tugrokt
- *     cc -I bindings bindings/examples/decide.c target/staticlib/libtugrokt.a -o decide
+ *     (cd crates/tugrokt && rt lib)
+ *     cc -I bindings bindings/examples/decide.c crates/tugrokt/out/libtugrokt.a -o decide
  *     ./decide <SHEET
  */
 #include <signal.h>

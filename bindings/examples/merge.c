@@ -1,8 +1,8 @@
 /*
  * Merges the sheets of two files and prints the merged sheet, or the line of one of its units as it stands in its file.
  *
- *     rt staticlib tugrokt
- *     cc -I bindings bindings/examples/merge.c target/staticlib/libtugrokt.a -o merge
+ *     (cd crates/tugrokt && rt lib)
+ *     cc -I bindings bindings/examples/merge.c crates/tugrokt/out/libtugrokt.a -o merge
  *     ./merge FIRST SECOND
  *     ./merge FIRST SECOND LOADER
  */

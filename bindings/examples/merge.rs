@@ -7,6 +7,7 @@ use std::ffi::OsString;
 use std::fs::File;
 use std::io::{self, Read, Write};
 use std::process::ExitCode;
+use tugrokt::told;
 
 // How it ends, as the command does; with 0 for a merged sheet or a line.
 const REFUSED: u8 = 2;
@@ -36,9 +37,9 @@ fn loader(word: &OsString) -> Option<u16> {
 fn run(names: [&OsString; 2], wanted: Option<u16>) -> io::Result<u8> {
     let (one, two) = (read_file(names[0])?, read_file(names[1])?);
     let shown = match wanted {
-        None => tugrokt::merge(&one, &two).and_then(|sheet| sheet.write()),
+        None => told::merge(&one, &two).and_then(|sheet| told::write(&sheet)),
         // The line is a part of one of the texts.
-        Some(loader) => tugrokt::line_of(&one, &two, loader).map(|line| [line, b"\n"].concat()),
+        Some(loader) => told::line_of(&one, &two, loader).map(|line| [line, b"\n"].concat()),
     };
     let (page, status) = match shown {
         Ok(page) => (page, 0),

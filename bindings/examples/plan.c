@@ -1,8 +1,8 @@
 /*
  * Reads a sheet from standard input, plans it, and prints each unit's slot, or the ring.
  *
- *     rt staticlib tugrokt
- *     cc -I bindings bindings/examples/plan.c target/staticlib/libtugrokt.a -o plan
+ *     (cd crates/tugrokt && rt lib)
+ *     cc -I bindings bindings/examples/plan.c crates/tugrokt/out/libtugrokt.a -o plan
  *     ./plan <SHEET
  */
 #include <signal.h>

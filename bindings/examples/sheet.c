@@ -1,8 +1,8 @@
 /*
  * Reads a sheet from standard input and prints its answer page.
  *
- *     rt staticlib tugrokt
- *     cc -I bindings bindings/examples/sheet.c target/staticlib/libtugrokt.a -o sheet
+ *     (cd crates/tugrokt && rt lib)
+ *     cc -I bindings bindings/examples/sheet.c crates/tugrokt/out/libtugrokt.a -o sheet
  *     ./sheet <SHEET
  */
 #include <signal.h>

@@ -4,7 +4,7 @@
 
 use std::io::{self, Read, Write};
 use std::process::ExitCode;
-use tugrokt::Sheet;
+use tugrokt::told;
 
 // How it ends, as the command does; with 0 for a plan.
 const NONE: u8 = 1;
@@ -22,7 +22,7 @@ fn run() -> io::Result<u8> {
     let mut text = Vec::new();
     // One byte more than the longest text is enough to have a longer one refused.
     io::stdin().lock().take(tugrokt::MAX_BYTES as u64 + 1).read_to_end(&mut text)?;
-    let (page, status) = match Sheet::read(&text).and_then(|sheet| sheet.page()) {
+    let (page, status) = match told::read(&text).and_then(|sheet| told::page(&sheet)) {
         Ok(page) if page.starts_with(b"(answer none)") => (page, NONE),
         Ok(page) => (page, 0),
         Err(refusal) => {

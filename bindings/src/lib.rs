@@ -9,7 +9,7 @@
 //! assert_eq!(sheet.loader, [4017]);
 //! match sheet.plan()? {
 //!     tugrokt::Answer::Plan(plan) => assert_eq!(plan.slot, [2]),
-//!     tugrokt::Answer::None(ring) => println!("no plan: {ring:?}"),
+//!     tugrokt::Answer::None { ring } => println!("no plan: {ring:?}"),
 //! }
 //! # Ok(())
 //! # }
@@ -21,7 +21,7 @@
 //! # let sheet = tugrokt::Sheet::read(b"(sheet 3)\n(unit 4017 (window 1 3))\n(rule (slots 2 3) (count 1 1))\n")?;
 //! match sheet.decide()? {
 //!     tugrokt::Decision::Fits(counts) => assert_eq!([1, 2, 3].map(|slot| counts.range(slot, slot)), [(0, 0), (0, 1), (0, 1)]),
-//!     tugrokt::Decision::None(ring) => println!("no plan: {ring:?}"),
+//!     tugrokt::Decision::None { ring } => println!("no plan: {ring:?}"),
 //! }
 //! # Ok(())
 //! # }
@@ -50,8 +50,8 @@
 //! ```
 //! [`answer`] gives the whole page to a sheet's text. `examples/` has whole programs, and the same in C.
 //!
-//! A refused call says in words what would have to be so, and of what ([`Refusal`]); a sheet without a plan has limits that contradict each other,
-//! each with what sets it ([`Ring`]).
+//! A refusal is the number of a question and a line, and a ring is its boundaries. [`told`] has the same calls with more to tell: a refusal in
+//! words, with what it is of, and of a sheet without a plan the limits that contradict each other, each with what sets it.
 
 #![warn(missing_docs)]
 
@@ -59,9 +59,7 @@ mod border;
 pub mod entry;
 mod refusal;
 mod ring;
-
-pub use refusal::{Place, Refusal};
-pub use ring::{Bound, Limit, Ring, Source};
+pub mod told;
 
 // The sheet's sizes, as the planner's sources have them (`tests/tests/declarations.rs` holds them to these). Rooms and pages of such
 // lengths refuse no sheet.
@@ -96,6 +94,31 @@ pub fn carried_place(span: usize) -> usize {
 /// The number of boundaries of a span, 0 to the end of the carried place: the numbers in a row of the table.
 pub fn boundaries(span: usize) -> usize {
     carried_place(span).saturating_add(1)
+}
+
+/// A call that was refused: the number of the question that was answered no, and the line that it names, or 0.
+#[derive(Clone, Copy, Debug, PartialEq, Eq)]
+pub struct Refusal {
+    /// The number of the question.
+    pub question: usize,
+    /// For 17 the place of the unit, for 18 that of the rule in its lists, counted from 1.
+    pub line: usize,
+}
+
+impl std::fmt::Display for Refusal {
+    fn fmt(&self, f: &mut std::fmt::Formatter) -> std::fmt::Result {
+        write!(f, "(refused {} (line {}))", self.question, self.line)
+    }
+}
+
+impl std::error::Error for Refusal {}
+
+/// The refusal of a reply with this number and line, if it is one.
+fn unless_refused(number: usize, line: usize) -> Result<(), Refusal> {
+    match number {
+        0 => Ok(()),
+        question => Err(Refusal { question, line }),
+    }
 }
 
 /// A sheet as parallel lists: a loader number and a window for each unit, a stretch and a count for each rule.
@@ -142,8 +165,11 @@ pub enum Query {
 pub enum Answer {
     /// The printed plan.
     Plan(Plan),
-    /// No plan is lawful, since these limits contradict each other.
-    None(Ring),
+    /// No plan is lawful: the limits of the steps round this list of boundaries add up to less than 0.
+    None {
+        /// The boundaries, from the lowest on. Boundary b is the end of slot b.
+        ring: Vec<u16>,
+    },
 }
 
 /// Whether a sheet has a plan.
@@ -151,8 +177,11 @@ pub enum Answer {
 pub enum Decision {
     /// Some plan is lawful, and the counts of all lawful plans are these.
     Fits(Counts),
-    /// No plan is lawful, as in [`Answer::None`].
-    None(Ring),
+    /// No plan is lawful.
+    None {
+        /// The ring as in [`Answer::None`].
+        ring: Vec<u16>,
+    },
 }
 
 /// How few and how many units lawful plans have in each stretch of slots.
@@ -306,7 +335,7 @@ impl Sheet {
             high: &mut high,
         };
         let reply = fills(lists);
-        refusal::of_text(reply.number, reply.line)?;
+        unless_refused(reply.number, reply.line)?;
         for list in [&mut loader, &mut first, &mut last] {
             list.truncate(reply.units);
         }
@@ -320,16 +349,16 @@ impl Sheet {
     pub fn plan(&self) -> Result<Answer, Refusal> {
         let mut own = OwnRooms::new(self);
         let reply = entry::plan(self.lists(), own.lend());
-        refusal::of_lists(reply.number, reply.line, self.lists())?;
-        Ok(if reply.length > 0 { Answer::None(own.into_ring(self, reply.length)) } else { Answer::Plan(own.into_plan(self.span)) })
+        unless_refused(reply.number, reply.line)?;
+        Ok(if reply.length > 0 { Answer::None { ring: own.into_ring(reply.length) } } else { Answer::Plan(own.into_plan(self.span)) })
     }
 
     /// Decides whether the sheet has a plan, and how few and how many units each stretch can hold. No unit is seated.
     pub fn decide(&self) -> Result<Decision, Refusal> {
         let mut own = OwnRooms::new(self);
         let reply = entry::decide(self.lists(), entry::DecideRooms { table: &mut own.table, ring: &mut own.ring });
-        refusal::of_lists(reply.number, reply.line, self.lists())?;
-        Ok(if reply.length > 0 { Decision::None(own.into_ring(self, reply.length)) } else { Decision::Fits(Counts { table: own.table, span: self.span }) })
+        unless_refused(reply.number, reply.line)?;
+        Ok(if reply.length > 0 { Decision::None { ring: own.into_ring(reply.length) } } else { Decision::Fits(Counts { table: own.table, span: self.span }) })
     }
 
     /// Seats the units of a sheet that fits: the plan that [`Sheet::plan`] gives, with the number of units that were looked at, or nothing
@@ -354,7 +383,7 @@ impl Sheet {
         let mut own = OwnRooms::new(self);
         let OwnRooms { table, plan, earliest, latest, .. } = &mut own;
         let reply = entry::seat(self.lists(), entry::SeatRooms { table, plan, earliest, latest });
-        refusal::of_lists(reply.number, reply.line, self.lists())?;
+        unless_refused(reply.number, reply.line)?;
         Ok((reply.planned == 1).then(|| Seated { plan: own.into_plan(self.span), looked: reply.looked }))
     }
 
@@ -363,7 +392,7 @@ impl Sheet {
         let mut own = OwnRooms::new(self);
         let mut page = vec![0; MAX_PAGE];
         let reply = entry::print(self.lists(), own.lend(), &mut page, 0);
-        refusal::of_lists(reply.number, reply.line, self.lists())?;
+        unless_refused(reply.number, reply.line)?;
         page.truncate(reply.place);
         Ok(page)
     }
@@ -384,7 +413,7 @@ impl Sheet {
     /// assert_eq!(sheet.write_partner(), Ok(b"(day 7)\n(job 4017 (start 3) (hours 2))\n".to_vec()));
     /// sheet.add_unit(212, 6, 8);
     /// // The second unit may be carried.
-    /// assert_eq!(sheet.write_partner(), Err(tugrokt::Refusal::MayBeCarried(tugrokt::Place::Unit(1))));
+    /// assert_eq!(sheet.write_partner(), Err(tugrokt::Refusal { question: 17, line: 2 }));
     /// ```
     pub fn write_partner(&self) -> Result<Vec<u8>, Refusal> {
         self.write_by(entry::write_partner)
@@ -393,7 +422,7 @@ impl Sheet {
     fn write_by(&self, writes: fn(entry::Lists, &mut [u8], usize) -> entry::Writing) -> Result<Vec<u8>, Refusal> {
         let mut page = vec![0; MAX_TEXT];
         let reply = writes(self.lists(), &mut page, 0);
-        refusal::of_lists(reply.number, reply.line, self.lists())?;
+        unless_refused(reply.number, reply.line)?;
         page.truncate(reply.place);
         Ok(page)
     }
@@ -431,7 +460,7 @@ pub fn answer(house: House, query: Query, text: &[u8]) -> Vec<u8> {
 ///
 /// ```
 /// let (one, two) = (b"(sheet 4)\n(unit 12 (window 1 3))\n", b"(sheet 4)\n(note)\n(unit 12 (window 1 4))\n");
-/// assert_eq!(tugrokt::merge(one, two), Err(tugrokt::Refusal::LoaderInBoth(tugrokt::Place::Line(3))));
+/// assert_eq!(tugrokt::merge(one, two), Err(tugrokt::Refusal { question: 20, line: 3 }));
 /// ```
 pub fn merge(one: &[u8], two: &[u8]) -> Result<Sheet, Refusal> {
     Sheet::filled_by(|lists| entry::merge(one, two, lists))
@@ -443,11 +472,11 @@ pub fn merge(one: &[u8], two: &[u8]) -> Result<Sheet, Refusal> {
 /// ```
 /// let (one, two) = (b"(sheet 4)\n(unit 4017 (window 1 3))\n", b"(sheet 4)\n(unit 40 (window 1 4))\n");
 /// assert_eq!(tugrokt::line_of(one, two, 40), Ok(&two[10..32]));
-/// assert_eq!(tugrokt::line_of(one, two, 401), Err(tugrokt::Refusal::UnknownLoader));
+/// assert_eq!(tugrokt::line_of(one, two, 401), Err(tugrokt::Refusal { question: 27, line: 0 }));
 /// ```
 pub fn line_of<'a>(one: &'a [u8], two: &'a [u8], loader: u16) -> Result<&'a [u8], Refusal> {
     let entry::Line { number, line, sheet, start, length } = entry::line_of(one, two, loader);
-    refusal::of_text(number, line)?;
+    unless_refused(number, line)?;
     let text = if sheet == 1 { one } else { two };
     Ok(&text[start..start + length])
 }
@@ -486,9 +515,9 @@ impl OwnRooms {
     }
 
     /// What a ring of this length leaves.
-    fn into_ring(mut self, sheet: &Sheet, length: usize) -> Ring {
+    fn into_ring(mut self, length: usize) -> Vec<u16> {
         self.ring.truncate(length);
-        Ring::of(sheet, self.ring)
+        self.ring
     }
 
     /// What a plan leaves.

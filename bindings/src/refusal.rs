@@ -32,15 +32,15 @@ impl fmt::Display for Place {
 /// call asks them.
 ///
 /// ```
-/// use tugrokt::{Place, Refusal, Sheet};
-/// let refusal = Sheet::read(b"(sheet 4)\n(unit 1 (window 4 3))\n").unwrap_err();
+/// use tugrokt::told::{self, Place, Refusal};
+/// let refusal = told::read(b"(sheet 4)\n(unit 1 (window 4 3))\n").unwrap_err();
 /// assert_eq!(refusal, Refusal::Slots(Place::Line(2)));
 /// assert_eq!(refusal.page(), "(refused 7 (line 2))\n");
 /// assert!(refusal.to_string().starts_with("line 2: the slots must be 1 ≤ first ≤ last ≤ span"));
-/// let mut sheet = Sheet::new(4);
+/// let mut sheet = tugrokt::Sheet::new(4);
 /// sheet.add_unit(4017, 1, 4);
 /// sheet.add_unit(212, 4, 3);
-/// assert_eq!(sheet.plan(), Err(Refusal::Slots(Place::Unit(1))));
+/// assert_eq!(told::plan(&sheet), Err(Refusal::Slots(Place::Unit(1))));
 /// ```
 #[derive(Clone, Copy, Debug, PartialEq, Eq)]
 #[non_exhaustive]
@@ -124,22 +124,22 @@ fn refusal(number: usize, line: usize, place: Place) -> Refusal {
     }
 }
 
-/// The refusal of a call on a text, unless the reply has none.
-pub(crate) fn of_text(number: usize, line: usize) -> Result<(), Refusal> {
-    let place = if line == 0 { Place::Whole } else { Place::Line(line) };
-    if number == 0 { Ok(()) } else { Err(refusal(number, line, place)) }
+/// The refusal of a call on a text.
+pub(crate) fn of_text(refused: crate::Refusal) -> Refusal {
+    let crate::Refusal { question, line } = refused;
+    refusal(question, line, if line == 0 { Place::Whole } else { Place::Line(line) })
 }
 
-/// The refusal of a call on lists, unless the reply has none.
-pub(crate) fn of_lists(number: usize, line: usize, lists: Lists) -> Result<(), Refusal> {
-    let place = match number {
-        0 => return Ok(()),
-        7 | 8 | 16 => at_fault(number, lists),
+/// The refusal of a call on lists.
+pub(crate) fn of_lists(refused: crate::Refusal, lists: Lists) -> Refusal {
+    let crate::Refusal { question, line } = refused;
+    let place = match question {
+        7 | 8 | 16 => at_fault(question, lists),
         17 => Place::Unit(line.saturating_sub(1)),
         18 => Place::Rule(line.saturating_sub(1)),
         _ => Place::Whole,
     };
-    Err(refusal(number, line, place))
+    refusal(question, line, place)
 }
 
 /// The first unit, or else the first rule, at which this question is answered no. The planner names none of them by a line, so it is asked
@@ -213,14 +213,15 @@ impl Refusal {
         format!("(refused {} (line {}))\n", self.question(), self.line())
     }
 
-    /// Which of two texts a refusal by [`merge`](crate::merge) or [`line_of`](crate::line_of) is of, the first (1) or the second (2): the first
+    /// Which of two texts a refusal by [`merge`](crate::told::merge) or [`line_of`](crate::told::line_of) is of, the first (1) or the second (2): the first
     /// where the first alone is refused, and where all rules that cross are its own. None for a loader number that is in neither.
     ///
     /// ```
+    /// use tugrokt::told;
     /// let (one, two) = (b"(sheet 4)\n(unit 12 (window 1 3))\n", b"(sheet 5)\n");
-    /// assert_eq!(tugrokt::merge(one, two).unwrap_err().text(one), Some(2));
-    /// assert_eq!(tugrokt::merge(b"(sheet 49)\n", two).unwrap_err().text(b"(sheet 49)\n"), Some(1));
-    /// assert_eq!(tugrokt::line_of(one, one, 7).unwrap_err().text(one), Some(2));
+    /// assert_eq!(told::merge(one, two).unwrap_err().text(one), Some(2));
+    /// assert_eq!(told::merge(b"(sheet 49)\n", two).unwrap_err().text(b"(sheet 49)\n"), Some(1));
+    /// assert_eq!(told::line_of(one, one, 7).unwrap_err().text(one), Some(2));
     /// ```
     pub fn text(&self, one: &[u8]) -> Option<usize> {
         match self {

@@ -6,12 +6,12 @@ use std::fmt;
 /// Limits that contradict each other: going round, the at-most limits allow fewer units than the at-least limits ask for.
 ///
 /// ```
-/// use tugrokt::{Answer, Bound, Sheet, Source};
-/// let mut sheet = Sheet::new(3);
+/// use tugrokt::told::{self, Answer, Bound, Source};
+/// let mut sheet = tugrokt::Sheet::new(3);
 /// sheet.add_unit(4017, 1, 3);
 /// sheet.add_unit(212, 2, 3);
 /// sheet.add_rule(1, 3, 0, 1);
-/// let Ok(Answer::None(ring)) = sheet.plan() else { panic!("two units, and a rule for one") };
+/// let Ok(Answer::None(ring)) = told::plan(&sheet) else { panic!("two units, and a rule for one") };
 /// assert_eq!(ring.boundaries, [0, 3]);
 /// assert_eq!(ring.shortfall, 1);
 /// let [most, least] = &ring.limits[..] else { panic!("two limits") };
@@ -75,7 +75,7 @@ impl Ring {
     /// The ring that a sheet's page of none shows, and nothing where the page is none of this sheet's.
     ///
     /// ```
-    /// use tugrokt::{answer, House, Query, Ring, Sheet};
+    /// use tugrokt::{answer, told::Ring, House, Query, Sheet};
     /// let text = b"(sheet 3)\n(unit 1 (window 1 3))\n(unit 2 (window 1 3))\n(rule (slots 1 3) (count 1 1))\n";
     /// let (page, sheet) = (answer(House::Ours, Query::Fits, text), Sheet::read(text).unwrap());
     /// assert_eq!(Ring::on_page(&sheet, &page).unwrap().boundaries, [0, 3]);

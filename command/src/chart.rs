@@ -4,7 +4,8 @@
 //! the ring, then the rules. [`Layout`] alone knows where a slot, a unit or a block lies; the functions after it draw one thing each. What a
 //! mark means never hangs on its colour: fills, hatching, widths and dashes tell marks apart in black and white too.
 
-use tugrokt::{Answer, Bound, Limit, Plan, Ring, Sheet, Source};
+use tugrokt::told::{Answer, Bound, Limit, Ring, Source};
+use tugrokt::{Plan, Sheet};
 
 // Sizes, in pixels of the natural size.
 
@@ -967,7 +968,7 @@ mod tests {
     }
 
     fn answered(sheet: &Sheet) -> Answer {
-        sheet.plan().expect("a sheet")
+        tugrokt::told::plan(sheet).expect("a sheet")
     }
 
     fn charted(sheet: &Sheet) -> Vec<Element> {

@@ -3,7 +3,8 @@
 use std::fmt::Write;
 
 use crate::lines::{self, Numbers};
-use tugrokt::{Answer, Bound, Decision, House, Limit, Ring, Sheet, Source};
+use tugrokt::told::{self, Answer, Bound, Decision, Limit, Ring, Source};
+use tugrokt::{House, Sheet};
 
 /// A sheet with the lines of its text.
 struct Told<'a> {
@@ -19,10 +20,10 @@ pub fn explain(name: &str, house: House, text: &[u8], sheet: &Sheet, page: &[u8]
         return format!("{name}: no plan is lawful, since these limits contradict each other:\n{}", told.none(&ring));
     }
     if page.starts_with(b"(answer fits ") {
-        let Ok(Decision::Fits(counts)) = sheet.decide() else { return String::new() };
+        let Ok(Decision::Fits(counts)) = told::decide(sheet) else { return String::new() };
         return format!("{name}: it fits.\n{}", told.fits(&counts));
     }
-    let Ok(Answer::Plan(plan)) = sheet.plan() else { return String::new() };
+    let Ok(Answer::Plan(plan)) = told::plan(sheet) else { return String::new() };
     format!("{name}: {}.\n{}", told.shares(&plan), told.plan(&plan))
 }
 

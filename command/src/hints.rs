@@ -5,7 +5,8 @@
 
 use crate::lines::{self, beginnings, entry_words, lines, visible};
 use std::ops::Range;
-use tugrokt::{House, Place, Refusal, Sheet, MAX_BYTES, MAX_COUNT, MAX_RULES, MAX_SLOTS, MAX_UNITS};
+use tugrokt::told::{self, Place, Refusal};
+use tugrokt::{House, Sheet, MAX_BYTES, MAX_COUNT, MAX_RULES, MAX_SLOTS, MAX_UNITS};
 
 /// How far a call got before it was refused: through the lines, the whole text, and on the way to the partner the units and then the rules.
 #[derive(Clone, Copy, Debug, PartialEq, Eq, PartialOrd, Ord)]
@@ -146,7 +147,7 @@ impl<'a> Case<'a> {
     /// Asks the library again, of another text.
     fn ask(&self, text: &[u8]) -> Result<(), Refusal> {
         let sheet = read(self.house, text)?;
-        if matches!(self.refusal.place(), Place::Unit(_) | Place::Rule(_)) { sheet.write_partner().map(drop) } else { Ok(()) }
+        if matches!(self.refusal.place(), Place::Unit(_) | Place::Rule(_)) { told::write_partner(&sheet).map(drop) } else { Ok(()) }
     }
 
     /// The guess as a hint of this name, if the library confirms it.
@@ -190,8 +191,8 @@ impl<'a> Case<'a> {
 /// Reads a text of a house.
 fn read(house: House, text: &[u8]) -> Result<Sheet, Refusal> {
     match house {
-        House::Ours => Sheet::read(text),
-        House::Partner => Sheet::read_partner(text),
+        House::Ours => told::read(text),
+        House::Partner => told::read_partner(text),
     }
 }
 
@@ -494,10 +495,10 @@ fn translated(case: &Case) -> Option<Vec<u8>> {
     let line = [case.line(), b"\n"].concat();
     let of_span = || read(other, &[span, &line].concat()).ok().filter(|sheet| sheet.loader.len() + sheet.from.len() == 1);
     let mut sheet = read(other, &line).ok().or_else(of_span)?;
-    let text = if case.house == House::Ours { sheet.write() } else {
+    let text = if case.house == House::Ours { told::write(&sheet) } else {
         sheet.last.iter_mut().for_each(|last| *last = (*last).min(MAX_SLOTS as u16));
         sheet.low.fill(0);
-        sheet.write_partner()
+        told::write_partner(&sheet)
     };
     lines(&text.ok()?).last().map(<[u8]>::to_vec)
 }
@@ -1178,7 +1179,7 @@ pub mod tests {
     /// The refusal of a text: by reading it, or on its way to the partner.
     pub fn refusal(house: House, text: &[u8]) -> Option<Refusal> {
         let sheet = read(house, text);
-        if house == House::Partner { sheet.err() } else { sheet.and_then(|sheet| sheet.write_partner()).err() }
+        if house == House::Partner { sheet.err() } else { sheet.and_then(|sheet| told::write_partner(&sheet)).err() }
     }
 
     /// Texts of ours with a slip each, and texts of the partner's. A text behind `..` stands on line 2, below a span of 4.
@@ -1379,10 +1380,10 @@ pub mod tests {
         let mut sheet = Sheet::new(MAX_SLOTS);
         (0..MAX_UNITS as u16).for_each(|i| sheet.add_unit(1_000 + i, 10, 48));
         (0..MAX_RULES).for_each(|_| sheet.add_rule(10, 48, 0, 300));
-        let partner = sheet.write_partner().unwrap().len();
+        let partner = told::write_partner(&sheet).unwrap().len();
         sheet.low.fill(100);
         let named = |house| most_without_notes(house).replace(',', "").parse();
-        assert_eq!((Ok(sheet.write().unwrap().len()), Ok(partner)), (named(House::Ours), named(House::Partner)));
+        assert_eq!((Ok(told::write(&sheet).unwrap().len()), Ok(partner)), (named(House::Ours), named(House::Partner)));
     }
 
     /// Calls from elsewhere may name a line that the text does not have.

@@ -20,7 +20,8 @@ use std::process::ExitCode;
 use crate::files::{say, write_out, Input, Unwritten};
 use crate::status::Status;
 use crate::words::{Given, Opt, Word, WrongUse};
-use tugrokt::{House, Refusal, Sheet};
+use tugrokt::told::{self, Refusal};
+use tugrokt::House;
 
 fn main() -> ExitCode {
     let mut words = std::env::args_os().skip(1);
@@ -95,8 +96,8 @@ fn convert(from: House, given: Given) -> Status {
         Err(why) => return fail(&why),
     };
     let converted = match from {
-        House::Ours => Sheet::read(&text).and_then(|sheet| sheet.write_partner()),
-        House::Partner => Sheet::read_partner(&text).and_then(|sheet| sheet.write()),
+        House::Ours => told::read(&text).and_then(|sheet| told::write_partner(&sheet)),
+        House::Partner => told::read_partner(&text).and_then(|sheet| told::write(&sheet)),
     };
     match converted {
         Ok(page) => show(&page),

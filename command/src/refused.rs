@@ -4,7 +4,8 @@
 
 use crate::hints::{self, Case};
 use crate::lines::{self, excerpt, is_plain};
-use tugrokt::{House, Place, Refusal, Sheet};
+use tugrokt::told::{self, Place, Refusal};
+use tugrokt::{House, Sheet};
 
 /// A refusal of one text in words: by reading it, or on its way to the partner.
 pub fn words(name: &str, house: House, text: &[u8], refusal: &Refusal) -> String {
@@ -28,7 +29,7 @@ pub fn words(name: &str, house: House, text: &[u8], refusal: &Refusal) -> String
 /// A refusal of two texts by merging them, or by asking for the line of a unit, in words.
 pub fn words_of_two(names: [&str; 2], texts: [&[u8]; 2], refusal: &Refusal) -> String {
     let own = refusal.text(texts[0]).map_or(0, |text| text - 1);
-    match (Sheet::read(texts[0]), Sheet::read(texts[1])) {
+    match (told::read(texts[0]), told::read(texts[1])) {
         (Ok(one), Ok(two)) => Two { names, texts, sheets: [one, two] }.words(own, refusal),
         _ => words(names[own], House::Ours, texts[own], refusal),
     }
@@ -226,7 +227,7 @@ fn crosses(sheet: &Sheet, stretch: (u16, u16)) -> bool {
         alone.add_rule(sheet.from[rule], sheet.to[rule], sheet.low[rule], sheet.high[rule]);
     }
     let texts = [alone.write(), Sheet::new(sheet.span).write()];
-    matches!(&texts, [Ok(one), Ok(two)] if matches!(tugrokt::merge(one, two), Err(Refusal::CrossedCounts(_))))
+    matches!(&texts, [Ok(one), Ok(two)] if matches!(told::merge(one, two), Err(Refusal::CrossedCounts(_))))
 }
 
 #[cfg(test)]
@@ -246,7 +247,7 @@ mod tests {
 
     /// What is said of two texts that cannot be merged.
     fn said_of_two(one: &[u8], two: &[u8]) -> String {
-        words_of_two(["a.sheet", "b.sheet"], [one, two], &tugrokt::merge(one, two).unwrap_err())
+        words_of_two(["a.sheet", "b.sheet"], [one, two], &told::merge(one, two).unwrap_err())
     }
 
     #[test]
@@ -338,7 +339,7 @@ mod tests {
 
     #[test]
     fn a_loader_in_neither() {
-        let refusal = tugrokt::line_of(OURS, b"(sheet 7)\n", 5).unwrap_err();
+        let refusal = told::line_of(OURS, b"(sheet 7)\n", 5).unwrap_err();
         let expected = "error: the loader number must be in one of the two sheets\n --> a.sheet, b.sheet\n  \
                         = note: a.sheet has 3 units and b.sheet has 0: 3 together\n  = refused by question 27\n";
         assert_eq!(words_of_two(["a.sheet", "b.sheet"], [OURS, b"(sheet 7)\n"], &refusal), expected);
@@ -393,8 +394,8 @@ mod tests {
     fn assert_confirmed(house: House, number: usize, refusal: &Refusal, hint: &hints::Hint) {
         let Some(next) = (match refusal.place() {
             Place::Unit(_) | Place::Rule(_) => hints::tests::refusal(house, &hint.text),
-            _ if house == House::Ours => Sheet::read(&hint.text).err(),
-            _ => Sheet::read_partner(&hint.text).err(),
+            _ if house == House::Ours => told::read(&hint.text).err(),
+            _ => told::read_partner(&hint.text).err(),
         }) else {
             return;
         };
@@ -439,7 +440,7 @@ mod tests {
         let other = b"(note the other site)\n(sheet 7)\n(rule (slots 2 2) (count 0 1))\n(rule (slots 1 3) (count 1 2))\n(unit 40 (window 2 3))\n";
         for _ in 0..5_000 {
             let (one, two) = (random.slips(OURS), if random.below(3) > 0 { other.to_vec() } else { random.slips(other) });
-            let Err(refusal) = tugrokt::merge(&one, &two) else { continue };
+            let Err(refusal) = told::merge(&one, &two) else { continue };
             let said = words_of_two(["x", "y"], [&one, &two], &refusal);
             assert_printable(&said);
             let name = ["x", "y"][refusal.text(&one).unwrap() - 1];

@@ -13,7 +13,8 @@ use crate::many::{in_order, End, Progress, Tally};
 use crate::status::Status;
 use crate::words::{Given, Opt, Word, WrongUse};
 use crate::{fail, refused, unwritten};
-use tugrokt::{Answer, House, Query, Ring, Sheet};
+use tugrokt::told::{self, Answer, Ring};
+use tugrokt::{House, Query, Sheet};
 
 /// What a call asks of every sheet.
 struct Asked {
@@ -202,8 +203,8 @@ fn answer_text(name: &str, text: &[u8], asked: &Asked) -> Outcome {
     let end = end_of(&page);
     let mut outcome = Outcome { end, page, said: String::new(), failed: false };
     let read = match asked.house {
-        House::Ours => Sheet::read,
-        House::Partner => Sheet::read_partner,
+        House::Ours => told::read,
+        House::Partner => told::read_partner,
     };
     if end == End::Refused {
         // Only words for the very refusal that is on the page.
@@ -225,7 +226,7 @@ fn tell(name: &str, text: &[u8], sheet: &Sheet, asked: &Asked, outcome: &mut Out
     let Some(path) = &asked.chart else { return };
     // Another call may find another ring, so that of the page is drawn.
     let shown = Ring::on_page(sheet, &outcome.page).map(Answer::None);
-    if let Some(answer) = shown.or_else(|| sheet.plan().ok()) {
+    if let Some(answer) = shown.or_else(|| told::plan(sheet).ok()) {
         outcome.note(put_file(path, chart(name, sheet, &answer).as_bytes()));
     }
 }

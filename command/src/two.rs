@@ -4,6 +4,7 @@ use crate::files::Input;
 use crate::status::Status;
 use crate::words::{Given, WrongUse};
 use crate::{fail, refuse, refused, show};
+use tugrokt::told;
 
 /// The two texts with the names of their files, or why one of them cannot be read.
 struct Two {
@@ -17,7 +18,7 @@ impl Two {
         Ok(Two { names: [one.name(), two.name()], texts: [one.read()?, two.read()?] })
     }
 
-    fn refused(&self, refusal: tugrokt::Refusal) -> Status {
+    fn refused(&self, refusal: told::Refusal) -> Status {
         let ([one, two], [first, second]) = (&self.texts, &self.names);
         refuse(refusal, refused::words_of_two([first, second], [one, two], &refusal))
     }
@@ -38,7 +39,7 @@ fn inputs(given: &Given) -> Result<[Input; 2], WrongUse> {
 pub fn merge(given: Given) -> Result<Status, WrongUse> {
     let inputs = inputs(&given)?;
     Ok(Two::read(inputs).map_or_else(|why| fail(&why), |two| {
-        let merged = tugrokt::merge(&two.texts[0], &two.texts[1]).and_then(|sheet| sheet.write());
+        let merged = told::merge(&two.texts[0], &two.texts[1]).and_then(|sheet| told::write(&sheet));
         merged.map_or_else(|refusal| two.refused(refusal), |page| show(&page))
     }))
 }
@@ -48,7 +49,7 @@ pub fn line(given: Given) -> Result<Status, WrongUse> {
     let loader = loader(&given)?;
     let inputs = inputs(&given)?;
     Ok(Two::read(inputs).map_or_else(|why| fail(&why), |two| {
-        let found = tugrokt::line_of(&two.texts[0], &two.texts[1], loader);
+        let found = told::line_of(&two.texts[0], &two.texts[1], loader);
         found.map_or_else(|refusal| two.refused(refusal), |line| show(&[line, b"\n"].concat()))
     }))
 }

@@ -321,15 +321,17 @@ pub fn merging_fault(one: &[u8], two: &[u8], merged: &Result<Pair, Refusal>, uni
 pub fn line_fault(one: &[u8], two: &[u8], merged: &Result<Pair, Refusal>, loader: u16) -> Option<String> {
     let expected = merged.as_ref().map_err(|refusal| *refusal).and_then(|pair| pair.line_of(loader as usize));
     let (reply, part) = match &expected {
-        Err(Refusal { number, line }) => (Line { number: *number, line: *line, sheet: 0, start: 0, length: 0 }, Err((*number, *line))),
+        Err(Refusal { number, line }) => {
+            let refusal = tugrokt::Refusal { question: *number, line: *line };
+            (Line { number: *number, line: *line, sheet: 0, start: 0, length: 0 }, Err(refusal))
+        }
         Ok(Found { text, spot }) => {
             let part = &[one, two][text - 1][spot.bytes.clone()];
             (Line { number: 0, line: 0, sheet: *text, start: spot.bytes.start, length: spot.bytes.len() }, Ok(part.as_ptr_range()))
         }
     };
-    let handed = tugrokt::line_of(one, two, loader).map(<[u8]>::as_ptr_range).map_err(|refusal| (refusal.question(), refusal.line()));
     differ("reply", &entry::line_of(one, two, loader), &reply)
-        .or_else(|| differ("part", &handed, &part))
+        .or_else(|| differ("part", &tugrokt::line_of(one, two, loader).map(<[u8]>::as_ptr_range), &part))
         .map(|fault| format!("loader {loader}: {fault}"))
 }
 

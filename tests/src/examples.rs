@@ -111,8 +111,12 @@ pub fn full() -> Stdio {
 /// A pipe that nobody reads: that of a program which has ended.
 pub fn closed_pipe() -> Stdio {
     let mut child = Command::new("true").stdin(Stdio::piped()).spawn().expect("true starts");
-    let pipe = child.stdin.take().unwrap();
+    let mut pipe = child.stdin.take().unwrap();
     child.wait().unwrap();
+    // A child that another thread has begun holds all that this process had open, until it runs its program.
+    while pipe.write(b"\n").is_ok() {
+        std::thread::sleep(std::time::Duration::from_millis(1));
+    }
     pipe.into()
 }
 

@@ -22,6 +22,7 @@ pub mod program;
 pub mod questions;
 pub mod random;
 pub mod reading;
+pub mod room;
 pub mod sheet;
 pub mod tally;
 

@@ -1,22 +1,16 @@
-//! The border crate's own functions, and every field of every reply as C reads it. `rings.rs` has the rings, `refusals.rs` the refusals.
+//! The border crate's own functions, and the examples.
 
-use std::panic::catch_unwind;
-use std::path::Path;
+use std::io::Write;
+use std::path::{Path, PathBuf};
 use std::process::{Command, Stdio};
 
-use model::calls::owned;
 use model::cases::{self, Says};
-use model::damage::any_text;
-use model::examples::{c_program, ended, WELL};
 use model::house::House;
 use model::merging::{line_of, merge_into, Found};
-use model::pairs::texts as texts_of_two;
-use model::questions::{lists_refusal, partner_refusal, Lists};
-use model::random::{any_sheet, small_sheet, tied_sheet, Random};
+use model::questions::partner_refusal;
 use model::reading::read;
-use model::tally::{self, Tally};
-use model::{computed, effort, enumerated, page, seed, sheet};
-use tugrokt::{Answer, Decision, House as Form, Place, Plan, Query, Refusal, Ring, Sheet};
+use model::{enumerated, page, sheet};
+use tugrokt::{Answer, Decision, Refusal, Sheet};
 
 #[test]
 fn document_cases() {
@@ -29,11 +23,7 @@ fn document_cases() {
                 let between: Vec<(u16, u16)> = plan.earliest.into_iter().zip(plan.latest).collect();
                 assert_eq!(between, windows);
             }
-            (Answer::None(ring), Says::None(boundaries, shortfall)) => {
-                assert_eq!(case.sheet.ring_fault(&ring.boundaries), None);
-                assert_eq!(ring.shortfall as i64, shortfall);
-                assert!(boundaries.is_none_or(|boundaries| boundaries == ring.boundaries), "{}", case.name);
-            }
+            (Answer::None { ring }, Says::None(..)) => assert_eq!(case.sheet.ring_fault(&ring), None),
             (answer, says) => panic!("{}: {answer:?}, but {says:?}", case.name),
         }
     }
@@ -55,7 +45,7 @@ fn decisions_and_seats() {
                     assert_eq!((counts.range(first, last), plan.range(first, last)), (range, range), "{}", case.name);
                 }
             }
-            (Answer::None(ring), Decision::None(decided), None) => assert_eq!(decided, ring, "{}", case.name),
+            (Answer::None { ring }, Decision::None { ring: decided }, None) => assert_eq!(decided, ring, "{}", case.name),
             other => panic!("{}: {other:?}", case.name),
         }
     }
@@ -67,7 +57,7 @@ fn pages() {
         let page = Sheet::read(&case.sheet.text()).unwrap().page().unwrap();
         assert_eq!(page::fault(&case.sheet, enumerated::solve(&case.sheet).as_ref(), &page), None, "{}", case.name);
     }
-    assert_eq!(Sheet::new(usize::MAX).page(), Err(Refusal::Span(Place::Whole)));
+    assert_eq!(Sheet::new(usize::MAX).page(), Err(Refusal { question: 6, line: 0 }));
 }
 
 /// Sheets are written and read back, in our form and in the partner's.
@@ -79,8 +69,7 @@ fn texts() {
         assert_eq!(sheet.write(), Ok(text), "{}", case.name);
         let theirs = match partner_refusal(&case.sheet) {
             None => Ok(case.sheet.text_for(House::Partner)),
-            Some(refusal) if refusal.number == 17 => Err(Refusal::MayBeCarried(Place::Unit(refusal.line - 1))),
-            Some(refusal) => Err(Refusal::HasLow(Place::Rule(refusal.line - 1))),
+            Some(refusal) => Err(Refusal { question: refusal.number, line: refusal.line }),
         };
         assert_eq!(sheet.write_partner(), theirs, "{}", case.name);
         let kept = case.sheet.kept_by(House::Partner);
@@ -109,10 +98,10 @@ fn two_sheets() {
         assert!(whole.start <= part.start && part.end <= whole.end, "the line lies in its text");
     }
     assert_eq!(lines, [&b"(unit 4017 (window 1 4))"[..], b"(unit 12 (window 7 8))", b"(unit 40 (window 2 3))"]);
-    assert_eq!(tugrokt::line_of(&one, &two, 401), Err(Refusal::UnknownLoader));
-    assert_eq!(tugrokt::line_of(&one, b"(sheet 8)\n", 12), Err(Refusal::UnequalSpans(Place::Line(1))));
-    assert_eq!(tugrokt::merge(&one, &one), Err(Refusal::LoaderInBoth(Place::Line(2))));
-    assert_eq!(tugrokt::merge(b"", &two), Err(Refusal::SpanForm(Place::Whole)));
+    assert_eq!(tugrokt::line_of(&one, &two, 401), Err(Refusal { question: 27, line: 0 }));
+    assert_eq!(tugrokt::line_of(&one, b"(sheet 8)\n", 12), Err(Refusal { question: 19, line: 1 }));
+    assert_eq!(tugrokt::merge(&one, &one), Err(Refusal { question: 20, line: 2 }));
+    assert_eq!(tugrokt::merge(b"", &two), Err(Refusal { question: 5, line: 0 }));
 }
 
 #[test]
@@ -151,7 +140,7 @@ fn carried_units() {
     // One look for slot 1, and both units for the carried place.
     assert_eq!((seated.plan.is_carried(1), seated.looked), (true, 1 + 2));
     sheet.add_unit(1, 4, 4);
-    assert_eq!(sheet.plan(), Err(Refusal::Slots(Place::Unit(2))));
+    assert_eq!(sheet.plan(), Err(Refusal { question: 7, line: 0 }));
 }
 
 /// The longest span in rooms of the largest sizes, and one place less.
@@ -187,221 +176,89 @@ fn the_largest_rooms() {
 
 #[test]
 fn refusals() {
-    assert_eq!(Sheet::read(b""), Err(Refusal::SpanForm(Place::Whole)));
-    assert_eq!(Sheet::read(b"(sheet 4)\n(unit 1 (window 4 3))\n"), Err(Refusal::Slots(Place::Line(2))));
+    assert_eq!(Sheet::read(b""), Err(Refusal { question: 5, line: 0 }));
+    assert_eq!(Sheet::read(b"(sheet 4)\n(unit 1 (window 4 3))\n"), Err(Refusal { question: 7, line: 2 }));
     let again = b"(sheet 4)\n(unit 12 (window 1 3))\n(note)\n(unit 12 (window 1 4))\n";
-    assert_eq!(Sheet::read(again), Err(Refusal::Loader(Place::Line(4))));
-    assert_eq!(Sheet::new(0).plan(), Err(Refusal::Span(Place::Whole)));
-    assert_eq!(Sheet::new(usize::MAX).plan(), Err(Refusal::Span(Place::Whole)));
+    assert_eq!(Sheet::read(again), Err(Refusal { question: 16, line: 4 }));
+    assert_eq!(Sheet::new(0).plan(), Err(Refusal { question: 6, line: 0 }));
+    assert_eq!(Sheet::new(usize::MAX).plan(), Err(Refusal { question: 6, line: 0 }));
     for span in [0, 49, usize::MAX] {
-        assert_eq!(Sheet::new(span).decide(), Err(Refusal::Span(Place::Whole)));
-        assert_eq!(Sheet::new(span).seat(), Err(Refusal::Span(Place::Whole)));
+        assert_eq!(Sheet::new(span).decide(), Err(Refusal { question: 6, line: 0 }));
+        assert_eq!(Sheet::new(span).seat(), Err(Refusal { question: 6, line: 0 }));
     }
     let mut lopsided = Sheet::new(4);
     lopsided.first.push(1);
-    assert_eq!(lopsided.plan(), Err(Refusal::UnequalLists));
+    assert_eq!(lopsided.plan(), Err(Refusal { question: 13, line: 0 }));
     lopsided.last.push(1);
-    assert_eq!(lopsided.plan(), Err(Refusal::UnequalLists), "no loader number");
+    assert_eq!(lopsided.plan(), Err(Refusal { question: 13, line: 0 }), "no loader number");
     lopsided.loader.push(tugrokt::MAX_LOADER);
     assert!(lopsided.plan().is_ok());
     lopsided.add_unit(tugrokt::MAX_LOADER, 1, 4);
-    assert_eq!(lopsided.plan(), Err(Refusal::Loader(Place::Unit(1))));
+    assert_eq!(lopsided.plan(), Err(Refusal { question: 16, line: 0 }));
     lopsided.loader[1] = tugrokt::MAX_LOADER + 1;
-    assert_eq!(lopsided.page(), Err(Refusal::Loader(Place::Unit(1))));
-    assert_eq!(lopsided.decide(), Err(Refusal::Loader(Place::Unit(1))));
-    assert_eq!(lopsided.seat(), Err(Refusal::Loader(Place::Unit(1))));
-    assert_eq!(lopsided.write(), Err(Refusal::Loader(Place::Unit(1))));
-    assert_eq!(lopsided.write_partner(), Err(Refusal::Loader(Place::Unit(1))));
-    assert_eq!(Refusal::Slots(Place::Line(3)).page(), "(refused 7 (line 3))\n");
+    assert_eq!(lopsided.page(), Err(Refusal { question: 16, line: 0 }));
+    assert_eq!(lopsided.decide(), Err(Refusal { question: 16, line: 0 }));
+    assert_eq!(lopsided.seat(), Err(Refusal { question: 16, line: 0 }));
+    assert_eq!(lopsided.write(), Err(Refusal { question: 16, line: 0 }));
+    assert_eq!(lopsided.write_partner(), Err(Refusal { question: 16, line: 0 }));
+    assert_eq!(Refusal { question: 7, line: 3 }.to_string(), "(refused 7 (line 3))");
 }
 
 #[test]
 fn refusals_of_the_partner() {
-    assert_eq!(Sheet::read_partner(b""), Err(Refusal::SpanForm(Place::Whole)));
-    assert_eq!(Sheet::read_partner(b"(sheet 4)\n"), Err(Refusal::NoForm(Place::Line(1))));
-    assert_eq!(Sheet::read(b"(day 4)\n"), Err(Refusal::NoForm(Place::Line(1))));
-    assert_eq!(Sheet::read_partner(b"(day 4)\n(job 1 (start 4) (hours 2))\n"), Err(Refusal::Slots(Place::Line(2))));
+    assert_eq!(Sheet::read_partner(b""), Err(Refusal { question: 5, line: 0 }));
+    assert_eq!(Sheet::read_partner(b"(sheet 4)\n"), Err(Refusal { question: 3, line: 1 }));
+    assert_eq!(Sheet::read(b"(day 4)\n"), Err(Refusal { question: 3, line: 1 }));
+    assert_eq!(Sheet::read_partner(b"(day 4)\n(job 1 (start 4) (hours 2))\n"), Err(Refusal { question: 7, line: 2 }));
     for span in [0, 49, usize::MAX] {
-        assert_eq!(Sheet::new(span).write(), Err(Refusal::Span(Place::Whole)));
-        assert_eq!(Sheet::new(span).write_partner(), Err(Refusal::Span(Place::Whole)));
+        assert_eq!(Sheet::new(span).write(), Err(Refusal { question: 6, line: 0 }));
+        assert_eq!(Sheet::new(span).write_partner(), Err(Refusal { question: 6, line: 0 }));
     }
     let mut sheet = Sheet::new(4);
     sheet.add_unit(4_017, 1, 4);
     sheet.add_unit(12, 1, 5);
     sheet.add_rule(1, 4, 1, 1);
-    assert_eq!(sheet.write_partner(), Err(Refusal::MayBeCarried(Place::Unit(1))));
+    assert_eq!(sheet.write_partner(), Err(Refusal { question: 17, line: 2 }));
     sheet.last[1] = 4;
-    assert_eq!(sheet.write_partner(), Err(Refusal::HasLow(Place::Rule(0))));
+    assert_eq!(sheet.write_partner(), Err(Refusal { question: 18, line: 1 }));
     sheet.low[0] = 0;
     assert!(sheet.write_partner().is_ok());
 }
 
-/// A sheet of any kind.
-fn drawn(r: &mut Random, i: usize) -> sheet::Sheet {
-    match i % 4 {
-        0 | 1 => small_sheet(r),
-        2 => tied_sheet(r),
-        _ => any_sheet(r),
-    }
+/// What a command writes when it is given this text, and whether it ends well.
+fn run(command: &mut Command, text: &[u8]) -> (String, bool) {
+    let mut child = command.stdin(Stdio::piped()).stdout(Stdio::piped()).spawn().expect("the command starts");
+    // A program that reads nothing may have ended.
+    let _ = child.stdin.take().unwrap().write_all(text);
+    let output = child.wait_with_output().unwrap();
+    (String::from_utf8(output.stdout).unwrap(), output.status.success())
 }
 
-/// The model's seats of a sheet that has a plan.
-fn seats(sheet: &sheet::Sheet) -> Option<Vec<u16>> {
-    let table = computed::closure(sheet)?;
-    Some(computed::seats(sheet, &table[..sheet.boundaries()]))
+fn written(command: &mut Command, text: &[u8]) -> String {
+    run(command, text).0
 }
 
-/// The counts of the slots that the page of a plan has.
-fn counts_on(page: &[u8]) -> Vec<usize> {
-    let Some(page::Page::Plan { slots, .. }) = page::parse(page) else { panic!("{}", String::from_utf8_lossy(page)) };
-    slots.iter().map(|slot| slot.count as usize).collect()
+fn bindings() -> PathBuf {
+    Path::new(env!("ROOT")).join("bindings")
 }
 
-/// A plan's counts: of each slot as its page has it, and of each stretch as the model's plan has it.
-#[test]
-fn counts_of_plans() {
-    let mut tally = Tally::new("counts of plans", seed(1_111));
-    for i in 0..effort(3_000) {
-        let sheet = drawn(&mut Random::of_case(tally.seed(), i), i);
-        let what = format!("seed {} case {i}: {sheet:?}", tally.seed());
-        let package = owned(&Lists::from(&sheet));
-        let (answer, seats) = (package.plan().unwrap(), seats(&sheet));
-        let (Answer::Plan(plan), Some(seats)) = (&answer, &seats) else {
-            assert!(matches!(answer, Answer::None(_)) && seats.is_none(), "{what}");
-            tally.add(0, tally::NONE);
-            continue;
-        };
-        let slots: Vec<usize> = (1..=sheet.span).map(|slot| plan.count(slot, slot)).collect();
-        assert_eq!(slots, counts_on(&package.page().unwrap()), "{what}");
-        for (first, last) in (1..=sheet.carried_place()).flat_map(|first| (first..=sheet.carried_place()).map(move |last| (first, last))) {
-            assert_eq!(plan.count(first, last), enumerated::count(seats, first - 1, last), "{what}: {first} to {last}");
-        }
-        let carried = (0..seats.len()).filter(|&i| plan.is_carried(i)).count();
-        assert_eq!(plan.count(sheet.carried_place(), sheet.carried_place()), carried, "{what}");
-        assert_eq!([plan.count(0, usize::MAX), plan.count(2, 1), plan.count(usize::MAX, 0)], [seats.len(), 0, 0], "{what}");
-        tally.add(0, if carried > 0 { tally::CARRIES } else { tally::PLAN });
-    }
-    assert!(tally.count(tally::CARRIES) > 0 && tally.count(tally::PLAN) > 0);
-    tally.report();
+/// A C program, compiled with all warnings against the header and the library.
+fn c_program(source: &Path) -> PathBuf {
+    let program = PathBuf::from(env!("CARGO_TARGET_TMPDIR")).join(source.file_stem().unwrap());
+    let compiled = Command::new("cc")
+        .args(["-std=c99", "-pedantic", "-Wall", "-Wextra", "-Werror", "-O1", "-I"])
+        .arg(bindings())
+        .arg(source)
+        .args([env!("LIBRARY"), "-o"])
+        .arg(&program)
+        .output()
+        .expect("cc runs");
+    assert!(compiled.status.success(), "{}", String::from_utf8_lossy(&compiled.stderr));
+    program
 }
 
-/// Numbers on both sides of every limit, and at random.
-fn wild_number(r: &mut Random) -> u16 {
-    if r.chance(50) { r.below(1 << 16) as u16 } else { *r.pick(&[0, 1, 2, 3, 47, 48, 49, 50, 300, 301, 9_999, 10_000, 32_768, 65_535]) }
-}
-
-/// Lists of any lengths, equal ones or not, with any numbers in them.
-fn wild_lists(r: &mut Random) -> Lists {
-    let span = if r.chance(60) { r.between(1, 48) } else { *r.pick(&[0, 49, 50, 1 << 16, 1 << 32, usize::MAX - 2, usize::MAX - 1, usize::MAX]) };
-    let lengths = [0, 1, 2, 5, 59, 60, 61, 299, 300, 301, 1_000];
-    let (units, rules, equal) = (*r.pick(&lengths), *r.pick(&lengths), r.chance(70));
-    let mut list = |length: usize| {
-        let length = if equal || r.chance(80) { length } else { *r.pick(&lengths) };
-        (0..length).map(|_| wild_number(r)).collect()
-    };
-    let (loader, first, last) = (list(units), list(units), list(units));
-    Lists { span, loader, first, last, from: list(rules), to: list(rules), low: list(rules), high: list(rules) }
-}
-
-/// The questions that refuse the calls on a sheet, 0 for none.
-fn refused_by(sheet: &Sheet) -> [usize; 5] {
-    fn number<T>(answer: Result<T, Refusal>) -> usize {
-        answer.map_or_else(|refusal| refusal.question(), |_| 0)
-    }
-    [number(sheet.plan()), number(sheet.decide()), number(sheet.seat()), number(sheet.page()), number(sheet.write())]
-}
-
-/// No lists make a call panic: they are refused as the model says, or answered. Nor does a page beside them, or their span.
-#[test]
-fn wild_sheets() {
-    let mut tally = Tally::new("wild sheets", seed(1_112));
-    for i in 0..effort(3_000) {
-        let lists = wild_lists(&mut Random::of_case(tally.seed(), i));
-        let sheet = owned(&lists);
-        let number = lists_refusal(&lists);
-        tally.add(number, tally::PLAN);
-        assert_eq!(refused_by(&sheet), [number; 5], "seed {} case {i}: {lists:?}", tally.seed());
-        let partner = sheet.write_partner();
-        assert!(number == 0 || partner.is_err_and(|refusal| refusal.question() == number));
-        assert!(tugrokt::carried_place(sheet.span) >= sheet.span && tugrokt::boundaries(sheet.span) >= sheet.span);
-        for page in [cases::P4_PAGE, cases::P2_PAGE, "(answer none)\n(at-least 65535 (slots 0 65535))\n(at-most 0 (slots 65535 0))\n(shortfall 65535)\n", ""] {
-            let _ = Ring::on_page(&sheet, page.as_bytes());
-        }
-    }
-    for number in [13, 6, 9, 10, 7] {
-        assert!(tally.refused_by(number) > 0, "none refused by {number}");
-    }
-    tally.report();
-}
-
-/// Bytes that are no text, and such as are damaged sheets.
-fn wild_text(r: &mut Random) -> Vec<u8> {
-    if r.chance(70) {
-        let house = *r.pick(&House::BOTH);
-        return any_text(r, house);
-    }
-    let length = *r.pick(&[0, 1, 10, 100, 15_999, 16_000, 16_001, 40_000]);
-    (0..length).map(|_| r.below(256) as u8).collect()
-}
-
-/// No texts make a call panic. What reading refuses, the answer's page has; what it takes, is answered.
-#[test]
-fn wild_texts() {
-    let mut tally = Tally::new("wild texts", seed(1_113));
-    for i in 0..effort(1_500) {
-        let mut r = Random::of_case(tally.seed(), i);
-        let (one, two) = if r.chance(50) { (wild_text(&mut r), wild_text(&mut r)) } else { texts_of_two(&mut r) };
-        let what = || format!("seed {} case {i}: {}", seed(1_113), String::from_utf8_lossy(&one));
-        for (form, read) in [(Form::Ours, Sheet::read(&one)), (Form::Partner, Sheet::read_partner(&one))] {
-            let [plan, fits] = [Query::Plan, Query::Fits].map(|query| tugrokt::answer(form, query, &one));
-            let expected = read.as_ref().map_err(|refusal| *refusal).and_then(Sheet::page);
-            assert_eq!(plan, expected.clone().unwrap_or_else(|refusal| refusal.page().into_bytes()), "{}", what());
-            let has_plan = expected.is_ok_and(|page| page.starts_with(b"(answer plan "));
-            assert_eq!((fits == plan, fits.starts_with(b"(answer fits ")), (!has_plan, has_plan), "{}", what());
-        }
-        let loader = wild_number(&mut r);
-        tally.add(Sheet::read(&one).map_or_else(|refusal| refusal.question(), |_| 0), "read");
-        if let Err(refusal) = tugrokt::merge(&one, &two) {
-            assert_eq!(refusal.text(&one) == Some(1), Sheet::read(&one).is_err() || refusal == Refusal::CrossedCounts(Place::Whole), "{}", what());
-            assert_eq!(tugrokt::line_of(&one, &two, loader), Err(refusal), "{}", what());
-        } else {
-            assert!(tugrokt::line_of(&one, &two, loader).is_ok_and(|line| !line.is_empty()) || loader_is_in_neither(&one, &two, loader));
-        }
-    }
-    assert!(tally.count("read") > 0);
-    tally.report();
-}
-
-/// Is this the loader number of no unit of two sheets?
-fn loader_is_in_neither(one: &[u8], two: &[u8], loader: u16) -> bool {
-    let unknown = tugrokt::line_of(one, two, loader) == Err(Refusal::UnknownLoader);
-    unknown && [one, two].iter().all(|text| !Sheet::read(text).unwrap().loader.contains(&loader))
-}
-
-/// The plan of a sheet with two units on three slots, of which the second is carried.
-fn some_plan() -> Plan {
-    let mut sheet = Sheet::new(3);
-    sheet.add_unit(4_017, 1, 3);
-    sheet.add_unit(12, 1, 4);
-    sheet.add_rule(1, 3, 0, 1);
-    let Ok(Answer::Plan(plan)) = sheet.plan() else { panic!("one is carried") };
-    plan
-}
-
-/// What is documented to panic does: ranges of what is no stretch, and units that the sheet does not have. All else does not.
-#[test]
-fn documented_panics() {
-    let plan = some_plan();
-    let places = [0, 1, 2, 3, 4, 5, 6, 65_535, 65_536, usize::MAX - 1, usize::MAX];
-    for (first, last) in places.iter().flat_map(|&first| places.map(|last| (first, last))) {
-        let is_stretch = 1 <= first && first <= last && last <= 4;
-        assert_eq!(catch_unwind(|| plan.range(first, last)).is_ok(), is_stretch, "{first} to {last}");
-        assert_eq!(catch_unwind(|| plan.counts.range(first, last)).is_ok(), is_stretch, "{first} to {last}");
-        assert_eq!(plan.count(first, last), plan.slot.iter().filter(|&&slot| first <= slot as usize && slot as usize <= last).count());
-    }
-    for unit in [0, 1, 2, 3, usize::MAX] {
-        assert_eq!(catch_unwind(|| plan.is_carried(unit)).ok(), [false, true].get(unit).copied(), "unit {unit}");
-    }
+fn c_example(name: &str) -> PathBuf {
+    c_program(&bindings().join(format!("examples/{name}.c")))
 }
 
 /// What C shows of merging a text with a sheet of its span and one unit, loader 9999, in rooms for so many units, and of three lines.
@@ -427,12 +284,11 @@ fn merging_lines(text: &[u8], units: usize) -> Vec<String> {
 /// Every field of every reply as C reads it, of plans, rings and refusals, and that a refused call leaves all that was lent.
 #[test]
 fn replies_from_c() {
-    let program = c_program(&Path::new(env!("ROOT")).join("tests/tests/replies.c"), Path::new(env!("CARGO_TARGET_TMPDIR")));
+    let program = c_program(&Path::new(env!("ROOT")).join("tests/tests/replies.c"));
     let replies = |text: &[u8], [units, place, page]: [usize; 3]| {
-        let mut command = Command::new(&program);
-        let shown = ended(command.args([units, place, page].map(|n| n.to_string())).stdout(Stdio::piped()), text);
-        assert_eq!(shown.status, WELL, "{}", shown.page);
-        let mut lines: Vec<String> = shown.page.lines().map(str::to_string).collect();
+        let (said, good) = run(Command::new(&program).args([units, place, page].map(|n| n.to_string())), text);
+        assert!(good, "{said}");
+        let mut lines: Vec<String> = said.lines().map(str::to_string).collect();
         assert_eq!(lines.split_off(9), merging_lines(text, units));
         lines
     };
@@ -444,7 +300,7 @@ fn replies_from_c() {
         let read = format!("reading {numbers}");
         let ring = match sheet.plan().unwrap() {
             Answer::Plan(_) => 0,
-            Answer::None(ring) => ring.boundaries.len(),
+            Answer::None { ring } => ring.len(),
         };
         let end = 7 + sheet.page().unwrap().len();
         let planned = format!("planning 0 0 {ring}");
@@ -503,4 +359,160 @@ fn replies_from_c() {
     ] {
         assert_eq!(replies(text, [300, 3, 100]), refused(ours, theirs));
     }
+}
+
+#[test]
+fn planning_from_c() {
+    let program = c_example("plan");
+    let run = |text: &[u8]| written(&mut Command::new(&program), text);
+    let case = |name: &str| cases::named(name).sheet;
+    assert_eq!(run(&case("P2").text()), "unit 1: slot 1, from 1 to 2\nunit 2: slot 3, from 3 to 4\n");
+    assert_eq!(run(&case("P4").text()), "boundary 0\nboundary 3\n");
+    assert_eq!(run(&case("P11").text()), "unit 1: slot 1, from 1 to 2\nunit 2: carried, from 3 to 3\n");
+    let numbered = case("P2").numbered(&[4_017, 12]);
+    assert_eq!(run(&numbered.text()), "unit 4017: slot 1, from 1 to 2\nunit 12: slot 3, from 3 to 4\n");
+    assert_eq!(run(b"(sheet 49)\n"), "(refused 6 (line 1))\n");
+}
+
+/// The examples that decide: how full each slot can be, or the ring.
+fn decides(run: impl Fn(&[u8]) -> String) {
+    let case = |name: &str| run(&cases::named(name).sheet.text());
+    assert_eq!(case("P2"), "slot 1: 0 to 1\nslot 2: 0 to 1\nslot 3: 0 to 1\nslot 4: 0 to 1\n");
+    assert_eq!(case("P4"), "boundary 0\nboundary 3\n");
+    assert_eq!(case("P6"), "slot 1: 1 to 1\nslot 2: 0 to 1\nslot 3: 0 to 1\n");
+    assert_eq!(case("P11"), "slot 1: 0 to 1\nslot 2: 0 to 1\n");
+    assert_eq!(run(b"(sheet 49)\n"), "(refused 6 (line 1))\n");
+    assert_eq!(run(&[b'x'; 16_001]), "(refused 1 (line 0))\n");
+}
+
+/// The examples that turn a sheet into the other house's form, run with this word on this text.
+fn converts(run: impl Fn(&str, &[u8]) -> String) {
+    for case in cases::all() {
+        let kept = case.sheet.kept_by(House::Partner);
+        assert_eq!(run("to-partner", &kept.text()).as_bytes(), kept.text_for(House::Partner), "{}", case.name);
+        assert_eq!(run("from-partner", &kept.text_for(House::Partner)).as_bytes(), kept.text(), "{}", case.name);
+    }
+    let case = |name: &str| cases::named(name).sheet.text();
+    assert_eq!(run("to-partner", &case("P11")), "(refused 17 (line 2))\n");
+    assert_eq!(run("to-partner", &case("P6")), "(refused 18 (line 1))\n");
+    assert_eq!(run("from-partner", &case("P7")), "(refused 3 (line 1))\n");
+    for word in ["to-partner", "from-partner"] {
+        assert_eq!(run(word, &[b'x'; 16_001]), "(refused 1 (line 0))\n");
+    }
+    for word in ["", "partner"] {
+        assert_eq!(run(word, &case("P7")), "");
+    }
+}
+
+#[test]
+fn converting_from_c() {
+    let program = c_example("convert");
+    converts(|word, text| written(Command::new(&program).arg(word).stderr(Stdio::null()), text));
+}
+
+#[test]
+fn converting_from_rust() {
+    let mut examples = rust_examples();
+    examples.args(["build", "--offline", "--release", "--quiet", "--example", "convert"]);
+    assert!(run(&mut examples, b"").1);
+    let program = rust_folder().join("release/examples/convert");
+    converts(|word, text| written(Command::new(&program).arg(word).stderr(Stdio::null()), text));
+}
+
+/// The examples that merge the sheets of two files, run with these names and, for a line, with a loader number.
+fn merges(name: &str, run: impl Fn(&[&str]) -> String) {
+    let folder = Path::new(env!("CARGO_TARGET_TMPDIR")).join(name);
+    std::fs::create_dir_all(&folder).unwrap();
+    let file = |name: &str, text: &str| {
+        std::fs::write(folder.join(name), text).unwrap();
+        folder.join(name).to_str().unwrap().to_string()
+    };
+    let (one, two, long) = (file("one", cases::PAIR.0), file("two", cases::PAIR.1), file("long", &"x".repeat(20_000)));
+    assert_eq!(run(&[&one, &two]), cases::MERGED);
+    for (loader, line) in [("4017", "(unit 4017 (window 1 4))\n"), ("40", "(unit 40 (window 2 3))\n"), ("4", "(refused 27 (line 0))\n")] {
+        assert_eq!(run(&[&one, &two, loader]), line);
+        assert_eq!(run(&[&two, &one, loader]), line);
+    }
+    assert_eq!(run(&[&one, &two, "69553"]), "(refused 27 (line 0))\n", "4017 in 16 bits");
+    for pair in [[&one, &long], [&long, &one]] {
+        assert_eq!(run(&pair.map(String::as_str)), "(refused 1 (line 0))\n");
+        assert_eq!(run(&[pair[0], pair[1], "12"]), "(refused 1 (line 0))\n");
+    }
+    assert_eq!(run(&[&one, &one]), "(refused 20 (line 2))\n");
+    assert_eq!(run(&[&one, "no such file"]), "");
+}
+
+#[test]
+fn merging_from_c() {
+    let program = c_example("merge");
+    merges("merging_from_c", |words| written(Command::new(&program).args(words).stderr(Stdio::null()), b""));
+}
+
+#[test]
+fn merging_from_rust() {
+    let mut examples = rust_examples();
+    examples.args(["build", "--offline", "--release", "--quiet", "--example", "merge"]);
+    assert!(run(&mut examples, b"").1);
+    let program = rust_folder().join("release/examples/merge");
+    merges("merging_from_rust", |words| written(Command::new(&program).args(words).stderr(Stdio::null()), b""));
+}
+
+#[test]
+fn deciding_from_c() {
+    let program = c_example("decide");
+    decides(|text| written(&mut Command::new(&program), text));
+}
+
+#[test]
+fn deciding_from_rust() {
+    decides(|text| rust_example("decide", text));
+}
+
+/// The examples that print a page, against the model.
+fn prints_pages(run: impl Fn(&[u8]) -> String) {
+    for case in cases::all() {
+        // Other numbers than the places.
+        let sheet = case.sheet.clone().numbered(&(0..case.sheet.units.len() as u16).map(|i| 4_017 - 5 * i).collect::<Vec<_>>());
+        let page = run(&sheet.text());
+        assert_eq!(page::fault(&sheet, enumerated::solve(&sheet).as_ref(), page.as_bytes()), None, "{}", case.name);
+    }
+    assert_eq!(run(b"(sheet 49)\n"), "(refused 6 (line 1))\n");
+    assert_eq!(run(&[b'x'; 16_001]), "(refused 1 (line 0))\n");
+}
+
+#[test]
+fn printing_from_c() {
+    let program = c_example("sheet");
+    prints_pages(|text| written(&mut Command::new(&program), text));
+}
+
+/// Where the Rust examples are built.
+fn rust_folder() -> PathBuf {
+    Path::new(env!("CARGO_TARGET_TMPDIR")).join("examples")
+}
+
+/// Cargo, for the Rust examples.
+fn rust_examples() -> Command {
+    let mut cargo = Command::new(env!("CARGO"));
+    cargo.current_dir(bindings()).env("CARGO_TARGET_DIR", rust_folder());
+    cargo
+}
+
+/// A Rust example, built as its own header says.
+fn rust_example(name: &str, text: &[u8]) -> String {
+    let mut cargo = rust_examples();
+    cargo.args(["run", "--offline", "--release", "--quiet", "--example", name]);
+    written(&mut cargo, text)
+}
+
+#[test]
+fn planning_from_rust() {
+    let said = rust_example("plan", b"");
+    let units: Vec<&str> = said.lines().filter(|l| l.starts_with("unit ")).collect();
+    assert_eq!(units, ["unit 1: slot 1, from 1 to 2", "unit 2: slot 3, from 3 to 4"]);
+}
+
+#[test]
+fn printing_from_rust() {
+    prints_pages(|text| rust_example("sheet", text));
 }

@@ -109,7 +109,7 @@ fn sources(folder: &Path, all: &mut Vec<PathBuf>) {
 /// The sources of a Rattle crate, one behind the other.
 fn rattle(name: &str) -> String {
     let mut files = Vec::new();
-    sources(&root().join("crates").join(name), &mut files);
+    sources(&root().join("crates").join(name).join("src"), &mut files);
     files.iter().map(|f| fs::read_to_string(f).unwrap()).collect()
 }
 

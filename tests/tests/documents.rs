@@ -114,11 +114,11 @@ fn theorems_stand_where_the_promises_say() {
     }
 }
 
-/// The wrong programs of every crate by their names, `crate/label`: those that the gate tries (`must-fail/`) and the others (`must-fail/more/`).
+/// The wrong programs of every crate by their names, `crate/label`: those that the gate tries (`must-fail/`) and the others (`must-fail-more/`).
 fn wrong_programs() -> BTreeMap<String, PathBuf> {
     let mut all = BTreeMap::new();
     for folder in fs::read_dir(root().join("crates")).unwrap().map(|e| e.unwrap()) {
-        for tier in ["must-fail", "must-fail/more"] {
+        for tier in ["must-fail", "must-fail-more"] {
             let Ok(files) = fs::read_dir(folder.path().join(tier)) else { continue };
             for edit in files.map(|e| e.unwrap().path()).filter(|path| path.is_file()) {
                 assert_eq!(edit.extension().unwrap(), "edit", "{} is tried by nothing", edit.display());

@@ -10,7 +10,7 @@ use model::examples::{cargo, closed_pipe, ended, full, of_output, unreadable, En
 use model::examples::{FAILED, NONE, REFUSED, USAGE, WELL};
 use model::house::House;
 use model::{enumerated, page};
-use tugrokt::{Refusal, Sheet};
+use tugrokt::told::{self, Refusal};
 
 /// A sheet that is refused, and one that is too long.
 const SPAN_49: &[u8] = b"(sheet 49)\n";
@@ -73,7 +73,7 @@ fn reads_standard_input(example: &Example, words: &[&str]) {
 /// What the examples have in common that take a sheet and no word: how they end with a refusal, a failure and a wrong use.
 fn takes_a_sheet(example: &Example) {
     for text in [SPAN_49, TOO_LONG, b""] {
-        assert_eq!(example.run(&[""; 0], text), refused(example, Sheet::read(text).unwrap_err(), ""));
+        assert_eq!(example.run(&[""; 0], text), refused(example, told::read(text).unwrap_err(), ""));
     }
     for text in [&case("P2")[..], &case("P4"), SPAN_49] {
         writes(example, &[], text);
@@ -142,11 +142,11 @@ fn converts(example: &Example) {
         assert_eq!(example.run(&["from-partner"], &theirs), shown(WELL, &ours), "{}", case.name);
     }
     for (name, question, place) in [("P11", 17, "unit 2"), ("P6", 18, "rule 1")] {
-        let refusal = Sheet::read(&case(name)).unwrap().write_partner().unwrap_err();
+        let refusal = told::write_partner(&told::read(&case(name)).unwrap()).unwrap_err();
         assert_eq!((refusal.question(), refusal.place().to_string()), (question, place.to_string()));
         assert_eq!(example.run(&["to-partner"], &case(name)), refused(example, refusal, ""));
     }
-    assert_eq!(example.run(&["from-partner"], &case("P7")), refused(example, Sheet::read_partner(&case("P7")).unwrap_err(), ""));
+    assert_eq!(example.run(&["from-partner"], &case("P7")), refused(example, told::read_partner(&case("P7")).unwrap_err(), ""));
     for word in ["to-partner", "from-partner"] {
         assert_eq!(example.run(&[word], TOO_LONG), refused(example, Refusal::TextTooLong, ""));
         writes(example, &[word], &cases::named("P7").sheet.text_for(if word == "to-partner" { House::Ours } else { House::Partner }));
@@ -202,7 +202,7 @@ fn refuses_to_merge(example: &Example) {
         assert_eq!(run(&[first, second]), refused(example, Refusal::TextTooLong, &format!("{long}: ")));
         assert_eq!(run(&[first, second, "12"]), refused(example, Refusal::TextTooLong, &format!("{long}: ")));
     }
-    let twice = tugrokt::merge(cases::PAIR.0.as_bytes(), cases::PAIR.0.as_bytes()).unwrap_err();
+    let twice = told::merge(cases::PAIR.0.as_bytes(), cases::PAIR.0.as_bytes()).unwrap_err();
     assert_eq!(run(&[&one, &one]), refused(example, twice, &format!("{one}: ")));
 }
 
@@ -234,36 +234,36 @@ fn merges_files_of_any_name(example: &Example) {
     is_wrong_use(example, &[one.as_os_str(), two.as_os_str(), OsStr::from_bytes(b"\xff")]);
 }
 
-/// Builds an example in both languages, and tries each.
-fn in_both(name: &str, tried: impl Fn(&Example)) {
-    for language in [Language::C, Language::Rust] {
+/// Builds an example in C and one in Rust, and tries each.
+fn in_both(in_c: &str, in_rust: &str, tried: impl Fn(&Example)) {
+    for (language, name) in [(Language::C, in_c), (Language::Rust, in_rust)] {
         tried(&Example::built(language, name, folder()));
     }
 }
 
 #[test]
 fn planning() {
-    in_both("plan", plans);
+    in_both("plan", "told_plan", plans);
 }
 
 #[test]
 fn deciding() {
-    in_both("decide", decides);
+    in_both("decide", "told_decide", decides);
 }
 
 #[test]
 fn printing() {
-    in_both("sheet", prints_pages);
+    in_both("sheet", "sheet", prints_pages);
 }
 
 #[test]
 fn converting() {
-    in_both("convert", converts);
+    in_both("convert", "convert", converts);
 }
 
 #[test]
 fn merging() {
-    in_both("merge", |example| {
+    in_both("merge", "merge", |example| {
         merges(example);
         refuses_to_merge(example);
         cannot_merge(example);
@@ -271,14 +271,16 @@ fn merging() {
     });
 }
 
-/// Every file of the folder is tried above.
+/// Every file of the folder is tried above, or, of the Rust examples that show numbers alone, by `bindings.rs`.
 #[test]
 fn no_other_examples() {
     let entries = std::fs::read_dir(Path::new(env!("ROOT")).join("bindings/examples")).unwrap();
     let mut names: Vec<String> = entries.map(|entry| entry.unwrap().file_name().into_string().unwrap()).collect();
     names.sort();
     let expected = ["convert", "decide", "merge", "plan", "sheet"].map(|name| [format!("{name}.c"), format!("{name}.rs")]);
-    assert_eq!(names, expected.concat());
+    let mut expected = expected.concat();
+    expected.extend(["told_decide.rs", "told_plan.rs"].map(str::to_string));
+    assert_eq!(names, expected);
 }
 
 /// Run as their heads say, they end with the same status.
@@ -292,8 +294,8 @@ fn run_by_cargo() {
         (status, page)
     };
     assert_eq!(run("sheet", &[], &case("P2")), (WELL, cases::P2_PAGE.into()));
-    assert_eq!(run("decide", &[], &case("P4")), (NONE, P4_LIMITS.into()));
-    assert_eq!(run("plan", &[], SPAN_49), (REFUSED, "(refused 6 (line 1))\n".into()));
+    assert_eq!(run("told_decide", &[], &case("P4")), (NONE, P4_LIMITS.into()));
+    assert_eq!(run("told_plan", &[], SPAN_49), (REFUSED, "(refused 6 (line 1))\n".into()));
     assert_eq!(run("merge", &["no such file", "no such file"], b""), (FAILED, String::new()));
     assert_eq!(run("convert", &[], b""), (USAGE, String::new()));
 }

@@ -7,6 +7,7 @@ use std::path::Path;
 use model::house::House;
 use model::page;
 use model::program::{line_page, merged_page, run, run_with, Asked};
+use model::reading::{refusal_page, Refusal};
 use model::sheet::{Sheet, Solved};
 use tugrokt::{Answer, Decision};
 
@@ -119,7 +120,7 @@ fn read(house: House, text: &[u8]) -> Result<tugrokt::Sheet, tugrokt::Refusal> {
 }
 
 fn page_of_refusal(refusal: tugrokt::Refusal) -> Vec<u8> {
-    refusal.page().into_bytes()
+    refusal_page(Refusal { number: refusal.question, line: refusal.line })
 }
 
 /// The page that reading and planning lead to, laid out here.
@@ -133,7 +134,7 @@ fn page_by_calls(house: House, text: &[u8]) -> Vec<u8> {
         (0..lists.from.len()).map(|i| (lists.from[i], lists.to[i], lists.low[i], lists.high[i])).collect();
     let sheet = Sheet::new(lists.span, &windows, &rules).numbered(&lists.loader);
     match lists.plan().expect("what is read is planned") {
-        Answer::None(ring) => page::of_ring(&sheet, &ring.boundaries),
+        Answer::None { ring } => page::of_ring(&sheet, &ring),
         Answer::Plan(plan) => {
             let w = sheet.boundaries();
             let mut table = vec![0; w * w];
@@ -264,7 +265,8 @@ fn by_writing() {
             House::Partner => sheet.write(),
         });
         let said = match converted {
-            Err(refusal @ (tugrokt::Refusal::MayBeCarried(_) | tugrokt::Refusal::HasLow(_))) => format!("{}\n", refusal.place()),
+            Err(refusal) if refusal.question == 17 => format!("unit {}\n", refusal.line),
+            Err(refusal) if refusal.question == 18 => format!("rule {}\n", refusal.line),
             _ => String::new(),
         };
         (converted.unwrap_or_else(page_of_refusal), said)

@@ -444,7 +444,7 @@ fn lines() {
     for loader in [0, 2, 4, 17, 99, 999, 4_016, 4_018, 9_998, 10_000, 40_170, 65_535] {
         let reply = entry::line_of(one.as_bytes(), two.as_bytes(), loader);
         assert_eq!(reply, entry::Line { number: 27, line: 0, sheet: 0, start: 0, length: 0 });
-        assert_eq!(tugrokt::line_of(one.as_bytes(), two.as_bytes(), loader), Err(tugrokt::Refusal::UnknownLoader));
+        assert_eq!(tugrokt::line_of(one.as_bytes(), two.as_bytes(), loader), Err(tugrokt::Refusal { question: 27, line: 0 }));
     }
     // The first line of a text cannot be a unit's, but the second can, and the last.
     let two = "(sheet 9)\n(unit 7 (window 1 1))\n";
@@ -668,7 +668,7 @@ fn lawful_for_both() {
             }
         }
         let Some(sheet) = merged_sheet else {
-            tally.add(merged.unwrap_err().question(), NONE);
+            tally.add(merged.unwrap_err().question, NONE);
             assert_eq!(lawful, 0, "seed {} case {i}", seed(703));
             continue;
         };

@@ -13,7 +13,8 @@ use model::reading::read;
 use model::tally::Tally;
 use model::{effort, seed};
 use tugrokt::entry::{self, DecideRooms, Rooms, SeatRooms};
-use tugrokt::{Place, Refusal, Sheet};
+use tugrokt::told::{self, Place, Refusal};
+use tugrokt::Sheet;
 
 /// The variant of each question of a place, and of those that are asked of the whole.
 const OF_A_PLACE: [(usize, fn(Place) -> Refusal); 16] = [
@@ -145,7 +146,8 @@ fn replies(lists: &Lists) -> [(usize, usize); 6] {
 
 /// The refusals that the calls of a sheet hand out, in the same order.
 fn handed_out(sheet: &Sheet) -> [Option<Refusal>; 6] {
-    [sheet.plan().err(), sheet.decide().err(), sheet.seat().err(), sheet.page().err(), sheet.write().err(), sheet.write_partner().err()]
+    let (planned, decided, seated) = (told::plan(sheet).err(), told::decide(sheet).err(), told::seat(sheet).err());
+    [planned, decided, seated, told::page(sheet).err(), told::write(sheet).err(), told::write_partner(sheet).err()]
 }
 
 /// The refusals of lists have the place that the model finds, and number and line of the entries' replies.
@@ -203,18 +205,18 @@ fn the_first_at_fault() {
     for (low, high) in [(0, 1), (2, 1), (3, 1)] {
         sheet.add_rule(1, 4, low, high);
     }
-    assert_eq!(sheet.plan(), Err(Refusal::Loader(Place::Unit(3))));
+    assert_eq!(told::plan(&sheet), Err(Refusal::Loader(Place::Unit(3))));
     (sheet.loader[3], sheet.loader[4]) = (4, 5);
-    assert_eq!(sheet.decide(), Err(Refusal::Count(Place::Rule(1))));
+    assert_eq!(told::decide(&sheet), Err(Refusal::Count(Place::Rule(1))));
     sheet.loader[1] = 0;
-    assert_eq!(sheet.seat(), Err(Refusal::Loader(Place::Unit(1))));
+    assert_eq!(told::seat(&sheet), Err(Refusal::Loader(Place::Unit(1))));
     sheet.to[2] = 5;
-    assert_eq!(sheet.page(), Err(Refusal::Slots(Place::Rule(2))));
+    assert_eq!(told::page(&sheet), Err(Refusal::Slots(Place::Rule(2))));
     sheet.from[0] = 0;
-    assert_eq!(sheet.write(), Err(Refusal::Slots(Place::Rule(0))));
+    assert_eq!(told::write(&sheet), Err(Refusal::Slots(Place::Rule(0))));
     sheet.first[4] = 5;
-    assert_eq!(sheet.write_partner(), Err(Refusal::Slots(Place::Unit(4))));
-    assert_eq!(sheet.write_partner().unwrap_err().page(), "(refused 7 (line 0))\n");
+    assert_eq!(told::write_partner(&sheet), Err(Refusal::Slots(Place::Unit(4))));
+    assert_eq!(told::write_partner(&sheet).unwrap_err().page(), "(refused 7 (line 0))\n");
 }
 
 /// The place of a text's line, 0 being the whole.
@@ -234,8 +236,8 @@ fn refused_texts() {
             text.resize(r.between(15_999, 16_002), b'x');
         }
         let got = match house {
-            House::Ours => Sheet::read(&text),
-            House::Partner => Sheet::read_partner(&text),
+            House::Ours => told::read(&text),
+            House::Partner => told::read_partner(&text),
         };
         let expected = read(house, &text).err().map(|r| refusal(r.number, line(r.line)));
         assert_eq!(got.as_ref().err(), expected.as_ref(), "seed {} case {i}: {}", tally.seed(), String::from_utf8_lossy(&text));
@@ -284,23 +286,23 @@ fn refused_pairs() -> Vec<(&'static str, &'static str, Refusal)> {
 fn a_refusal_by_each_question() {
     let mut handed: Vec<Refusal> = Vec::new();
     for (text, refusal) in refused_sheets() {
-        assert_eq!(Sheet::read(text.as_bytes()), Err(refusal));
+        assert_eq!(told::read(text.as_bytes()), Err(refusal));
         handed.push(refusal);
     }
     for (one, two, refusal) in refused_pairs() {
-        assert_eq!(tugrokt::merge(one.as_bytes(), two.as_bytes()), Err(refusal));
-        assert_eq!(tugrokt::line_of(one.as_bytes(), two.as_bytes(), 9), Err(refusal));
+        assert_eq!(told::merge(one.as_bytes(), two.as_bytes()), Err(refusal));
+        assert_eq!(told::line_of(one.as_bytes(), two.as_bytes(), 9), Err(refusal));
         handed.push(refusal);
     }
     let mut sheet = Sheet::new(4);
     sheet.add_unit(4_017, 1, 5);
     sheet.add_rule(1, 4, 1, 2);
-    handed.extend(sheet.write_partner().err());
+    handed.extend(told::write_partner(&sheet).err());
     sheet.last[0] = 4;
-    handed.extend(sheet.write_partner().err());
+    handed.extend(told::write_partner(&sheet).err());
     sheet.first.clear();
-    handed.extend(sheet.plan().err());
-    handed.extend(tugrokt::line_of(b"(sheet 4)\n", b"(sheet 4)\n", 9).err());
+    handed.extend(told::plan(&sheet).err());
+    handed.extend(told::line_of(b"(sheet 4)\n", b"(sheet 4)\n", 9).err());
     let mut numbers: Vec<usize> = handed.iter().map(Refusal::question).collect();
     numbers.sort();
     numbers.dedup();
@@ -317,9 +319,9 @@ fn pages_of_the_program() {
         let asked = *r.pick(&Asked::ALL);
         let text = if asked == Asked::ToPartner { small_sheet(&mut r).text() } else { any_text(&mut r, asked.house()) };
         let refusal = match asked {
-            Asked::Plan | Asked::Fits => Sheet::read(&text).err(),
-            Asked::Partner | Asked::FromPartner => Sheet::read_partner(&text).err(),
-            Asked::ToPartner => Sheet::read(&text).and_then(|sheet| sheet.write_partner()).err(),
+            Asked::Plan | Asked::Fits => told::read(&text).err(),
+            Asked::Partner | Asked::FromPartner => told::read_partner(&text).err(),
+            Asked::ToPartner => told::read(&text).and_then(|sheet| told::write_partner(&sheet)).err(),
         };
         let (page, said) = run_with(asked.words(), &text, &[], None);
         let page = String::from_utf8(page).unwrap();
@@ -350,7 +352,7 @@ fn pages_of_two_texts() {
         std::fs::write(&files[1], &two).unwrap();
         let what = format!("seed {} case {i}", tally.seed());
         let (page, said) = run_with(&["merge", &files[0], &files[1]], b"", &[], None);
-        let Err(refusal) = tugrokt::merge(&one, &two) else {
+        let Err(refusal) = told::merge(&one, &two) else {
             tally.add(0, "merged");
             assert!(page.starts_with(b"(sheet ") && said.is_empty(), "{what}: {said}");
             continue;
@@ -364,6 +366,6 @@ fn pages_of_two_texts() {
         assert!(tally.refused_by(number) > 0, "none refused by {number}");
     }
     let (one, two) = cases::PAIR;
-    assert_eq!(tugrokt::line_of(one.as_bytes(), two.as_bytes(), 4).unwrap_err().text(one.as_bytes()), None);
+    assert_eq!(told::line_of(one.as_bytes(), two.as_bytes(), 4).unwrap_err().text(one.as_bytes()), None);
     tally.report();
 }

@@ -11,12 +11,13 @@ use model::random::{any_sheet, small_sheet, tied_sheet, Random};
 use model::sheet::{Rule, Sheet, Unit};
 use model::tally::Tally;
 use model::{effort, seed};
-use tugrokt::{answer, Answer, Bound, Decision, House, Limit, Query, Ring, Source};
+use tugrokt::told::{self, Answer, Bound, Decision, Limit, Ring, Source};
+use tugrokt::{answer, House, Query};
 
 /// The package's ring of a sheet without a plan, which deciding gives too.
 fn ring_of(sheet: &Sheet) -> Option<Ring> {
     let sheet = owned(&Lists::from(sheet));
-    match (sheet.plan().unwrap(), sheet.decide().unwrap()) {
+    match (told::plan(&sheet).unwrap(), told::decide(&sheet).unwrap()) {
         (Answer::None(planned), Decision::None(decided)) => {
             assert_eq!(planned, decided);
             Some(planned)

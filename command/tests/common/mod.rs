@@ -11,6 +11,7 @@ use std::process::{Child, Command, Output, Stdio};
 
 use model::cases;
 use model::program::run_with;
+use model::room::outside;
 
 /// How a call ended.
 #[derive(Clone, Debug, PartialEq, Eq)]
@@ -63,12 +64,9 @@ pub fn run<S: AsRef<OsStr>>(words: &[S], text: &[u8]) -> Ended {
     run_in(Path::new("."), words, text)
 }
 
-/// A folder of a test's own, with nothing in it.
+/// A folder of a test's own, with nothing in it. Some lay links down there.
 pub fn folder(name: &str) -> PathBuf {
-    let folder = Path::new(env!("CARGO_TARGET_TMPDIR")).join(name);
-    let _ = fs::remove_dir_all(&folder);
-    fs::create_dir_all(&folder).unwrap();
-    folder
+    outside(&format!("command/{name}"))
 }
 
 /// The same with these files.
