@@ -1,7 +1,0 @@
--- The two comparisons are the two sides of `within`.
-use borrow.Author.Tests.{lt-leb, le-leb}
-use Rattle.wave_loader.proofs.is_digit.Statement.{statement}
-use Rattle.wave_loader.proofs.is_digit.Tie as tie
-
-pub is_digit_spec : {M : Type 1} → statement M
-is_digit_spec = tie.close (tie.spec (λ c. simp (lt-leb _ _ c.if1.true)) (λ c. simp (le-leb _ _ c.if1.false)))
