@@ -172,7 +172,3 @@ module _ (h : House) (t : List ℕ) (at n : ℕ) (s : Sheet) (m₀ m : ListRooms
     pub arrays_kept : m ≡ set_at m₀ 0 0 (columns (sheet_in h t).units (sheet_in h t).rules)
     unfolding sheet_in
     arrays_kept = i.in_arrays ∙ ap (λ (xs : List Content). set_at m₀ 0 0 (columns (units_in xs) (rules_in xs))) (sym all_before)
-
-pub arrays_sizes : (h : House) (t : List ℕ) (at n : ℕ) (s : Sheet) (m₀ m : ListRooms (List ℕ)) → Asking h t at n s m₀ m → SameSizes m m₀
-arrays_sizes h t at n s m₀ m i =
-    subst (λ (x : ListRooms (List ℕ)). SameSizes x m₀) (sym i.in_arrays) (set_sizes m₀ 0 0 (columns (units_in i.before) (rules_in i.before)))

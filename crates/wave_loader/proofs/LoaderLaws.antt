@@ -52,11 +52,6 @@ module _ (word : List ℕ) (v i : ℕ) (h : i < length word) where
       ∙ ap (λ n. cond (every is_digit rest) (Number n) NoNumber) (sym (capped_early (v * 10 + (b - 48)) rest))
       ))
 
-  pub other_here : is_digit (get_or word i 0) ≡ false → named_from v (drop i word) ≡ NoNumber
-  other_here d =
-      rw (drop-cons word i 0 h)
-      (ap (λ (t : Bool). cond (t && every is_digit (drop (suc i) word)) (Number (capped (value_from v (get_or word i 0 ∷ drop (suc i) word)))) NoNumber) d)
-
 -- behind the last byte
 pub all_named : (word : List ℕ) (v i : ℕ) → length word ≤ i → v ≤ suc max_loader → named_from v (drop i word) ≡ Number v
 unfolding value_from
