@@ -9,11 +9,11 @@ use Rattle.network_pass.specs.Pass.{finished, stopped}
 use Rattle.sheet.specs.Sheet.{is_ring}
 use Rattle.sheet.specs.Lists.{Lists, listed, given}
 use Rattle.pages.specs.Page.{max_page}
-use Rattle.plan_ask.specs.AskingLaws.{span_bound}
+use Rattle.plan_ask.proofs.AskingLaws.{span_bound}
 use Rattle.plan_steps.specs.Closing.{passed}
 use Rattle.print_solved.specs.OwnLaws.{own_rooms, own_solvable, cells_few, Front}
 use Rattle.wave_words.specs.declared.Query.TheVariants.{Fits}
-use Rattle.answer_conditions.specs.SheetLaws.{own_decides, own_fillable, decide_fits, decide_none, fits_asks, fits_is, fit_answered, ring_answered}
+use Rattle.answer_conditions.proofs.SheetLaws.{own_decides, own_fillable, decide_fits, decide_none, fits_asks, fits_is, fit_answered, ring_answered}
 use Rattle.answer_lists.proofs.fits_sheet.Goals.{Start, In-Fits, In-None}
 use Rattle.answer_lists.proofs.fits_sheet.Goals as goal
 

@@ -11,11 +11,11 @@ use Rattle.sheet.specs.Lists.{Lists, listed, given}
 use Rattle.pages.specs.Page.{max_page}
 use Rattle.plan_rooms.specs.Rooms.{Rooms, lent}
 use Rattle.plan_ask.specs.Asking.{Solvable}
-use Rattle.plan_ask.specs.AskingLaws.{span_bound}
+use Rattle.plan_ask.proofs.AskingLaws.{span_bound}
 use Rattle.plan_steps.specs.Closing.{passed}
 use Rattle.print_solved.specs.OwnLaws.{own_rooms, own_solvable, cells_few, PlanFronts, plan_own}
 use Rattle.wave_words.specs.declared.Query.TheVariants.{Plan}
-use Rattle.answer_conditions.specs.SheetLaws.{own_fillable, plan_none, plan_asks, plan_is, fit_answered, ring_answered}
+use Rattle.answer_conditions.proofs.SheetLaws.{own_fillable, plan_none, plan_asks, plan_is, fit_answered, ring_answered}
 use Rattle.answer_lists.proofs.plan_sheet.Goals.{Start, In-Fits, In-None}
 use Rattle.answer_lists.proofs.plan_sheet.Goals as goal
 

@@ -2,8 +2,8 @@
 use Rattle.std.proofs.Common.{◌≡◌, length}
 use Rattle.sheet.specs.Lists.{Lists, listed}
 use Rattle.pages.specs.Page.{max_page}
-use Rattle.plan_ask.specs.AskingLaws.{span_bound}
-use Rattle.answer_conditions.specs.SheetLaws.{ring_asked, ring_written}
+use Rattle.plan_ask.proofs.AskingLaws.{span_bound}
+use Rattle.answer_conditions.proofs.SheetLaws.{ring_asked, ring_written}
 use Rattle.answer_lists.proofs.put_ring.Goals.{Start}
 use Rattle.answer_lists.proofs.put_ring.Goals as goal
 
