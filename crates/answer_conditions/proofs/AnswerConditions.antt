@@ -11,7 +11,6 @@ use Rattle.network.specs.Table.{entry}
 use Rattle.network_pass.specs.Pass.{Passed, finished, stopped}
 use Rattle.sheet.specs.Sheet.{Sheet, WrittenSheet, constraints, loaders, lawful, boundaries, printed_plan}
 use Rattle.sheet.proofs.QuestionLaws.{accepted_valid}
-use Rattle.sheet.proofs.Solved.{Solved}
 use Rattle.read_questions.specs.Reading.{questions, rooms_for_all, sheet_in}
 use Rattle.questions.specs.Questions.{Verdict, no, all_yes, first_no}
 use Rattle.read_questions.proofs.AcceptedLaws.{reading_accepts, reading_loaders}
@@ -29,14 +28,11 @@ use Rattle.pages.specs.Pages.{PlanPage, FitsPage, NonePage}
 use Rattle.pages.proofs.PagesLaws.{plan_page_lem, fits_page_lem, none_page_lem}
 use Rattle.wave_words.specs.declared.Query.{Query}
 use Rattle.wave_words.specs.declared.Query.TheVariants.{Plan, Fits}
-use Rattle.answer_conditions.specs.Answer.{page_of, ByPass, ByReading, AnswerTo, Answered}
+use Rattle.answer_conditions.specs.Answer.{page_of, ByPass, ByReading, AnswerTo, Answered, verdict}
 use Rattle.print_bytes.proofs.WritingLaws.{refused_short}
 use Rattle.read_whole.specs.FrontsLaws.{lists_of, passes_back}
 use Rattle.read_whole.specs.WholeLaws.{two_digits}
-
--- the question that refuses a text, by number and line, or that every answer is yes
-abbrev pub verdict : House → List ℕ → Verdict
-verdict h input = first_no (questions h input rooms_for_all)
+use Rattle.sheet.specs.Solved.{Solved}
 
 -- What reading accepts, planning accepts: of the lists of a text that is not refused no question is answered no, 16 included, and rooms that are long enough
 -- are all that is left to ask.

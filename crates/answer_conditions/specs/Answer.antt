@@ -12,6 +12,10 @@ use Rattle.pages.specs.SheetPages.{plan_bytes, fits_bytes, ring_bytes}
 use Rattle.wave_words.specs.declared.Query.{Query}
 use Rattle.wave_words.specs.declared.Query.TheVariants.{Plan, Fits}
 
+-- the question that refuses a text, by number and line, or that every answer is yes
+abbrev pub verdict : House → List ℕ → Verdict
+verdict h input = first_no (questions h input rooms_for_all)
+
 -- the page of a sheet that fits, by what is asked of it: its plan, with its units' loader numbers, or its slots' ranges alone
 abbrev pub page_of : Query → List ℕ → Sheet → List ℕ
 page_of Plan ks s = plan_bytes ks s

@@ -10,7 +10,6 @@ use Rattle.slots.specs.Slots.{Slot, slot_before}
 use Rattle.sheet.specs.Sizes.{top_of}
 use Rattle.sheet.specs.Sheet.{Sheet, WrittenSheet, constraints, top, boundaries, count_in, least_in, greatest_in, earliest, latest, printed_plan}
 use Rattle.sheet.proofs.PlanLaws.{earliest_bound, earliest_attained, latest_bound, latest_attained}
-use Rattle.sheet.proofs.Solved.{Solved}
 use Rattle.sheet.specs.Lists.{WrittenLists, given_by, written_by}
 use Rattle.sheet.proofs.WrittenLaws.{units_of_length, written_constraints}
 use Rattle.plans.proofs.CountLaws.{greatest_entry, least_entry}
@@ -30,6 +29,7 @@ use Rattle.compare_sheets.proofs.RelistedLaws.{same_top, same_number, same_lawfu
 use Rattle.compare_sheets.proofs.RelistedLaws.{same_counts, same_closing, same_seat}
 use Rattle.compare_sheets.proofs.LooserLaws.{looser_lawful, looser_least, looser_greatest}
 use Rattle.compare.specs.Calls.{PlanCall, DecideCall}
+use Rattle.sheet.specs.Solved.{Solved}
 
 -- ---- all that two sheets of one wave agree on, so that it is carried at once to the sheets of a call's lists
 

@@ -15,7 +15,6 @@ use Rattle.lists.specs.Values.{length_list_of, list_of_at, list_of_is, values_sa
 use Rattle.slots.specs.Slots.{Slot, Boundary}
 use Rattle.sheet.specs.Sheet.{Sheet, WrittenSheet, constraints, loaders, top, count_in, least_in, greatest_in, earliest, latest, printed_plan}
 use Rattle.sheet.proofs.PlanLaws.{lawful_iff, greatest_in_bound}
-use Rattle.sheet.proofs.PotentialLaws.{Valid}
 use Rattle.plans.proofs.PrintedLaws.{printed_unique}
 use Rattle.pages.specs.PageLines.{Said, plan, unit, carried, slot, fits, range, other, unit_lines_with, unit_said, slot_said, range_said}
 use Rattle.pages.proofs.PageLinesLaws.{lines_counted}
@@ -31,6 +30,7 @@ use Rattle.wave_words.specs.declared.Query.TheVariants.{Plan, Fits}
 use Rattle.answer_conditions.proofs.AnswerConditions as answers
 use Rattle.compare.specs.Calls.{TextAnswer, text_sheet, IsPlan, IsFit, IsNone, is_unit_line, other_lines, SaysBetween}
 use Rattle.compare.proofs.CallLaws.{Alike}
+use Rattle.sheet.specs.Solved.{Valid}
 
 -- the entries that are one number, as the entries from it to it
 how_many_one : (t : Slot) (xs : List Slot) → how_many (eqb t) xs ≡ count_in t t xs

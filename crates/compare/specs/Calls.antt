@@ -17,8 +17,7 @@ use Rattle.pages.specs.PageLines.{Said, plan, unit, carried, slot, fits, range, 
 use Rattle.pages.specs.Pages.{PlanPage, FitsPage, NonePage}
 use Rattle.wave_words.specs.declared.Query.{Query}
 use Rattle.wave_words.specs.declared.Query.TheVariants.{Plan, Fits}
-use Rattle.answer_conditions.specs.Answer.{AnswerTo, Answered}
-use Rattle.answer_conditions.proofs.AnswerConditions.{verdict}
+use Rattle.answer_conditions.specs.Answer.{AnswerTo, Answered, verdict}
 
 -- a call of `plan`: its lists, the rooms before it, its reply and the rooms after it, which are as the entry ensures
 pub record PlanCall : Type 0 where

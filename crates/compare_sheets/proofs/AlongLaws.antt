@@ -12,10 +12,9 @@ use Rattle.lists.specs.Lists.{within, every, how_many, one_if}
 use Rattle.lists.specs.Members.{In, both, left, right, in_at, place_in, every_in, in_every}
 use Rattle.lists.specs.Permutations.{how_many_perm, in_perm, every_perm}
 use Rattle.slots.specs.Slots.{Slot}
-use Rattle.sheet.specs.Sheet.{Window, SheetUnit, WrittenSheet, constraints, loaders, count_in, in_windows, obeys, lawful}
+use Rattle.sheet.specs.Sheet.{Window, SheetUnit, WrittenSheet, constraints, loaders, count_in, in_windows, obeys, lawful, no_unit}
 use Rattle.sheet.proofs.PlanLaws.{lawful_iff}
 use Rattle.sheet.proofs.LoaderLaws.{loader_once}
-use Rattle.sheet.proofs.WrittenLaws.{no_unit}
 use Rattle.compare_sheets.specs.Comparing.{Accepted, Relisted, SameLoader}
 
 -- ---- units with their slots

@@ -15,12 +15,10 @@ use Rattle.lists.specs.Extremes.{least_same, greatest_same}
 use Rattle.lists.specs.Permutations.{length_perm, how_many_perm, map_perm}
 use Rattle.slots.specs.Slots.{Slot, slot_before}
 use Rattle.sheet.specs.Sizes.{top_of}
-use Rattle.sheet.specs.Sheet.{Window, Sheet, SheetUnit, WrittenSheet, constraints, no_window, top, count_in, lawful, lawful_plans}
+use Rattle.sheet.specs.Sheet.{Window, Sheet, SheetUnit, WrittenSheet, constraints, no_window, top, count_in, lawful, lawful_plans, no_unit}
 use Rattle.sheet.specs.Sheet.{least_in, greatest_in, earliest, latest, printed_plan}
 use Rattle.sheet.proofs.LimitLaws.{count_in_split}
-use Rattle.sheet.proofs.PotentialLaws.{Valid}
 use Rattle.sheet.proofs.QuestionLaws.{accepted_valid}
-use Rattle.sheet.proofs.WrittenLaws.{no_unit}
 use Rattle.plans.proofs.FairLaws.{firsts, lasts}
 use Rattle.plans.specs.Seating.{at, Complete}
 use Rattle.plans.proofs.CountLaws.{lawful_solved}
@@ -29,6 +27,7 @@ use Rattle.compare_sheets.specs.Comparing.{Accepted, Relisted, SameLoader, seats
 use Rattle.compare_sheets.proofs.ValuesLaws.{Reaches, values_reached}
 use Rattle.compare_sheets.proofs.AlongLaws.{Seat, seat, relisted_back, along, along_count, along_lawful, along_seat}
 use Rattle.compare_sheets.proofs.ClosingLaws.{opened, closing_in, closing_same}
+use Rattle.sheet.specs.Solved.{Valid}
 
 -- ---- along, from one listing to the other
 module _ (w v : WrittenSheet) (listed : Relisted w v) where

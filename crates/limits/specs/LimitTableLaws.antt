@@ -9,8 +9,7 @@ use Rattle.lists.specs.Members.{In, in_at}
 use Rattle.network.specs.Table.{max_boundaries, table_of, entry}
 use Rattle.network.proofs.TableLaws.{length_table_of, entry_front}
 use Rattle.sheet.specs.Sizes.{max_slots, max_count, top_of, boundaries_of}
-use Rattle.sheet.specs.Sheet.{Rule, Sheet, top, boundaries, no_window, inside_of, at_least, limit}
-use Rattle.sheet.proofs.PlanLaws.{no_rule}
+use Rattle.sheet.specs.Sheet.{Rule, Sheet, top, boundaries, no_window, inside_of, at_least, limit, no_rule}
 use Rattle.sheet.proofs.LimitLaws.{limit_fwd, limit_back, limit_same, at_most_n, at_least_le}
 use Rattle.sheet.specs.Questions.{windows_of, rules_of, sheet_of, lists_agree, accepted}
 use Rattle.sheet.proofs.QuestionLaws.{Agree, lists_agree_read, windows_of_length, windows_of_at, rules_of_length, rules_of_at}

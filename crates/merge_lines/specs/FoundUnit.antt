@@ -10,8 +10,7 @@ use Rattle.lists.specs.First.{first_at}
 use Rattle.lists.specs.Members.{In, is_true}
 use Rattle.questions.specs.Questions.{ask, all_yes, first_no, AllYes}
 use Rattle.questions.proofs.FirstNoLaws.{yes_every, every_yes, yes_front, yes_back, yes_at}
-use Rattle.sheet.specs.Sheet.{SheetUnit, loaders}
-use Rattle.sheet.proofs.WrittenLaws.{no_unit}
+use Rattle.sheet.specs.Sheet.{SheetUnit, loaders, no_unit}
 use Rattle.forms.specs.declared.House.TheVariants.{Ours}
 use Rattle.read_questions.specs.Reading.{sheet_in}
 use Rattle.read_places.specs.LineOfUnit.{LineOfUnit, line_says}

@@ -4,8 +4,7 @@ use Rattle.lists.specs.Lists.{every, keep, member}
 use Rattle.lists.specs.First.{first_place}
 use Rattle.questions.specs.Questions.{Question, ask, Verdict, no, all_yes, first_no}
 use Rattle.sheet.specs.Sizes.{max_units, max_rules}
-use Rattle.sheet.specs.Sheet.{Rule, WrittenSheet, loaders, on_stretch, head_or}
-use Rattle.sheet.proofs.PlanLaws.{no_rule}
+use Rattle.sheet.specs.Sheet.{Rule, WrittenSheet, loaders, on_stretch, head_or, no_rule}
 use Rattle.forms.specs.declared.House.TheVariants.{Ours}
 use Rattle.read_questions.specs.Reading.{sheet_in, ListRooms, lists_fit, Reply, refused, read, concluded}
 use Rattle.lists.specs.Last.{last_passing}

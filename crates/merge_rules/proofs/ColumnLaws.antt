@@ -10,8 +10,7 @@ use lib.ListN.{length, get_or, set, length-append, length-set, length-map, get_o
 use lib.Seq.{map-set_same}
 use Rattle.lists.specs.Lists.{on_front}
 use Rattle.lists.specs.First.{first_place, first_before, first_at}
-use Rattle.sheet.specs.Sheet.{Rule, on_stretch}
-use Rattle.sheet.proofs.PlanLaws.{no_rule}
+use Rattle.sheet.specs.Sheet.{Rule, on_stretch, no_rule}
 use Rattle.merge_sheets.specs.Merge.{tightened, with_rule}
 use Rattle.merge_sheets.proofs.CombineLaws.{with_rule_there, with_rule_behind}
 use Rattle.merge_rules.specs.Columns.{Columns, columns, rule_of, stretch_at, AtFront}

@@ -14,8 +14,7 @@ use Rattle.lists.specs.Lists.{on_front}
 use Rattle.lists.specs.First.{first_place}
 use Rattle.lists.specs.Values.{front_length}
 use Rattle.sheet.specs.Sizes.{max_rules}
-use Rattle.sheet.specs.Sheet.{Rule}
-use Rattle.sheet.proofs.PlanLaws.{no_rule}
+use Rattle.sheet.specs.Sheet.{Rule, no_rule}
 use Rattle.merge_sheets.specs.Merge.{firsts, merged_rules, with_rule}
 use Rattle.merge_sheets.proofs.CombineLaws.{merged_rules_more, merged_rules_few, merged_rules_grows}
 use Rattle.merge_rules.specs.Columns.{Columns, AtFront}

@@ -8,8 +8,7 @@ use Rattle.std.proofs.Math.Decide.{ℕ_discrete}
 use Rattle.slots.specs.Slots.{Slot}
 use Rattle.lists.specs.Lists.{keep, cons_if, smallest, largest, least, greatest}
 use Rattle.lists.specs.Members.{keep_append}
-use Rattle.sheet.specs.Sheet.{Rule, on_stretch}
-use Rattle.sheet.proofs.PlanLaws.{no_rule}
+use Rattle.sheet.specs.Sheet.{Rule, on_stretch, no_rule}
 use Rattle.merge_sheets.specs.Merge.{firsts, combined_on, merged_rules, tightened, with_rule}
 use Rattle.merge_sheets.proofs.MergeLaws.{same_stretch}
 

@@ -13,8 +13,7 @@ use borrow.Author.Tests.{ltb-true}
 use Rattle.lists.specs.Lists.{on_front}
 use Rattle.lists.specs.First.{first_place, first_at}
 use Rattle.sheet.specs.Sizes.{max_rules}
-use Rattle.sheet.specs.Sheet.{Rule, on_stretch}
-use Rattle.sheet.proofs.PlanLaws.{no_rule}
+use Rattle.sheet.specs.Sheet.{Rule, on_stretch, no_rule}
 use Rattle.sheet.specs.Questions.{rules_of}
 use Rattle.sheet.proofs.QuestionLaws.{rules_of_length, rules_of_at}
 use Rattle.lists.specs.Last.{last_below, last_same}

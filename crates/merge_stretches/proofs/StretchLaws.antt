@@ -14,8 +14,7 @@ use Rattle.lists.specs.First.{first_place}
 use Rattle.questions.specs.Questions.{ask, Verdict, no, all_yes, first_no}
 use Rattle.questions.proofs.FirstNoLaws.{no_here, yes_here}
 use Rattle.sheet.specs.Sizes.{max_rules}
-use Rattle.sheet.specs.Sheet.{Rule}
-use Rattle.sheet.proofs.PlanLaws.{no_rule}
+use Rattle.sheet.specs.Sheet.{Rule, no_rule}
 use Rattle.sheet.specs.Questions.{rules_of}
 use Rattle.sheet.proofs.QuestionLaws.{rules_of_length, rules_of_at}
 use Rattle.merge_sheets.specs.Merge.{crossed}

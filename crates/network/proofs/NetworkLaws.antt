@@ -12,6 +12,7 @@ use Rattle.integers.specs.Parts.{ints, sum, min_ℤ, min_cases, min≤l, min≤r
 use Rattle.lists.specs.Lists.{every, member}
 use Rattle.lists.specs.Members.{In, both, left, right, in_every, every_in, member_in, in_member}
 use Rattle.lists.specs.Counts.{count, count_lt, count_most}
+use Rattle.network.specs.Cycles.{Upto, Distinct, Cycle}
 use Rattle.network.specs.Network.{Weights, Potential, Feasible, via, around, distinct, lowest_first, is_negative_cycle}
 
 -- ---- the lattice of feasible potentials
@@ -25,10 +26,6 @@ lesser_feasible top d y z k f g a b ha hb =
     (λ _. omega (ints, g a b ha hb, sum (z a) (d a b), sum k (z a), sum k (z b), sum (k +ℤ z a) (d a b)))
 
 -- ---- boundaries of a list
-abbrev pub Upto : ℕ → List ℕ → Type 0
-Upto top [] = Unit {0}
-Upto top (b ∷ bs) = (b ≤ top) × Upto top bs
-
 pub upto_of_every : (top : ℕ) (c : List ℕ) → T (every (λ b. leb b top) c) → Upto top c
 upto_of_every top [] h = tt
 upto_of_every top (b ∷ bs) h =
@@ -51,10 +48,6 @@ upto_right top [] vs h = h
 upto_right top (u ∷ us) vs h = upto_right top us vs h.1
 
 -- ---- no boundary twice
-abbrev pub Distinct : List ℕ → Type 0
-Distinct [] = Unit {0}
-Distinct (a ∷ bs) = (In a bs → ⊥) × Distinct bs
-
 pub distinct_left : (us vs : List ℕ) → Distinct (us ++ vs) → Distinct us
 distinct_left [] vs g = tt
 distinct_left (u ∷ us) vs g = ((λ m. g.0 (Memᴰ.append_left vs m)), distinct_left us vs g.1)
@@ -103,12 +96,6 @@ pub distinct_length : (top : ℕ) (c : List ℕ) → Upto top c → Distinct c �
 distinct_length top c u g = omega (arith, length_count top c u g, count_most (suc top) (λ v. member v c))
 
 -- ---- a negative cycle, wherever it starts
-pub record Cycle (top : ℕ) (d : Weights) (c : List ℕ) : Type 0 where
-  pub long : 2 ≤ length c
-  pub upto : Upto top c
-  pub apart : Distinct c
-  pub negative : around d c <ℤ pos 0
-
 -- the test asks this, and that the lowest boundary comes first
 pub cycle_read : (top : ℕ) (d : Weights) (c : List ℕ) → T (is_negative_cycle top d c) → Cycle top d c
 unfolding is_negative_cycle

@@ -1,4 +1,5 @@
 pub mod Network
+pub mod Cycles
 pub mod Closure
 pub mod Table
 pub mod RowStep

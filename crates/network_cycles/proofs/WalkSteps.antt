@@ -12,12 +12,13 @@ use lib.Seq.{drop-cons, drop-set-lt, get_or-drop, get_or-set_same}
 use lib.IntN.{ℤ, ◌+ℤ◌}
 use Rattle.lists.specs.First.{first_from, From, first_from_lem}
 use Rattle.lists.specs.Members.{In}
-use Rattle.network.proofs.NetworkLaws.{Upto, Distinct, distinct_length, Cycle}
+use Rattle.network.proofs.NetworkLaws.{distinct_length}
 use Rattle.network.specs.Table.{entry}
 use Rattle.network_levels.specs.Levels.{level}
 use Rattle.network_cycles.specs.CycleLaws.{at_in}
 use Rattle.network_cycles.specs.WalkLaws.{WalkedBack, met_again}
 use Rattle.network_levels.specs.Finder.{Weighed, Fallen, Source, Found}
+use Rattle.network.specs.Cycles.{Upto, Distinct, Cycle}
 
 pub record WalkInv (w : ℕ) (d : List ℤ) (walk : List ℕ) (k v : ℕ) : Type 0 where
   pub low : 0 < k

@@ -11,8 +11,9 @@ use Rattle.integers.specs.Parts.{ints}
 use Rattle.lists.specs.Lists.{every}
 use Rattle.lists.specs.Members.{In, both, place_in, in_every}
 use Rattle.network.specs.Network.{Weights, around, distinct, lowest_first, is_negative_cycle}
-use Rattle.network.proofs.NetworkLaws.{Upto, upto_append, upto_left, upto_right, every_of_upto, around_turned}
-use Rattle.network.proofs.NetworkLaws.{Cycle, Distinct, distinct_left, distinct_right, distinct_apart, distinct_join, distinct_test}
+use Rattle.network.proofs.NetworkLaws.{upto_append, upto_left, upto_right, every_of_upto, around_turned}
+use Rattle.network.proofs.NetworkLaws.{distinct_left, distinct_right, distinct_apart, distinct_join, distinct_test}
+use Rattle.network.specs.Cycles.{Upto, Cycle, Distinct}
 
 -- ---- places and members
 pub record Place (x : ℕ) (c : List ℕ) : Type 0 where

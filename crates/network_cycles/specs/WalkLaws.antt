@@ -10,9 +10,10 @@ use native.Mathlib.Omega.{arith}
 use Rattle.std.proofs.Math.ListN.{get_or}
 use Rattle.integers.specs.Parts.{ints, sum}
 use Rattle.network.specs.Network.{Weights, via}
-use Rattle.network.proofs.NetworkLaws.{Upto, upto_left, Distinct, distinct_left, Cycle}
+use Rattle.network.proofs.NetworkLaws.{upto_left, distinct_left}
 use Rattle.network_levels.specs.Levels.{level}
 use Rattle.network_levels.specs.LevelLaws.{level_sinks, fell_earlier}
+use Rattle.network.specs.Cycles.{Upto, Distinct, Cycle}
 
 -- the boundaries v, .. of the levels k + 1, ..: each gives the next one its level, and the last one fell
 unfoldable pub WalkedBack : ℕ → Weights → ℕ → ℕ → List ℕ → Type 0

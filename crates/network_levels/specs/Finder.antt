@@ -3,10 +3,10 @@ use Rattle.std.specs.Prelude.{◌≡◌, List, ℕ, suc, ◌+◌, ◌-◌, ◌*�
 use Rattle.std.specs.Int.{w16}
 use Rattle.std.proofs.Common.{SFits}
 use Rattle.network.specs.Network.{Potential, Feasible, is_negative_cycle}
-use Rattle.network.proofs.NetworkLaws.{Cycle}
 use Rattle.network.specs.Table.{max_boundaries, entry}
 use Rattle.network.specs.Bounds.{Small}
 use Rattle.network_levels.specs.Levels.{level}
+use Rattle.network.specs.Cycles.{Cycle}
 
 -- no potential is feasible for the table
 abbrev pub Infeasible : ℕ → List ℤ → Type 0

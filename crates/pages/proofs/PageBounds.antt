@@ -13,7 +13,7 @@ use Rattle.lists.specs.Members.{In, in_map}
 use Rattle.lists.specs.Extremes.{least_in_lem, greatest_in_lem}
 use Rattle.lists.specs.Counts.{how_many_most}
 use Rattle.network.specs.Network.{Weights, via}
-use Rattle.network.proofs.NetworkLaws.{Upto, distinct_length, cycle_read}
+use Rattle.network.proofs.NetworkLaws.{distinct_length, cycle_read}
 use Rattle.network.specs.Table.{max_boundaries}
 use Rattle.sheet.specs.Sizes.{max_slots, max_units, max_count, max_loader, carried_place, top_of}
 use Rattle.sheet.specs.Sheet.{Sheet, top, limit, is_ring, count_in, lawful_plans, least_in, greatest_in, earliest, latest}
@@ -33,6 +33,7 @@ use Rattle.pages.specs.Page.{placed_line, unit_line_at, unit_lines, slot_line_at
 use Rattle.pages.specs.Page.{range_line_at, range_lines, fits_page, max_range_line}
 use Rattle.pages.specs.Page.{step_line, step_lines, ring_lines, shortfall_of, none_page, max_step_line, max_page, max_ring_page}
 use Rattle.pages.proofs.PageLaws.{three_length, placed_inside, placed_past, step_forward, step_backward}
+use Rattle.network.specs.Cycles.{Upto}
 
 -- ---- lines
 unit_line_short : (k x e l : ℕ) → k < 10000 → x < 100 → e < 100 → l < 100 → length (unit_line k x e l) ≤ max_unit_line

@@ -12,13 +12,14 @@ use Rattle.integers.specs.Parts.{up, dn, sum, neg, apart}
 use Rattle.lists.specs.Lists.{joined}
 use Rattle.lists.specs.Values.{values_same, length_list_of, list_of_at}
 use Rattle.network.specs.Network.{Weights, via, around}
-use Rattle.network.proofs.NetworkLaws.{Upto, via_same}
+use Rattle.network.proofs.NetworkLaws.{via_same}
 use Rattle.network.specs.Table.{max_boundaries}
 use Rattle.sheet.specs.Sizes.{max_slots}
 use Rattle.limit_places.specs.LentTableLaws.{place_inside}
 use Rattle.print_bytes.specs.Writing.{plan_head, unit_line, carried_line, fits_head, none_head, at_most_line, at_least_line, shortfall_line}
 use Rattle.pages.specs.Page.{units_at, slot_counts, placed_line, unit_lines, slot_line_at, slot_lines, plan_page, range_line_at, range_lines, fits_page}
 use Rattle.pages.specs.Page.{step_line, step_lines, ring_lines, shortfall_of, none_page, RingFits}
+use Rattle.network.specs.Cycles.{Upto}
 
 -- a page is three parts
 pub three_length : (a b c : List ℕ) → length (joined (a ∷ b ∷ c ∷ [])) ≡ length a + (length b + length c)

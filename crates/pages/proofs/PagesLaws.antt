@@ -18,13 +18,13 @@ use Rattle.sheet.proofs.PlanLaws.{lawful_iff, greatest_in_bound}
 use Rattle.sheet.proofs.PotentialLaws.{ring_contradicts}
 use Rattle.sheet.specs.Questions.{loaders_fit}
 use Rattle.sheet.proofs.LoaderLaws.{loader_once}
-use Rattle.sheet.proofs.Solved.{Solved}
 use Rattle.plans.proofs.PrintedLaws.{Printed, some_printed}
 use Rattle.plans.proofs.CountLaws.{solved_plan, range}
 use Rattle.pages.specs.PageLines.{Said, plan, unit, carried, unit_lines_with, unit_said, slot_said, read_lines}
 use Rattle.pages.proofs.PageLinesLaws.{plan_read, fits_read, none_read}
 use Rattle.pages.specs.SheetPages.{plan_bytes, fits_bytes, ring_bytes}
 use Rattle.pages.specs.Pages.{plan_lines, UnitOf, RangesHold, PlanPage, FitsPage, NonePage}
+use Rattle.sheet.specs.Solved.{Solved}
 
 ranges_hold : (s : Sheet) (D : Weights) → Solved s D → RangesHold s
 unfolding top

@@ -15,7 +15,6 @@ use Rattle.limits.specs.LimitTable.{Fillable}
 use Rattle.limit_places.specs.LentTableLaws.{cleared_length}
 use Rattle.sheet.specs.Questions.{windows_of, sheet_of}
 use Rattle.sheet.proofs.QuestionLaws.{Agree, windows_of_length, accepted_valid}
-use Rattle.sheet.proofs.Solved.{Solved}
 use Rattle.sheet.specs.Lists.{Lists, given}
 use Rattle.plan_rooms.specs.Rooms.{lent, decide_rooms, seat_rooms, places}
 use Rattle.plan_rooms.proofs.RoomsLaws.{SeatsHold}
@@ -29,6 +28,7 @@ use Rattle.plan_steps.specs.Filling.{Ready, PlanFilled}
 use Rattle.plan_steps.specs.FillingLaws.{solved_front}
 use Rattle.plan_answers.specs.Planning.{by_pass, looked_by, table_in, Settled, DecideSettled, SeatSettled}
 use Rattle.plan_answers.specs.Reply as says
+use Rattle.sheet.specs.Solved.{Solved}
 
 -- ---- which pass had the outcome
 is_finished : (p : Passed) → Finished ≡ outcome_of p → (t : List ℤ) × (p ≡ finished t)

@@ -7,7 +7,6 @@ use Rattle.network.specs.Table.{entry}
 use Rattle.network_pass.specs.Pass.{Passed, finished, stopped}
 use Rattle.questions.specs.Questions.{Verdict, no, all_yes}
 use Rattle.sheet.specs.Sheet.{Sheet, boundaries, lawful}
-use Rattle.sheet.proofs.Solved.{Solved}
 use Rattle.sheet.proofs.QuestionLaws.{accepted_valid}
 use Rattle.sheet.specs.Lists.{WrittenLists, given_by}
 use Rattle.plan_rooms.specs.Rooms.{places}
@@ -19,6 +18,7 @@ use Rattle.plan_answers.specs.Planning.{by_pass, conclusion_by, SettledBy}
 use Rattle.plan_answers.proofs.ConclusionLaws.{by_verdict}
 use Rattle.plan_answers.specs.Reply as says
 use Rattle.plan_answers.specs.Reply.{refusal_of}
+use Rattle.sheet.specs.Solved.{Solved}
 
 -- the call found a plan: the finished table is solved, and the rooms are left by it
 pub record Planned {R : Type 0} (planned : List ℤ → R → R) (s : Sheet) (before : R) (reply : says.Reply) (after : R) : Type 0 where

@@ -16,7 +16,6 @@ use Rattle.questions.specs.Questions.{Verdict, no, all_yes}
 use Rattle.sheet.specs.Sheet.{Sheet, top, boundaries, is_ring, unit_places, lawful, fair, count_in, least_in}
 use Rattle.sheet.specs.Sheet.{earliest, latest, earliest_slots, latest_slots, printed_plan}
 use Rattle.sheet.proofs.PlanLaws.{lawful_iff, earliest_bound, earliest_attained, latest_bound, latest_attained, greatest_in_bound}
-use Rattle.sheet.proofs.Solved.{Solved}
 use Rattle.plans.proofs.PrintedLaws.{Printed, some_printed}
 use Rattle.plans.proofs.CountLaws.{solved_plan, range, greatest_entry, least_entry}
 use Rattle.plan_rooms.specs.Rooms.{places}
@@ -27,6 +26,7 @@ use Rattle.plan_answers.specs.Reply as says
 use Rattle.plan_answers.specs.Reply.{refusal_of}
 use Rattle.plan_conditions.specs.Statements.{SomeLawful, NoneLawful, AllEarliest, AllLatest, AllCounts, Soonest}
 use Rattle.plan_conditions.proofs.ConditionLaws.{Planned, Unplanned, call_refused, call_answered, call_planned, call_unplanned}
+use Rattle.sheet.specs.Solved.{Solved}
 
 -- ---- 1 and 2, of a call that has these rooms: how it leaves them by a plan, and what it replies and leaves by none, which is none
 module _ {R : Type 0} (planned : List ℤ → R → R) (None : R → says.Reply → R → Type 0) (l : WrittenLists) (rooms : Bool)

@@ -7,9 +7,9 @@ use Rattle.network.specs.Table.{max_boundaries}
 use Rattle.sheet.specs.Sizes.{max_units}
 use Rattle.sheet.specs.Sheet.{Sheet, top}
 use Rattle.sheet.specs.Questions.{windows_of}
-use Rattle.sheet.proofs.Solved.{Solved}
 use Rattle.plans.specs.Seating.{at, free_open, seat_slots, looks_slots}
 use Rattle.plan_order.specs.Sorting.{seat_order}
+use Rattle.sheet.specs.Solved.{Solved}
 
 -- the number of seats by boundary b
 abbrev pub count_at : List ℤ → Boundary → ℕ

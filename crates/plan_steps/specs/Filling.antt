@@ -3,7 +3,7 @@ use Rattle.std.specs.Prelude.{◌≡◌, List, ◌++◌, ℕ, ◌*◌, ◌≤◌
 use Rattle.network.specs.Table.{entry}
 use Rattle.sheet.specs.Sheet.{Sheet, printed_plan, looked, earliest_slots, latest_slots, boundaries}
 use Rattle.sheet.specs.Questions.{windows_of, accepted}
-use Rattle.sheet.proofs.Solved.{Solved}
+use Rattle.sheet.specs.Solved.{Solved}
 
 pub record Ready (s : Sheet) (w : ℕ) (first last : List ℕ) (table : List ℤ) : Type 0 where
   pub sheet : T (accepted s)

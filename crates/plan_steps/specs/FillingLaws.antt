@@ -10,13 +10,13 @@ use Rattle.sheet.specs.Sizes.{max_units}
 use Rattle.sheet.specs.Sheet.{Sheet, top, boundaries, limit, lawful, printed_plan}
 use Rattle.sheet.proofs.PlanLaws.{lawful_iff}
 use Rattle.sheet.proofs.QuestionLaws.{windows_of_length, accepted_sized}
-use Rattle.sheet.proofs.Solved.{Solved}
 use Rattle.limits.specs.LimitTableLaws.{boundaries_fit}
 use Rattle.plan_seats.specs.Seats.{Seatable, RowOf}
 use Rattle.plan_seats.specs.SeatsLaws.{row_seatable}
 use Rattle.plans.proofs.PrintedLaws.{some_printed}
 use Rattle.plan_windows.specs.Narrowing.{Narrowable}
 use Rattle.plan_steps.specs.Filling.{Ready}
+use Rattle.sheet.specs.Solved.{Solved}
 
 -- ---- the numbers of units and boundaries that an accepted sheet has
 module _ (s : Sheet) (w : ℕ) (first last : List ℕ) (table : List ℤ) (R : Ready s w first last table) where

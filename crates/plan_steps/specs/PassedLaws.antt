@@ -10,10 +10,10 @@ use Rattle.network_pass.specs.Pass.{finished, stopped}
 use Rattle.network_pass.proofs.PassLaws.{finished_kept, pass_finished, pass_sound, stopped_infeasible}
 use Rattle.sheet.specs.Sheet.{Sheet, top, boundaries, limit, lawful, count_in}
 use Rattle.sheet.proofs.LimitLaws.{limit_same}
-use Rattle.sheet.proofs.PotentialLaws.{Valid, lawful_feasible}
-use Rattle.sheet.proofs.Solved.{Solved}
+use Rattle.sheet.proofs.PotentialLaws.{lawful_feasible}
 use Rattle.plan_rooms.specs.Rooms.{places}
 use Rattle.plan_steps.specs.Closing.{passed}
+use Rattle.sheet.specs.Solved.{Valid, Solved}
 
 module _ (s : Sheet) where
   at : (a b : ℕ) → a ≤ top s → b ≤ top s → entry (boundaries s) (table_of (boundaries s) (limit s)) a b ≡ limit s a b

@@ -22,8 +22,8 @@ use Rattle.network.specs.Network.{Potential, Feasible}
 use Rattle.sheet.specs.Sheet.{Window, Sheet, no_window, top, count_in, inside_of, on_stretch, lawful, at_most, at_least, limit}
 use Rattle.sheet.proofs.PlanLaws.{lawful_iff, seated_in_windows}
 use Rattle.sheet.proofs.LimitLaws.{count_in_split, inside_count, limit_fwd, limit_back, limit_same, at_least_rule, at_least_windows, at_least_le}
-use Rattle.sheet.proofs.PotentialLaws.{Valid}
 use Rattle.plan_windows.specs.CutSheet.{added_arc, cut_to}
+use Rattle.sheet.specs.Solved.{Valid}
 
 -- ---- one entry of a list replaced
 how_many_set : {A : Type 0} (t : A → Bool) (d u : A) (xs : List A) (j : ℕ) → j < length xs

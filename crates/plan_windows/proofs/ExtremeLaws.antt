@@ -15,13 +15,13 @@ use Rattle.network.specs.Network.{Weights, Potential, Feasible}
 use Rattle.sheet.specs.Sheet.{Window, Sheet, no_window, top, count_in, lawful, limit, earliest, latest}
 use Rattle.sheet.proofs.PlanLaws.{lawful_iff, earliest_bound, earliest_attained, latest_bound, latest_attained}
 use Rattle.sheet.proofs.PotentialLaws.{lawful_feasible}
-use Rattle.sheet.proofs.Solved.{Solved}
 use Rattle.plans.proofs.FeasibleLaws.{feasible_lawful}
 use Rattle.network_cuts.specs.Cut.{Admits, LeastCut}
 use Rattle.plan_arcs.specs.Arcs.{mirrored}
 use Rattle.plan_windows.specs.CutSheet.{added_arc, cut_to}
 use Rattle.plan_windows.proofs.CutSheetLaws.{Gains, cut_lawful, cut_valid, plan_gains, gains_feasible}
 use Rattle.plan_windows.proofs.MirrorLaws.{turned, turned_feasible, mirrored_back}
+use Rattle.sheet.specs.Solved.{Solved}
 
 module _ (s : Sheet) (D E : Weights) (solved : Solved s D)
     (arcs : (a b : ℕ) → b < a → a ≤ top s → E a b ≡ added_arc s a b) (j : ℕ) (hj : j < length s.units) where

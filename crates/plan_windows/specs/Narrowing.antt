@@ -5,7 +5,7 @@ use Rattle.sheet.specs.Sizes.{max_units}
 use Rattle.slots.specs.Slots.{Slot}
 use Rattle.sheet.specs.Sheet.{Sheet, top, lawful, earliest_slots, latest_slots}
 use Rattle.sheet.specs.Questions.{windows_of}
-use Rattle.sheet.proofs.Solved.{Solved}
+use Rattle.sheet.specs.Solved.{Solved}
 
 -- the lists give the units of the sheet s, a lawful plan of it, and the finished table of its limits
 pub record Narrowable (s : Sheet) (first last plan : List Slot) (table : List ℤ) (w : ℕ) : Type 0 where

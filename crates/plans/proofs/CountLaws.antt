@@ -17,9 +17,9 @@ use Rattle.network.proofs.ClosureLaws.{row_feasible, there_and_back, between_fea
 use Rattle.sheet.specs.Sheet.{Sheet, top, count_in, lawful, lawful_plans, least_in, greatest_in, limit}
 use Rattle.sheet.proofs.PlanLaws.{in_lawful_plans, least_in_bound, greatest_in_bound}
 use Rattle.sheet.proofs.LimitLaws.{count_in_split, limit_same}
-use Rattle.sheet.proofs.PotentialLaws.{Valid, lawful_feasible}
-use Rattle.sheet.proofs.Solved.{Solved}
+use Rattle.sheet.proofs.PotentialLaws.{lawful_feasible}
 use Rattle.plans.proofs.FeasibleLaws.{feasible_lawful}
+use Rattle.sheet.specs.Solved.{Valid, Solved}
 
 -- ---- a finished table
 module _ (s : Sheet) (D : Weights) (S : Solved s D) where

@@ -6,9 +6,9 @@ use mathlib.Core.List.Memᴰ
 use Rattle.lists.specs.Lists.{run, from_to, keep, cons_if, joined}
 use Rattle.lists.specs.Members.{In, in_keep, in_joined, in_map, in_run}
 use Rattle.sheet.specs.Sheet.{Sheet, Window, assignments, lawful, lawful_plans, soonest, fair, printed_plans, printed_plan}
-use Rattle.sheet.proofs.PotentialLaws.{Valid}
 use Rattle.plans.proofs.CountLaws.{lawful_solved}
 use Rattle.plans.proofs.PrintedLaws.{in_printed_plans, printed_plans_in, printed_unique, some_printed}
+use Rattle.sheet.specs.Solved.{Valid}
 
 -- no entry stands twice
 abbrev NoneTwice : {A : Type 0} → List A → Type 0

@@ -16,10 +16,10 @@ use Rattle.network.specs.Network.{Potential, Feasible}
 use Rattle.sheet.specs.Sheet.{Sheet, Rule, top, no_window, count_in, in_windows, obeys, lawful, fair, inside_of, at_most, at_least, limit}
 use Rattle.sheet.proofs.PlanLaws.{seated_in_windows}
 use Rattle.sheet.proofs.LimitLaws.{count_in_split, limit_fwd, limit_back, at_most_rule, at_least_rule, at_most_n, at_least_windows}
-use Rattle.sheet.proofs.PotentialLaws.{Valid}
 use Rattle.plans.specs.Seating.{at, inside, seated_by, Problem, Complete, seats_of, looks_of}
 use Rattle.plans.proofs.SeatingLaws.{PlacedBy, last_places, seats_size, seats_complete, looks_are}
 use Rattle.plans.proofs.FairLaws.{firsts, lasts, fair_make}
+use Rattle.sheet.specs.Solved.{Valid}
 
 -- first and last are the sheet's windows, and c counts how far the potential has risen since boundary 0
 pub record Rises (s : Sheet) (z : Potential) (first last c : ℕ → ℕ) : Type 0 where

@@ -17,7 +17,6 @@ use Rattle.network.specs.Network.{Weights}
 use Rattle.network.proofs.ClosureLaws.{row_feasible}
 use Rattle.sheet.specs.Sheet.{Sheet, top, limit, lawful, unit_places, comes_before, order_place, last_seated, printed_plan, looked}
 use Rattle.sheet.proofs.PlanLaws.{in_lawful_plans}
-use Rattle.sheet.proofs.Solved.{Solved}
 use Rattle.slots.specs.Slots.{slot_before}
 use Rattle.plans.specs.Seating.{at, sooner, rank, by_rank, looks_of}
 use Rattle.plans.proofs.OrderLaws.{by_rank_in_order, by_rank_rank}
@@ -25,6 +24,7 @@ use Rattle.plans.proofs.SeatingLaws.{PlacedBy, last_places}
 use Rattle.plans.proofs.FairLaws.{firsts, lasts}
 use Rattle.plans.proofs.FeasibleLaws.{seats_looked}
 use Rattle.plans.proofs.PrintedLaws.{printed_or_none, rises, seats_are_printed}
+use Rattle.sheet.specs.Solved.{Solved}
 
 module _ (s : Sheet) (last : ℕ → ℕ) (closes : (j : ℕ) → j < length s.units → last j ≡ lasts s j) where
   before_same : (i j : ℕ) → i < length s.units → j < length s.units → comes_before s (0 + i) j ≡ sooner last i j

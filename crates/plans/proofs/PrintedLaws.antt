@@ -13,13 +13,12 @@ use Rattle.network.specs.Network.{Weights}
 use Rattle.network.proofs.ClosureLaws.{row_feasible}
 use Rattle.sheet.specs.Sheet.{Sheet, top, limit, count_in, lawful, lawful_plans, greatest_in, soonest, fair, head_or, printed_plans, printed_plan}
 use Rattle.sheet.proofs.PlanLaws.{Seated, lawful_iff, in_lawful_plans}
-use Rattle.sheet.proofs.PotentialLaws.{Valid}
-use Rattle.sheet.proofs.Solved.{Solved}
 use Rattle.plans.specs.Seating.{at, seated_by, Complete, seats_of}
 use Rattle.plans.proofs.UniquenessLaws.{complete_unique}
 use Rattle.plans.proofs.FairLaws.{firsts, lasts, fair_read}
 use Rattle.plans.proofs.FeasibleLaws.{Rises, seats_lawful, seats_fair, seats_count}
 use Rattle.plans.proofs.CountLaws.{greatest_entry}
+use Rattle.sheet.specs.Solved.{Valid, Solved}
 
 pub record Printed (s : Sheet) (x : List ℕ) : Type 0 where
   pub legal : T (lawful s x)

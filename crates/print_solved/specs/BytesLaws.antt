@@ -9,7 +9,6 @@ use native.Mathlib.Omega.{arith}
 use Rattle.std.proofs.Math.ListN.{length, length-append}
 use Rattle.integers.specs.Parts.{up, dn, neg}
 use Rattle.lists.specs.Values.{length_list_of}
-use Rattle.network.proofs.NetworkLaws.{Upto}
 use Rattle.network.specs.Table.{entry, table_of}
 use Rattle.network.proofs.TableLaws.{length_table_of, entry_front}
 use Rattle.network_pass.specs.Pass.{finished}
@@ -19,7 +18,6 @@ use Rattle.sheet.specs.Sheet.{Sheet, top, boundaries, limit, earliest, latest, e
 use Rattle.sheet.proofs.PlanLaws.{lawful_iff}
 use Rattle.sheet.specs.Questions.{accepted, loaders_fit}
 use Rattle.sheet.proofs.QuestionLaws.{accepted_sized, accepted_valid}
-use Rattle.sheet.proofs.Solved.{Solved}
 use Rattle.limits.specs.LimitTable.{limit_table}
 use Rattle.limits.specs.LimitTableLaws.{limit_small}
 use Rattle.plans.proofs.PrintedLaws.{some_printed}
@@ -31,6 +29,8 @@ use Rattle.pages.specs.Page.{Printable, table_page, least_from, greatest_from, f
 use Rattle.pages.proofs.PageLaws.{SameSlots, plan_page_same, fits_page_same, none_page_same}
 use Rattle.pages.proofs.PageBounds.{RingRead, ring_read, plan_short, none_fits}
 use Rattle.pages.specs.SheetPages.{plan_bytes, fits_bytes, ring_bytes}
+use Rattle.network.specs.Cycles.{Upto}
+use Rattle.sheet.specs.Solved.{Solved}
 
 module _ (s : Sheet) (ok : T (accepted s)) where
   pub boundaries_span : boundaries s ≡ boundaries_of s.span

@@ -9,8 +9,7 @@ use Rattle.std.proofs.Math.ListN.{get_or-map}
 use Rattle.lists.specs.Lists.{joined, keep}
 use Rattle.lists.specs.Members.{In, in_at}
 use Rattle.questions.specs.Questions.{AllYes}
-use Rattle.sheet.specs.Sheet.{SheetUnit, head_or}
-use Rattle.sheet.proofs.WrittenLaws.{no_unit}
+use Rattle.sheet.specs.Sheet.{SheetUnit, head_or, no_unit}
 use Rattle.forms.specs.Words as Words
 use Rattle.forms.specs.Words.{line_feed}
 use Rattle.forms.specs.Form.{matches}

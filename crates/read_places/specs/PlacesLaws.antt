@@ -14,9 +14,7 @@ use Rattle.lists.specs.Lists.{every, cons_if, keep, joined}
 use Rattle.lists.specs.Members.{In, is_true, in_keep, in_at, right}
 use Rattle.questions.specs.Questions.{AllYes}
 use Rattle.questions.proofs.FirstNoLaws.{yes_front, yes_back, yes_at}
-use Rattle.sheet.specs.Sheet.{Rule, SheetUnit, head_or}
-use Rattle.sheet.proofs.PlanLaws.{no_rule}
-use Rattle.sheet.proofs.WrittenLaws.{no_unit}
+use Rattle.sheet.specs.Sheet.{Rule, SheetUnit, head_or, no_rule, no_unit}
 use Rattle.forms.specs.Words.{line_feed}
 use Rattle.forms.specs.Form.{printable, plain}
 use Rattle.forms.specs.Lines.{TextLine, text_line, lines, spelt}

@@ -13,12 +13,11 @@ use Rattle.lists.specs.Members.{both, left, right, every_at, every_both, within_
 use Rattle.questions.specs.Questions.{ask, all_yes, first_no, AllYes}
 use Rattle.questions.proofs.FirstNoLaws.{yes_every, every_yes, yes_front, yes_back, yes_at}
 use Rattle.sheet.specs.Sizes.{max_bytes}
-use Rattle.sheet.specs.Sheet.{Window, Rule, Sheet, SheetUnit, WrittenSheet, constraints, loaders, no_window}
-use Rattle.sheet.proofs.PlanLaws.{no_rule}
+use Rattle.sheet.specs.Sheet.{Window, Rule, Sheet, SheetUnit, WrittenSheet, constraints, loaders, no_window, no_rule, no_unit}
 use Rattle.sheet.specs.Questions.{is_span, rising, is_window, span_fits, windows_fit, sheet_questions, accepted, loaders_fit, sheet_of}
 use Rattle.sheet.proofs.QuestionLaws.{accepted_sized}
 use Rattle.sheet.specs.Lists.{WrittenLists, given_by, written_by}
-use Rattle.sheet.proofs.WrittenLaws.{no_unit, unit_fits, rule_fits, written_constraints, written_loaders, windows_lists, rules_lists}
+use Rattle.sheet.proofs.WrittenLaws.{unit_fits, rule_fits, written_constraints, written_loaders, windows_lists, rules_lists}
 use Rattle.forms.specs.Words.{line_feed}
 use Rattle.forms.specs.Forms.{span_form_of, unit_form_of, rule_form_of}
 use Rattle.forms.specs.Decimal.{spell}

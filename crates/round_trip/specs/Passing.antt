@@ -12,10 +12,9 @@ use Rattle.lists.specs.Lists.{within, every}
 use Rattle.lists.specs.Members.{both, left, right, every_both, within_iff}
 use Rattle.questions.specs.Questions.{AllYes}
 use Rattle.sheet.specs.Sizes.{max_slots, max_units, max_rules, max_count}
-use Rattle.sheet.specs.Sheet.{Rule, SheetUnit}
-use Rattle.sheet.proofs.PlanLaws.{no_rule}
+use Rattle.sheet.specs.Sheet.{Rule, SheetUnit, no_rule, no_unit}
 use Rattle.sheet.specs.Questions.{is_span, rising, is_stretch, is_count, is_new, all_new}
-use Rattle.sheet.proofs.WrittenLaws.{no_unit, FitUnit, FitRule}
+use Rattle.sheet.proofs.WrittenLaws.{FitUnit, FitRule}
 use Rattle.forms.specs.Form.{printable, plain}
 use Rattle.forms.specs.Forms.{span_form_of, unit_form_of, rule_form_of}
 use Rattle.forms.specs.Decimal.{digits, spell}

@@ -5,4 +5,3 @@ pub mod QuestionLaws
 pub mod CarriedLaws
 pub mod LoaderLaws
 pub mod WrittenLaws
-pub mod Solved

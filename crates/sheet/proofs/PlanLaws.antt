@@ -7,7 +7,7 @@ use Rattle.std.proofs.Math.ListN.{get_or}
 use Rattle.lists.specs.Lists.{from_to, within, every, least, greatest}
 use Rattle.lists.specs.Members.{In, both, left, right, within_iff, in_keep, keep_in, joined_in, in_map, map_in, in_from_to, every_at, at_every}
 use Rattle.lists.specs.Extremes.{least_le, least_in_lem, greatest_ge, greatest_in_lem}
-use Rattle.sheet.specs.Sheet.{Window, Rule, Sheet, no_window, count_in, assignments, in_windows, obeys}
+use Rattle.sheet.specs.Sheet.{Window, Rule, Sheet, no_window, count_in, assignments, in_windows, obeys, no_rule}
 use Rattle.sheet.specs.Sheet.{lawful, lawful_plans, least_in, greatest_in, earliest, latest}
 
 -- ---- the plans that give each unit a slot of its window
@@ -31,8 +31,6 @@ in_lawful_plans s x = (
 )
 
 -- ---- what `lawful` says, place by place
-abbrev pub no_rule : Rule
-no_rule = record { from = 0; to = 0; low = 0; high = 0 }
 
 -- each unit has one slot, inside its window
 pub record Seated (ws : List Window) (x : List ℕ) : Type 0 where

@@ -11,13 +11,7 @@ use Rattle.lists.specs.Members.{In, left, right, within_iff, every_in}
 use Rattle.sheet.specs.Sheet.{Rule, Sheet, no_window, top, count_in, in_windows, obeys, lawful, at_most, at_least, limit, is_ring}
 use Rattle.sheet.proofs.PlanLaws.{in_windows_seated}
 use Rattle.sheet.proofs.LimitLaws.{count_in_split, inside_count, limit_fwd, limit_back, limit_same, at_most_ge, at_least_le}
-
-pub record Valid (s : Sheet) : Type 0 where
-  pub spans : 1 ≤ top s
-  pub windows : (j : ℕ) → j < length s.units →
-      (1 ≤ (get_or s.units j no_window).first) × ((get_or s.units j no_window).first ≤ (get_or s.units j no_window).last)
-      × ((get_or s.units j no_window).last ≤ top s)
-  pub stretches : (r : Rule) → In r s.rules → (1 ≤ r.from) × (r.from ≤ r.to) × (r.to ≤ top s)
+use Rattle.sheet.specs.Solved.{Valid}
 
 -- ---- a lawful plan's deliveries are a feasible potential
 module _ (s : Sheet) (x : List ℕ) (l : T (lawful s x)) where

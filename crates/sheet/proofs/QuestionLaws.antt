@@ -7,13 +7,12 @@ use Rattle.std.proofs.Math.ListN.{get_or}
 use Rattle.lists.specs.Lists.{within}
 use Rattle.lists.specs.Members.{In, left, right, within_iff, every_at, every_in}
 use Rattle.sheet.specs.Sizes.{max_slots, max_units, max_rules, max_count, carried_place}
-use Rattle.sheet.specs.Sheet.{Rule, Sheet, top, no_window}
-use Rattle.sheet.proofs.PlanLaws.{no_rule}
-use Rattle.sheet.proofs.PotentialLaws.{Valid}
+use Rattle.sheet.specs.Sheet.{Rule, Sheet, top, no_window, no_rule}
 use Rattle.questions.specs.Questions.{ask}
 use Rattle.questions.proofs.FirstNoLaws.{yes_at}
 use Rattle.sheet.specs.Questions.{windows_of, rules_of, lists_agree, rising, is_stretch, is_window, is_count, sheet_questions, accepted}
 use Rattle.sheet.specs.Questions.{span_fits, windows_fit, stretches_fit, counts_fit, units_fit, rules_fit}
+use Rattle.sheet.specs.Solved.{Valid}
 
 -- ---- the parallel lists
 

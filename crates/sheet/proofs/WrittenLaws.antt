@@ -7,17 +7,13 @@ use Rattle.std.proofs.lemmas.List.{length-map}
 use Rattle.std.proofs.Math.ListN.{get_or-map}
 use Rattle.lists.specs.Members.{in_at}
 use Rattle.sheet.specs.Sizes.{max_count, max_loader, carried_place}
-use Rattle.sheet.specs.Sheet.{Window, Rule, Sheet, SheetUnit, WrittenSheet, constraints, loaders, top, no_window}
-use Rattle.sheet.proofs.PlanLaws.{no_rule}
+use Rattle.sheet.specs.Sheet.{Window, Rule, Sheet, SheetUnit, WrittenSheet, constraints, loaders, top, no_window, no_rule, no_unit}
 use Rattle.sheet.specs.Questions.{windows_of, rules_of, accepted, loaders_fit}
 use Rattle.sheet.proofs.QuestionLaws.{windows_of_length, windows_of_at, accepted_sized, accepted_valid, accepted_stretch}
 use Rattle.sheet.proofs.LoaderLaws.{loader_size}
 use Rattle.sheet.specs.Lists.{WrittenLists, given_by, units_of, written_by}
 
 -- ---- numbers and windows side by side
-
-abbrev pub no_unit : SheetUnit
-no_unit = record { loader = 0; window = no_window }
 
 pub units_of_length : (ks : List ℕ) (ws : List Window) → length ks ≡ length ws → length (units_of ks ws) ≡ length ws
 units_of_length [] [] e = refl

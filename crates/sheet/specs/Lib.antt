@@ -3,3 +3,4 @@ pub mod Sheet
 pub mod Cases
 pub mod Questions
 pub mod Lists
+pub mod Solved

@@ -119,6 +119,12 @@ soonest s plan = every (λ t. eqb (count_in 1 t plan) (greatest_in s 1 t)) (from
 abbrev pub no_window : Window
 no_window = record { first = 0; last = 0 }
 
+abbrev pub no_rule : Rule
+no_rule = record { from = 0; to = 0; low = 0; high = 0 }
+
+abbrev pub no_unit : SheetUnit
+no_unit = record { loader = 0; window = no_window }
+
 -- the order of seats: unit i's window closes earlier than unit j's, or at the same slot with i the earlier line
 abbrev pub comes_before : Sheet → ℕ → ℕ → Bool
 comes_before s i j =

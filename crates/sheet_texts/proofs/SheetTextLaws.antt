@@ -8,11 +8,10 @@ use Rattle.std.proofs.Common.{suc-mul}
 use Rattle.std.proofs.Math.ListN.{length, length-append, length-map}
 use Rattle.lists.specs.Lists.{joined}
 use Rattle.sheet.specs.Sizes.{max_slots, max_units, max_bytes}
-use Rattle.sheet.specs.Sheet.{Rule, SheetUnit, WrittenSheet, constraints, loaders}
-use Rattle.sheet.proofs.PlanLaws.{no_rule}
+use Rattle.sheet.specs.Sheet.{Rule, SheetUnit, WrittenSheet, constraints, loaders, no_rule, no_unit}
 use Rattle.sheet.specs.Questions.{accepted, loaders_fit}
 use Rattle.sheet.proofs.QuestionLaws.{accepted_sized}
-use Rattle.sheet.proofs.WrittenLaws.{no_unit, FitUnit, FitRule, unit_fits, rule_fits}
+use Rattle.sheet.proofs.WrittenLaws.{FitUnit, FitRule, unit_fits, rule_fits}
 use Rattle.forms.specs.Words.{text}
 use Rattle.forms.specs.Forms.{span_form_of, unit_form_of, rule_form_of}
 use Rattle.forms.specs.DecimalLaws.{line_short}

@@ -111,8 +111,7 @@ slice_bounds-put_ring-end-in-None c = sym (length-take-le _ _ (ring_found (goal.
 
 pub put_ring-requires : goal.put_ring-requires
 put_ring-requires c =
-    let told = (goal.at.put_ring-requires c).In-None in
-    (
+    let told = (goal.at.put_ring-requires c).In-None in (
       own_fillable (ring_lists told) _ c.boundaries-w.ensures (ring_solvable told) c.solve-fit.new.table
           (c.solve-fit.auto.table ∙ length-replicate max_cells (pos 0)),
       (ring_found told).0,

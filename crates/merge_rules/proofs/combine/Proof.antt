@@ -4,8 +4,7 @@ use mathlib.Core.List.{List}
 use Prim.Native.Nat.{◌-◌, ◌≤◌, ◌<◌}
 use native.Mathlib.Omega.{arith}
 use lib.ListN.{length, get_or, take}
-use Rattle.sheet.specs.Sheet.{Rule}
-use Rattle.sheet.proofs.PlanLaws.{no_rule}
+use Rattle.sheet.specs.Sheet.{Rule, no_rule}
 use Rattle.sheet.specs.Questions.{rules_of}
 use Rattle.sheet.proofs.QuestionLaws.{rules_of_length, rules_of_at}
 use Rattle.merge_sheets.specs.Merge.{merged_rules, with_rule}

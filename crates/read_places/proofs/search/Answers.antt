@@ -51,11 +51,11 @@ loop-at-preserved c k e =
     let i = c.loop-at.invariant k e in
     elim c.if-line-wanted.branch [
       | then-line-wanted+else-left-eq0 w ↦
-        subst on (sym w.left-is) (search_counted _ _ _ _ _ _ i _ (in_whole p.In-loop-at) r.ensures.place_value _ r.ensures.state_value
-        (same k _ _ e w.if-line-wanted.true) w.if-left-eq0.false)
+          subst on (sym w.left-is) (search_counted _ _ _ _ _ _ i _ (in_whole p.In-loop-at) r.ensures.place_value _ r.ensures.state_value
+          (same k _ _ e w.if-line-wanted.true) w.if-left-eq0.false)
       | else-line-wanted w ↦
-        subst on (sym w.left-is) (search_passed _ _ _ _ _ _ i _ (in_whole p.In-loop-at) r.ensures.place_value _ r.ensures.state_value
-        (other k _ _ e w.if-line-wanted.false))
+          subst on (sym w.left-is) (search_passed _ _ _ _ _ _ i _ (in_whole p.In-loop-at) r.ensures.place_value _ r.ensures.state_value
+          (other k _ _ e w.if-line-wanted.false))
     ]
 
 pub returns : goal.returns

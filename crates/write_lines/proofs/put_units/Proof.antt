@@ -4,11 +4,11 @@ use mathlib.Core.List.{List, ◌∷◌, map}
 use Prim.Native.Nat.{◌+◌, ◌-◌, ◌≤◌}
 use native.Mathlib.Omega.{arith}
 use lib.ListN.{length, get_or, drop}
-use Rattle.sheet.specs.Sheet.{SheetUnit}
+use Rattle.sheet.specs.Sheet.{SheetUnit, no_unit}
 use Rattle.sheet.specs.Questions.{windows_of}
 use Rattle.sheet.proofs.QuestionLaws.{windows_of_length}
 use Rattle.sheet.specs.Lists.{units_of}
-use Rattle.sheet.proofs.WrittenLaws.{no_unit, units_of_length, units_of_at}
+use Rattle.sheet.proofs.WrittenLaws.{units_of_length, units_of_at}
 use Rattle.sheet_texts.specs.SheetText.{unit_text, unit_texts}
 use Rattle.print_bytes.proofs.WritingLaws.{Pending, pending_whole, pending_room, pending_after}
 use Rattle.write_entries.specs.Lines.{unit_with}
