@@ -20,7 +20,6 @@ use Rattle.forms.specs.LinesLaws.{line_end, lines_at, lines_none, whole_within, 
 use Rattle.read_line.specs.Content.{Content, content_of}
 use Rattle.read_line.specs.Line.{line_of}
 use Rattle.read_line.specs.declared.Line.{Line}
-use Rattle.read_line.specs.declared.Line.TheVariants as Line
 use Rattle.read_questions.specs.Reading.{contents, has_sheet, unit_of, units_in, loaders_in, rule_of, rules_in, sheet_in}
 use Rattle.read_steps.specs.Steps.{counted}
 use Rattle.read_steps.specs.declared.Step.{Step}
@@ -28,7 +27,7 @@ use Rattle.read_steps.specs.declared.Step.TheVariants.{No, On}
 use Rattle.read_questions.specs.Reading.{questions_of, line_questions, pass_questions, ListRooms, refused, read, concluded}
 use Rattle.read_questions.specs.Steps.{step_of, columns, set_at, line_units, line_rules, pass_reply}
 use Rattle.read_questions.proofs.SpanLaws.{units_more, rules_more}
-use Rattle.read_questions.proofs.ArrayLaws.{column_front, columns_more, SameSizes, set_sizes}
+use Rattle.read_questions.proofs.ArrayLaws.{column_front, columns_more}
 use Rattle.read_questions.proofs.LineLaws.{Matches, matches_none, Verdicts, line_verdict}
 
 -- at the place `at`, where line n begins: what is left to ask decides, and the arrays hold the numbers of the lines before

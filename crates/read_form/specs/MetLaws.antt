@@ -25,7 +25,6 @@ use Rattle.read_form.specs.Grid.{start_ways, in_digits, in_number, state_count, 
 use Rattle.read_form.specs.GridLaws.{signs_fit, states_length, next_inside, next_state, start_inside, start_state}
 use Rattle.read_form.specs.Met.{Met, is_number, met, in_turn}
 use Rattle.read_form.specs.declared.Kind.{Kind}
-use Rattle.read_form.specs.declared.Kind.TheVariants as Kind
 
 -- ---- the digits of a line's numbers, sign by sign
 

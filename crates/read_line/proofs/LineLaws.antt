@@ -23,7 +23,6 @@ use Rattle.read_form.specs.Grid.{code, ends, start}
 use Rattle.read_form.specs.Met.{met, in_turn}
 use Rattle.read_form.specs.MetLaws.{sheet_met, unit_met, rule_met}
 use Rattle.read_form.specs.declared.Kind.{Kind}
-use Rattle.read_form.specs.declared.Kind.TheVariants as Kind
 use Rattle.read_notes.specs.Readers.{Rest, rest, unmatched, after_list, end_of, at_end}
 use Rattle.read_notes.specs.ReaderLaws.{list_matched}
 use Rattle.read_notes.specs.declared.End.TheVariants as End

@@ -6,7 +6,6 @@ use Rattle.forms.specs.declared.House.{House}
 use Rattle.forms.specs.declared.House.TheVariants.{Ours, Partner}
 use Rattle.read_form.specs.Kinds.{form_of}
 use Rattle.read_form.specs.declared.Kind.{Kind}
-use Rattle.read_form.specs.declared.Kind.TheVariants as Kind
 use Rattle.read_notes.specs.Note.{matched}
 
 -- a note, a form with the digits of its numbers, which question 4 is asked of, and what they say, or neither

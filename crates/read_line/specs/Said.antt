@@ -3,7 +3,6 @@ use Rattle.std.specs.Prelude.{ℕ, ◌≤◌, ◌≡◌, Bool, cond, List, lengt
 use Rattle.forms.specs.declared.House.{House}
 use Rattle.forms.specs.declared.House.TheVariants.{Ours, Partner}
 use Rattle.read_form.specs.declared.Kind.{Kind}
-use Rattle.read_form.specs.declared.Kind.TheVariants as Kind
 use Rattle.read_line.specs.Content.{note_matched, last_of}
 use Rattle.read_line.specs.declared.Line.{Line}
 use Rattle.read_line.specs.declared.Line.TheVariants.{Refused, Note, Sheet, Unit, Rule}

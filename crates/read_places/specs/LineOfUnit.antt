@@ -18,7 +18,6 @@ use Rattle.forms.specs.declared.House.TheVariants.{Ours}
 use Rattle.read_form.specs.Kinds.{form_of}
 use Rattle.read_form.specs.Grid.{same_kind}
 use Rattle.read_form.specs.declared.Kind.{Kind}
-use Rattle.read_form.specs.declared.Kind.TheVariants as Kind
 use Rattle.read_line.specs.Content.{form_content, content_of}
 use Rattle.read_line.specs.Line.{values_of, line_of}
 use Rattle.read_line.specs.declared.Line.TheVariants as Line

@@ -24,7 +24,6 @@ use Rattle.forms.specs.declared.House.TheVariants.{Ours}
 use Rattle.read_form.specs.Kinds.{form_of, kind_of}
 use Rattle.read_form.specs.Grid.{same_kind}
 use Rattle.read_form.specs.declared.Kind.{Kind}
-use Rattle.read_form.specs.declared.Kind.TheVariants as Kind
 use Rattle.read_line.specs.Content.{Content, form_content, content_of, brackets_match, numbers_in}
 use Rattle.read_line.specs.Line.{values_of, said, line_of}
 use Rattle.read_line.specs.declared.Line.TheVariants as Line

@@ -19,7 +19,6 @@ use Rattle.forms.specs.Lines.{TextLine}
 use Rattle.read_line.specs.Content.{Content, note, sheet, unit, rule, other, content_of, brackets_match, numbers_in}
 use Rattle.read_line.specs.Line.{values_of, said, line_of}
 use Rattle.read_line.specs.declared.Line.{Line}
-use Rattle.read_line.specs.declared.Line.TheVariants as Line
 use Rattle.read_questions.specs.Reading.{is_sheet, has_sheet, span_else, span_in, unit_of, units_in, loaders_in, rule_of, rules_in, is_form}
 use Rattle.read_steps.specs.Steps.{last_place, counted}
 use Rattle.read_steps.specs.declared.Step.{Step}

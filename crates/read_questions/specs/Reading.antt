@@ -12,7 +12,6 @@ use Rattle.forms.specs.Lines.{TextLine, lines}
 use Rattle.read_line.specs.Content.{Content, note, sheet, unit, rule, other, content_of, brackets_match, numbers_in}
 use Rattle.read_steps.specs.Steps.{last_place}
 use Rattle.read_questions.specs.declared.Reading.{Reading}
-use Rattle.read_questions.specs.declared.Reading.TheVariants as Reading
 
 -- ---- what the lines say
 

@@ -7,14 +7,12 @@ use Rattle.sheet.specs.Sheet.{SheetUnit, Rule}
 use Rattle.sheet.specs.declared.Sheet.{Sheet}
 use Rattle.forms.specs.declared.House.{House}
 use Rattle.read_line.specs.declared.Line.{Line}
-use Rattle.read_line.specs.declared.Line.TheVariants as Line
 use Rattle.read_steps.specs.Steps.{sheet_step, rule_step}
 use Rattle.read_steps.specs.declared.Step.{Step}
 use Rattle.read_steps.specs.declared.Step.TheVariants.{No, On}
 use Rattle.read_unit.specs.UnitStep.{unit_step}
 use Rattle.read_questions.specs.Reading.{sheet_in, pass_questions, ListRooms, rooms, Reply, concluded}
 use Rattle.read_questions.specs.declared.Reading.{Reading}
-use Rattle.read_questions.specs.declared.Reading.TheVariants as Reading
 
 -- a line after those of a sheet so far, whose units have these loader numbers
 unfoldable pub step_of : House → List ℕ → Sheet → Line → Step

@@ -2,7 +2,7 @@
 -- Key idea: the first no of two lists of questions is that of the first, or else that of the second.
 use Rattle.std.specs.Prelude.{ℕ, ◌≤◌, ◌<◌, ◌≡◌, Bool, true, false, ◌&&◌, cond, List, [], ◌∷◌, map, length, take, leb}
 use Rattle.std.proofs.Math.Path.{sym, ap}
-use Rattle.std.proofs.Common.{ap₂, subst, ◌∙◌, arith, le-leb, leb-true}
+use Rattle.std.proofs.Common.{ap₂, ◌∙◌, arith, le-leb, leb-true}
 use Rattle.std.proofs.lemmas.Simd.{map-map}
 use Rattle.std.proofs.lemmas.List.Edits.{sets}
 use Rattle.std.proofs.lemmas.Bool.{lt-leb}
@@ -15,9 +15,9 @@ use Rattle.sheet.specs.Sheet.{Window, Rule, SheetUnit, constraints}
 use Rattle.sheet.specs.declared.Sheet.{Sheet}
 use Rattle.lists.specs.Members.{and_left, and_right}
 use Rattle.read_questions.specs.Reading.{sheet_in, ListRooms, lists_fit, pass_questions, questions, Reply, refused, read, concluded, reading}
-use Rattle.read_questions.specs.Steps.{Holds, columns, pass_reply, KeptNumbers}
+use Rattle.read_questions.specs.Steps.{Holds, pass_reply, KeptNumbers}
 use Rattle.read_questions.proofs.ConcludedLaws.{Accepted, concluded_read, concluded_no}
-use Rattle.read_questions.proofs.ArrayLaws.{rooms_same, column_front, SameSizes, set_sizes, still_holds}
+use Rattle.read_questions.proofs.ArrayLaws.{rooms_same, column_front}
 use Rattle.read_rooms.specs.Rooms.{sizes_of, leaves, rooms_after, filled}
 
 module _ (h : House) (t : List ℕ) (sizes : ListRooms ℕ) where

@@ -1,4 +1,4 @@
-use Rattle.std.proofs.Common.{◌<◌, ◌≤◌, arith, ap, sym, refl, replicate, ◌∙◌}
+use Rattle.std.proofs.Common.{◌<◌, ◌≤◌, arith, sym, refl, replicate}
 use Rattle.sheet.specs.Sizes.{max_units}
 use Rattle.loaders.specs.ChainLaws.{linked_none}
 use Rattle.forms.specs.Lines.{whole_lines}

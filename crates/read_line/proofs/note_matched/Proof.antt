@@ -1,5 +1,5 @@
 -- The list reader's answer is where the note's own bracket is closed; that is right just at the end of the line.
-use mathlib.Core.Path.{sym, ◌∙◌}
+use mathlib.Core.Path.{sym}
 use native.Mathlib.Omega.{arith}
 use Rattle.read_line.proofs.LineLaws.{note_closed, note_open}
 use borrow.Author.Rules.{rules}

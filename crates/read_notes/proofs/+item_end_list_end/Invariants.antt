@@ -1,6 +1,6 @@
 -- The measure is twice the bytes that are left, and one more for the list reader, which calls the item reader at its own place.
 -- The list reader's invariant: what stands past the list is the same, read from here on as from its start.
-use Rattle.std.proofs.Common.{◌≡◌, ℕ, ◌+◌, ◌-◌, ◌*◌, ◌≤◌, length, drop}
+use Rattle.std.proofs.Common.{◌≡◌, ◌+◌, ◌-◌, ◌*◌, ◌≤◌, length, drop}
 use Rattle.read_notes.specs.Readers.{after_list}
 use Rattle.read_notes.proofs.+item_end_list_end.Given as goal
 

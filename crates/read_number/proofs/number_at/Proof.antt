@@ -6,7 +6,7 @@ use mathlib.Core.List.{[], ◌∷◌}
 use native.Mathlib.Omega.{arith}
 use lib.ListN.{length, get_or, drop}
 use lib.Dec.{eqb}
-use borrow.Author.Tests.{not-true, not-false, ne_eqb}
+use borrow.Author.Tests.{ne_eqb}
 use Rattle.forms.specs.Form.{leading, value_from}
 use Rattle.read_number.specs.Number.{number_with, number_read}
 use Rattle.read_number.proofs.NumberLaws.{Upto, upto_one, upto_inside, upto_more, upto_all, few_read, zero_read, long_read, digit_bounds}

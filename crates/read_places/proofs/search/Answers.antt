@@ -1,4 +1,4 @@
-use Rattle.std.proofs.Common.{◌≡◌, ◌<◌, ℕ, ◌+◌, Bool, true, false, arith, eq-eqb, ne_eqb, nat_eq, subst, sym, ◌∙◌}
+use Rattle.std.proofs.Common.{◌≡◌, ◌<◌, ℕ, ◌+◌, true, false, arith, eq-eqb, ne_eqb, nat_eq, subst, sym, ◌∙◌}
 use Rattle.forms.specs.Lines.{whole_lines}
 use Rattle.forms.specs.LinesLaws.{whole_within, whole_next}
 use Rattle.read_form.specs.Grid.{code}

@@ -1,6 +1,6 @@
 -- The first sheet form is kept; the tests come in the order of the questions.
 use mathlib.Core.Path.{sym, ◌∙◌}
-use borrow.Author.Tests.{not-true, not-false, ne_eqb, eq-eqb}
+use borrow.Author.Tests.{ne_eqb, eq-eqb}
 use borrow.Author.Rules.{rules}
 use Rattle.read_steps.proofs.sheet_step.Statement.{statement}
 use Rattle.read_steps.proofs.sheet_step.Tie as tie
