@@ -2,7 +2,7 @@
 -- Key idea: the first no of two lists of questions is that of the first, or else that of the second.
 use Rattle.std.specs.Prelude.{ℕ, ◌≤◌, ◌<◌, ◌≡◌, Bool, true, false, ◌&&◌, cond, List, [], ◌∷◌, map, length, take, leb}
 use Rattle.std.proofs.Math.Path.{sym, ap}
-use Rattle.std.proofs.Common.{ap₂, ◌∙◌, arith, le-leb, leb-true}
+use Rattle.std.proofs.Common.{ap₂, subst, ◌∙◌, arith, le-leb, leb-true}
 use Rattle.std.proofs.lemmas.Simd.{map-map}
 use Rattle.std.proofs.lemmas.List.Edits.{sets}
 use Rattle.std.proofs.lemmas.Bool.{lt-leb}
@@ -15,9 +15,9 @@ use Rattle.sheet.specs.Sheet.{Window, Rule, SheetUnit, constraints}
 use Rattle.sheet.specs.declared.Sheet.{Sheet}
 use Rattle.lists.specs.Members.{and_left, and_right}
 use Rattle.read_questions.specs.Reading.{sheet_in, ListRooms, lists_fit, pass_questions, questions, Reply, refused, read, concluded, reading}
-use Rattle.read_questions.specs.Steps.{Holds, pass_reply, KeptNumbers}
+use Rattle.read_questions.specs.Steps.{Holds, columns, pass_reply, KeptNumbers}
 use Rattle.read_questions.proofs.ConcludedLaws.{Accepted, concluded_read, concluded_no}
-use Rattle.read_questions.proofs.ArrayLaws.{rooms_same, column_front}
+use Rattle.read_questions.proofs.ArrayLaws.{rooms_same, column_front, SameSizes, set_sizes, still_holds}
 use Rattle.read_rooms.specs.Rooms.{sizes_of, leaves, rooms_after, filled}
 
 module _ (h : House) (t : List ℕ) (sizes : ListRooms ℕ) where
@@ -90,6 +90,20 @@ rooms_hold u r m f =
 -- arrays with the numbers of a sheet that was read
 module _ (h : House) (s : Sheet) (t : List ℕ) (arrays arrays' : ListRooms (List ℕ)) (all : Holds max_units max_rules arrays)
     (k : KeptNumbers h s t arrays arrays') where
+  pub arrays_hold : Holds s.units s.rules arrays'
+  arrays_hold =
+      let xs = columns (sheet_in h t).units (sheet_in h t).rules in
+      let e = subst (λ (x : ListRooms (List ℕ)). SameSizes x arrays) (sym k.in_arrays) (set_sizes arrays 0 0 xs) in
+      still_holds s.units s.rules arrays' arrays e (record {
+        in_loader = omega (arith, all.in_loader, k.few_units);
+        in_first = omega (arith, all.in_first, k.few_units);
+        in_last = omega (arith, all.in_last, k.few_units);
+        in_from = omega (arith, all.in_from, k.few_rules);
+        in_to = omega (arith, all.in_to, k.few_rules);
+        in_low = omega (arith, all.in_low, k.few_rules);
+        in_high = omega (arith, all.in_high, k.few_rules);
+      })
+
   -- what was filled in is what the sheet's lists are
   pub rooms_filled : (m : ListRooms (List ℕ)) → length t ≤ max_bytes → read s.span s.units s.rules ≡ pass_reply h t
       → lists_fit s.units s.rules (sizes_of m) ≡ true → filled s arrays' m ≡ rooms_after h t m
