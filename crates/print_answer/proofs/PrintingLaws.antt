@@ -5,7 +5,7 @@ use Rattle.std.specs.Prelude.{◌≡◌, refl, Bool, true, false, List, ℕ, ◌
 use Rattle.std.proofs.Common.{sym, ap, ◌∙◌, subst, leb-true}
 use Rattle.questions.specs.Questions.{no, all_yes}
 use Rattle.sheet.specs.Lists.{WrittenLists, given_by}
-use Rattle.plan_rooms.specs.Rooms.{Rooms, lent}
+use Rattle.plan_rooms.specs.Rooms.{Rooms}
 use Rattle.plan_ask.specs.Questions.{refusal}
 use Rattle.plan_steps.specs.Closing.{passed}
 use Rattle.plan_answers.specs.Planning.{planned, ringed, WithRing, by_pass}

@@ -18,7 +18,6 @@ use Rattle.forms.specs.declared.House.{House}
 use Rattle.forms.specs.declared.House.TheVariants.{Ours, Partner}
 use Rattle.read_form.specs.Kinds.{form_of}
 use Rattle.read_form.specs.declared.Kind.{Kind}
-use Rattle.read_form.specs.declared.Kind.TheVariants as Kind
 use Rattle.read_line.specs.Content.{Content, sheet, unit, rule, value_at, last_of, unit_said, rule_said, form_content, content_of}
 use Rattle.read_line.specs.Content.{numbers_in as digitsIn}
 use Rattle.sheet_texts.specs.SheetText.{hours_of, unit_numbers, rule_numbers}

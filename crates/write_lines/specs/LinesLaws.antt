@@ -5,7 +5,7 @@ use Rattle.std.proofs.Common.{ap, ◌∙◌, arith, add-one, drop_of_length-le, 
 use Rattle.std.proofs.Math.Path.{subst}
 use Rattle.lists.specs.Lists.{joined}
 use Rattle.forms.specs.declared.House.{House}
-use Rattle.sheet.specs.Sheet.{Window, constraints, top}
+use Rattle.sheet.specs.Sheet.{Window, top}
 use Rattle.sheet.specs.Questions.{windows_of, rules_of, sheet_of}
 use Rattle.sheet.proofs.QuestionLaws.{Agree, windows_of_at, rules_of_length, rules_of_at, accepted_sized, accepted_valid}
 use Rattle.sheet.specs.Lists.{WrittenLists, given_by, units_of, written_by}
