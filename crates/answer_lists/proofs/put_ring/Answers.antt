@@ -1,5 +1,5 @@
 -- The limits are the sheet's own, so the lines are those of the ring.
-use Rattle.std.proofs.Common.{◌≡◌, length}
+use Rattle.std.proofs.Common.{◌≡◌, length, arith}
 use Rattle.sheet.specs.Lists.{Lists, listed}
 use Rattle.pages.specs.Page.{max_page}
 use Rattle.plan_ask.proofs.AskingLaws.{span_bound}
