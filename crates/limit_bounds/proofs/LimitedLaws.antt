@@ -1,6 +1,6 @@
 -- How large the numbers are that the pass over a sheet's limits makes, and a sheet that reaches the largest sum.
 -- Key idea: limits are counts, so they are small and forward not below 0, and of such weights `PassBoundLaws` says that a pass keeps them small.
-use Rattle.std.specs.Prelude.{◌≡◌, refl, List, [], ◌++◌, ℕ, ◌≤◌, ◌<◌, T, replicate, ℤ, pos, ◌+ℤ◌, ◌≤ℤ◌}
+use Rattle.std.specs.Prelude.{◌≡◌, refl, List, [], ◌++◌, ℕ, ◌≤◌, ◌<◌, T, ℤ, pos, ◌+ℤ◌, ◌≤ℤ◌}
 use Rattle.std.proofs.Common.{◌∙◌, subst, append-nil, arith}
 use Rattle.integers.specs.Parts.{Within, ints}
 use Rattle.network.specs.Closure.{step}
@@ -13,6 +13,7 @@ use Rattle.slots.specs.Slots.{Boundary}
 use Rattle.sheet.specs.Sheet.{Sheet, top, boundaries, at_most, at_least, limit}
 use Rattle.sheet.proofs.LimitLaws.{limit_fwd, limit_same}
 use Rattle.sheet.specs.Questions.{accepted, span_fits, units_fit, rules_fit, windows_fit, stretches_fit, counts_fit}
+use Rattle.limit_bounds.specs.Full.{full}
 use Rattle.limits.specs.LimitTable.{Begins}
 use Rattle.limits.specs.LimitTableLaws.{limit_small}
 
@@ -72,10 +73,6 @@ pub record Reached (z : ℤ) : Type 0 where
   pub sum : (entry (boundaries sheet) table a m +ℤ entry (boundaries sheet) table m b) ≡ z
   pub left : List ℤ
   pub finishes : Begins sheet (boundaries sheet) left
-
--- two slots, 300 units that may have either, no rule
-abbrev full : Sheet
-full = record { span = 2; units = replicate 300 (record { first = 1; last = 2 }); rules = [] }
 
 full_accepted : T (accepted full)
 unfolding accepted span_fits units_fit rules_fit windows_fit stretches_fit counts_fit top
