@@ -1,9 +1,8 @@
 -- Reading's answer decides: its refusal is printed, or the sheet that it left at the front of the lists is answered.
-use Rattle.std.proofs.Common.{ℕ, ◌≡◌, ◌≤◌, ◌<◌, List, replicate, length, refl, arith}
+use Rattle.std.proofs.Common.{ℕ, ◌≡◌, ◌≤◌, ◌<◌, List, replicate, refl, arith}
 use Rattle.read_questions.specs.Reading.{ListRooms, rooms, rooms_for_all}
 use Rattle.read_rooms.specs.Rooms.{sizes_of}
 use Rattle.sheet.specs.Sizes.{max_units, max_rules, max_bytes}
-use Rattle.pages.specs.Page.{max_page}
 use Rattle.print_bytes.proofs.WritingLaws.{refused_short}
 use Rattle.read_whole.specs.WholeLaws.{refused_small, read_held}
 use Rattle.answer_conditions.proofs.AnswerLaws.{refused_answer, read_answered}
@@ -34,8 +33,7 @@ pub put_refusal-requires : goal.put_refusal-requires
 put_refusal-requires c =
     let f = c.in-Refused.refusal in
     let s = small (goal.at.put_refusal-requires c).In-Refused in
-    let size : length c.args.page.now ≡ max_page = omega arith in
-    record { fits = omega (arith, refused_short f.number f.line s.0 (omega (arith, s.1)), size) }
+    record { fits = omega (arith, refused_short f.number f.line s.0 (omega (arith, s.1))) }
 
 pub answer_fronts-requires : goal.answer_fronts-requires
 answer_fronts-requires c =
