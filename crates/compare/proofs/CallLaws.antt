@@ -71,7 +71,7 @@ lists_accepted l y = record { sheet = written_accepted l y; loaders = written_ne
 pub written_length : (l : WrittenLists) → Listed l → length (written_by l).units ≡ length (given_by l).units
 written_length l y = units_of_length l.loader (given_by l).units (as_many_units l y)
 
-lists_alike : (l m : WrittenLists) → Listed l → Listed m → Relisted (written_by l) (written_by m)
+pub lists_alike : (l m : WrittenLists) → Listed l → Listed m → Relisted (written_by l) (written_by m)
     → Alike (given_by l) (given_by m) (SameLoader (written_by l) (written_by m))
 lists_alike l m yl ym listed =
     let same = SameLoader (written_by l) (written_by m) in
@@ -109,7 +109,7 @@ by_order {P} f g h a b = elim (dec_le a b) [
 ]
 
 -- the same entries
-tables_same : (s t : Sheet) (same : ℕ → ℕ → Type 0) → Alike s t same → (one other : List ℤ) → Tabled s one → Tabled t other
+pub tables_same : (s t : Sheet) (same : ℕ → ℕ → Type 0) → Alike s t same → (one other : List ℤ) → Tabled s one → Tabled t other
     → (a b : ℕ) → a ≤ top s → b ≤ top s → entry (boundaries s) one a b ≡ entry (boundaries t) other a b
 tables_same s t same A one other S U = by_order {P = λ a b. a ≤ top s → b ≤ top s → entry (boundaries s) one a b ≡ entry (boundaries t) other a b}
     (λ a b h ha hb. forward s one S a b h hb ∙ ap pos (A.greatest (suc a) b) ∙ sym (forward t other U a b h (omega (arith, A.tops))))
@@ -125,7 +125,7 @@ pub looser_some : (s t : Sheet) → Looser s t → SomeLawful s → SomeLawful t
 looser_some s t looser x = (x.0, looser_lawful s t looser x.0 x.1)
 
 -- and no entry falls
-tables_looser : (s t : Sheet) → Looser s t → SomeLawful s → (one other : List ℤ) → Tabled s one → Tabled t other
+pub tables_looser : (s t : Sheet) → Looser s t → SomeLawful s → (one other : List ℤ) → Tabled s one → Tabled t other
     → (a b : ℕ) → a ≤ top s → b ≤ top s → entry (boundaries s) one a b ≤ℤ entry (boundaries t) other a b
 tables_looser s t looser x one other S U =
     let e = looser_top s t looser in
@@ -154,69 +154,3 @@ module _ (s : Sheet) (x : SomeLawful s) (room : List Slot) (j : ℕ) (h : j < le
       let r = (A j h).1 in
       let y = latest_attained s x.0 x.1 j in
       omega (arith, r.2, latest_bound s r.0 r.1 j, y.2, (A j h).0 y.0 y.1)
-
--- ---- what is known of a call that is not refused, whatever rooms it has
-
-pub record Known (l : WrittenLists) (reply : says.Reply) (left : List ℤ) : Type 0 where
-  pub listed : Listed l
-  pub some : (reply ≡ says.plan) ↔ SomeLawful (given_by l)
-  pub none : ((k : ℕ) × (reply ≡ says.none k)) ↔ NoneLawful (given_by l)
-  pub tabled : reply ≡ says.plan → Tabled (given_by l) left
-
-module _ {R : Type 0} (planned : List ℤ → R → R) (None : R → says.Reply → R → Type 0) (l : WrittenLists) (rooms : Bool)
-    (before : R) (reply : says.Reply) (after : R) (call : SettledBy planned None (conclusion_by l rooms) before reply after)
-    (said : None before reply after → (k : ℕ) × (reply ≡ says.none k)) (asked : refusal_by l rooms ≡ all_yes)
-    (table : R → List ℤ) (left : (t : List ℤ) (r : R) → table (planned t r) ≡ table_in (given_by l) t (table r)) where
-  known : Known l reply (table after)
-  known = record {
-    listed = asked_lists l rooms asked;
-    some = all.plan_exactly_when_lawful planned None l rooms before reply after call said asked;
-    none = (
-      λ f. all.none_unlawful planned None l rooms before reply after call said f.0 f.1,
-      λ f. said (all.none_otherwise planned None l rooms before reply after call said asked f),
-    );
-    tabled = λ f.
-        let P = call_planned planned None l rooms before reply after call said f in
-        record { table = P.table; size = P.size; solved = P.solved; room = table before; is = ap table P.left ∙ left P.table before };
-  }
-
-pub plan_known : (p : PlanCall) → Known p.lists p.reply p.after.table
-plan_known p =
-    let s = given_by p.lists in
-    known (planned s) (WithRing s (ringed s)) p.lists (rooms_fit s (plan_lent p.before)) p.before p.reply p.after p.settled
-    (λ left. (length left.0, left.2)) p.asked (λ r. r.table) (λ t r. refl)
-
-pub decide_known : (p : DecideCall) → Known p.lists p.reply p.after.table
-decide_known p =
-    let s = given_by p.lists in
-    known (decided s) (WithRing s (contradicted s)) p.lists (rooms_fit s (decide_lent p.before)) p.before p.reply p.after p.settled
-    (λ left. (length left.0, left.2)) p.asked (λ r. r.table) (λ t r. refl)
-
--- ---- two of them
-module _ {l m : WrittenLists} {one two : says.Reply} {left left' : List ℤ} (K : Known l one left) (N : Known m two left') where
-  -- of the same wave listed in another order
-  module _ (listed : Relisted (written_by l) (written_by m)) where
-    pub known_alike : Alike (given_by l) (given_by m) (SameLoader (written_by l) (written_by m))
-    known_alike = lists_alike l m K.listed N.listed listed
-
-    pub known_plan : (one ≡ says.plan) ↔ (two ≡ says.plan)
-    known_plan = (λ f. N.some.1 (known_alike.some.0 (K.some.0 f)), λ f. K.some.1 (known_alike.some.1 (N.some.0 f)))
-
-    pub known_none : ((k : ℕ) × (one ≡ says.none k)) ↔ ((k : ℕ) × (two ≡ says.none k))
-    known_none = (
-      λ f. N.none.1 (none_there (given_by l) (given_by m) known_alike.some.1 (K.none.0 f)),
-      λ f. K.none.1 (none_there (given_by m) (given_by l) known_alike.some.0 (N.none.0 f)),
-    )
-
-    pub known_table : one ≡ says.plan → (a b : ℕ) → a ≤ top (given_by l) → b ≤ top (given_by l)
-        → entry (boundaries (given_by l)) left a b ≡ entry (boundaries (given_by m)) left' a b
-    known_table f = tables_same (given_by l) (given_by m) _ known_alike left left' (K.tabled f) (N.tabled (known_plan.0 f))
-
-  -- of a wave and one that is allowed more
-  module _ (more : Looser (given_by l) (given_by m)) (plan : one ≡ says.plan) where
-    pub known_looser : two ≡ says.plan
-    known_looser = N.some.1 (looser_some (given_by l) (given_by m) more (K.some.0 plan))
-
-    pub known_looser_table : (a b : ℕ) → a ≤ top (given_by l) → b ≤ top (given_by l)
-        → entry (boundaries (given_by l)) left a b ≤ℤ entry (boundaries (given_by m)) left' a b
-    known_looser_table = tables_looser (given_by l) (given_by m) more (K.some.0 plan) left left' (K.tabled plan) (N.tabled known_looser)

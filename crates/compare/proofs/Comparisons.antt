@@ -20,8 +20,8 @@ use Rattle.compare_sheets.specs.Comparing.{Accepted, Relisted, SameLoader, seats
 use Rattle.compare_sheets.proofs.AlongLaws.{relisted_back}
 use Rattle.compare_sheets.proofs.LooserLaws as looser
 use Rattle.compare.specs.Calls.{PlanCall, plan_of, DecideCall, TextAnswer, text_sheet, lines_of, IsPlan, IsFit, IsNone, other_lines, SaysBetween}
-use Rattle.compare.proofs.CallLaws.{Alike, relisted_alike, written_length, earliest_is, latest_is, none_there, looser_some, plan_known, decide_known}
-use Rattle.compare.proofs.CallLaws.{known_alike, known_plan, known_none, known_table, known_looser, known_looser_table}
+use Rattle.compare.proofs.CallLaws.{Alike, relisted_alike, written_length, earliest_is, latest_is, none_there, looser_some}
+use Rattle.compare.proofs.KnownLaws.{plan_known, decide_known, known_alike, known_plan, known_none, known_table, known_looser, known_looser_table}
 use Rattle.compare.proofs.PageLaws as pages
 use Rattle.compare.proofs.PageLaws.{text_accepted, page_of_plan, page_of_fit, page_none_iff}
 
@@ -277,8 +277,9 @@ module _ (p q : TextAnswer Plan) (more : Looser (constraints (text_sheet p)) (co
   looser_lines u c l g c' l' g' m n =
       let a = pages.range_is (loaders (text_sheet p)) (constraints (text_sheet p)) x (lines_of p) page u c l g m in
       let b = pages.range_is (loaders (text_sheet q)) (constraints (text_sheet q)) _ (lines_of q) looser_answer u c' l' g' n in
-      let r = looser_ranges (constraints (text_sheet p)) (constraints (text_sheet q)) more (x, page.legal) u u in
-      (omega (arith, a.0, b.0, r.0), omega (arith, a.1, b.1, r.1))
+      let least = looser.looser_least (constraints (text_sheet p)) (constraints (text_sheet q)) more x page.legal u u in
+      let greatest = looser.looser_greatest (constraints (text_sheet p)) (constraints (text_sheet q)) more x page.legal u u in
+      (omega (arith, a.0, b.0, least), omega (arith, a.1, b.1, greatest))
 
 -- ---- And where it was asked only whether it fits
 module _ (p q : TextAnswer Fits) (more : Looser (constraints (text_sheet p)) (constraints (text_sheet q))) (page : IsFit p) where
@@ -289,5 +290,6 @@ module _ (p q : TextAnswer Fits) (more : Looser (constraints (text_sheet p)) (co
   looser_fit_lines u l g l' g' m n =
       let a = pages.fits_range_is (constraints (text_sheet p)) (lines_of p) page u l g m in
       let b = pages.fits_range_is (constraints (text_sheet q)) (lines_of q) looser_fit u l' g' n in
-      let r = looser_ranges (constraints (text_sheet p)) (constraints (text_sheet q)) more page.some u u in
-      (omega (arith, a.0, b.0, r.0), omega (arith, a.1, b.1, r.1))
+      let least = looser.looser_least (constraints (text_sheet p)) (constraints (text_sheet q)) more page.some.0 page.some.1 u u in
+      let greatest = looser.looser_greatest (constraints (text_sheet p)) (constraints (text_sheet q)) more page.some.0 page.some.1 u u in
+      (omega (arith, a.0, b.0, least), omega (arith, a.1, b.1, greatest))

@@ -1,3 +1,4 @@
 pub mod CallLaws
+pub mod KnownLaws
 pub mod PageLaws
 pub mod Comparisons

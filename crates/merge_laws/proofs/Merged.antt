@@ -31,6 +31,7 @@ use Rattle.merge_sheets.specs.Merge.{merged_rules, merged}
 use Rattle.merge_sheets.proofs.MergeLaws.{merged_lawful}
 use Rattle.merge_sheets.proofs.AcceptedLaws.{merged_accepted, merged_loaders}
 use Rattle.merge_read.specs.Behind.{text_questions}
+use Rattle.merge_laws.specs.Asks.{asks_merge}
 use Rattle.merge_questions.specs.Merging.{line_number, join_questions, merge_questions, merged_in, merging, blamed, blamed_sheet}
 use Rattle.merge_laws.proofs.TextLaws.{no_of_two, text_refusals, text_accepts, text_loaders, front, too_long, front_short, front_either}
 
@@ -107,10 +108,6 @@ module _ (one two : List ℕ) where
         all_fit (length m.units) (length m.rules) (le→leb (length m.units) max_units few_units) (le→leb (length m.rules) max_rules few_rules)
 
 -- ---- which questions refuse
-
--- one of reading's, or one of the merge's own, of which 9 and 10 are reading's too
-abbrev pub asks_merge : ℕ → Bool
-asks_merge q = asks_text q || within 19 21 q
 
 -- a refusal that merging may come to
 pub record Refusable (number line : ℕ) : Type 0 where

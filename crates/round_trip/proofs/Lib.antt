@@ -1,1 +1,3 @@
+pub mod WrittenLaws
+pub mod Passing
 pub mod RoundTrip

@@ -1,2 +1,1 @@
 pub mod WrittenContents
-pub mod Passing

@@ -19,7 +19,8 @@ use Rattle.read_questions.specs.Reading.{sheet_in}
 use Rattle.merge_read.specs.Behind.{text_questions}
 use Rattle.merge_questions.specs.Merging.{merge_questions, blamed_sheet}
 use Rattle.merge_laws.proofs.TextLaws.{no_of_two, front, front_short, text_loaders}
-use Rattle.merge_laws.proofs.Merged.{first_asked, second_asked, asks_merge, merge_refusals, refused_small}
+use Rattle.merge_laws.specs.Asks.{asks_merge}
+use Rattle.merge_laws.proofs.Merged.{first_asked, second_asked, merge_refusals, refused_small}
 use Rattle.merge_laws.proofs.Merged as merge
 use Rattle.merge_lines.specs.Lines.{has_loader, questions_of_line, found_line, found_by, place_of}
 use Rattle.merge_lines.specs.LinesLaws.{Inside, found_inside}

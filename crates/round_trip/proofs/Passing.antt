@@ -26,7 +26,8 @@ use Rattle.read_steps.specs.Steps.{last_place}
 use Rattle.read_questions.specs.Reading.{questions_of, line_questions}
 use Rattle.read_questions.proofs.SpanLaws.{units_more, rules_more, has_sheet_same, span_in_same}
 use Rattle.sheet_texts.specs.SheetText.{unit_numbers, rule_numbers}
-use Rattle.round_trip.specs.WrittenContents.{LowKept, Line, span_line, unit_line_lem, rule_line_lem}
+use Rattle.round_trip.specs.WrittenContents.{LowKept}
+use Rattle.round_trip.proofs.WrittenLaws.{Line, span_line, unit_line_lem, rule_line_lem}
 
 -- ---- what the lines have come to
 
