@@ -1,3 +1,3 @@
 pub mod WrittenLaws
-pub mod Passing
+pub mod PassingLaws
 pub mod RoundTrip

@@ -39,7 +39,8 @@ use Rattle.read_rooms.specs.Rooms.{sizes_of, leaves, rooms_after}
 use Rattle.forms.specs.WrittenLines.{next_line, next_lines}
 use Rattle.round_trip.specs.WrittenContents.{LowKept}
 use Rattle.round_trip.proofs.WrittenLaws.{span_shown, unit_shown, rule_shown}
-use Rattle.round_trip.proofs.Passing.{OutUnit, OutRule, Passes, lines_pass}
+use Rattle.round_trip.specs.Passing.{OutUnit, OutRule}
+use Rattle.round_trip.proofs.PassingLaws.{Passes, lines_pass}
 
 -- ---- the lines of a text are those that were written
 

@@ -1,1 +1,2 @@
 pub mod WrittenContents
+pub mod Passing

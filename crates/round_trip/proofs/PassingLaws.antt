@@ -26,7 +26,7 @@ use Rattle.read_steps.specs.Steps.{last_place}
 use Rattle.read_questions.specs.Reading.{questions_of, line_questions}
 use Rattle.read_questions.proofs.SpanLaws.{units_more, rules_more, has_sheet_same, span_in_same}
 use Rattle.sheet_texts.specs.SheetText.{unit_numbers, rule_numbers}
-use Rattle.round_trip.specs.WrittenContents.{LowKept}
+use Rattle.round_trip.specs.Passing.{OutUnit, OutRule}
 use Rattle.round_trip.proofs.WrittenLaws.{Line, span_line, unit_line_lem, rule_line_lem}
 
 -- ---- what the lines have come to
@@ -75,15 +75,6 @@ passes_next {h} {before} {ls} {span} {us} {rs} {bytes} {x} l asked rest = record
 seven : (a b c d e f g : Bool) → T a → T b → T c → T d → T e → T f → T g → T (a && (b && (c && (d && (e && (f && (g && true)))))))
 seven a b c d e f g ha hb hc hd he hf hg =
     both a _ ha (both b _ hb (both c _ hc (both d _ hd (both e _ he (both f _ hf (both g true hg tt))))))
-
--- a unit and a rule that a house's lines can say
-pub record OutUnit (h : House) (span : ℕ) (u : SheetUnit) : Type 0 where
-  pub fits : FitUnit span u
-  pub inside : T (rising 1 span (last_place h span) u.window.first u.window.last)
-
-pub record OutRule (h : House) (span : ℕ) (r : Rule) : Type 0 where
-  pub fits : FitRule span r
-  pub low_kept : LowKept h r
 
 rises : (least start most f l : ℕ) → least ≤ f → f ≤ start → f ≤ l → l ≤ most → T (rising least start most f l)
 rises least start most f l a b c d = both (within least start f) (within f most l) ((within_iff least start f).1 (a, b)) ((within_iff f most l).1 (c, d))
