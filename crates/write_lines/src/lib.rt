@@ -2,14 +2,14 @@
 
 ghost use Rattle.std.specs.Prelude.{◌≡◌, length};
 ghost use Rattle.sheet.specs.Questions.{windows_of, rules_of};
-ghost use Rattle.sheet.specs.Lists.{written_lists, units_of, written_by};
+ghost use Rattle.sheet.specs.Lists.{units_of, written_by};
 ghost use Rattle.plan_ask.specs.Asking.{Listed};
 ghost use Rattle.print_bytes.specs.Writing.{Room, Written};
 ghost use Rattle.sheet_texts.specs.SheetText.{unit_texts, rule_texts, sheet_text};
 ghost use Rattle.write_entries.specs.Lines.{Stretches};
 
 use forms::House;
-use sheet::Sheet;
+use sheet::{Sheet, WrittenLists};
 use write_entries::{put_rule, put_span, put_unit};
 
 // A sheet as a text of a house, written into a slice from a place on.
@@ -31,10 +31,9 @@ fn put_units(
         (unit_texts house (units_of loader.now (windows_of first.now last.now))) page.new result }
 {
     let mut next = at;
-    let mut j = 0;
-    while j < first.len() {
+    // stays: a place of three lists side by side
+    for j in 0..first.len() {
         next = put_unit(house, page, next, loader[j], first[j], last[j]);
-        j += 1;
     }
     next
 }
@@ -54,36 +53,21 @@ fn put_rules(
         (rule_texts house (rules_of from.now to.now low.now high.now)) page.new result }
 {
     let mut next = at;
-    let mut j = 0;
-    while j < from.len() {
+    // stays: a place of four lists side by side
+    for j in 0..from.len() {
         next = put_rule(house, page, next, from[j], to[j], low[j], high[j]);
-        j += 1;
     }
     next
 }
 
 // The span, the units and the rules, each in the order of its list.
-pub fn put_sheet(
-    house: House,
-    page: &mut [u8],
-    at: usize,
-    span: usize,
-    loader: &[u16],
-    first: &[u16],
-    last: &[u16],
-    from: &[u16],
-    to: &[u16],
-    low: &[u16],
-    high: &[u16],
-) -> usize
-    requires listed { Listed (written_lists span loader.now first.now last.now from.now to.now low.now high.now) }
-    requires room { Room page.old at
-        (sheet_text house (written_by (written_lists span loader.now first.now last.now from.now to.now low.now high.now))) }
-    ensures { let l = written_lists span loader.now first.now last.now from.now to.now low.now
-        high.now in
-        Written page.old at (sheet_text house (written_by l)) page.new result }
+pub fn put_sheet(house: House, page: &mut [u8], at: usize, lists: &WrittenLists<'_>) -> usize
+    requires listed { Listed lists.now }
+    requires room { Room page.old at (sheet_text house (written_by lists.now)) }
+    ensures { Written page.old at (sheet_text house (written_by lists.now)) page.new result }
 {
-    let next = put_span(house, page, at, span as u16);
-    let next2 = put_units(house, page, next, loader, first, last);
-    put_rules(house, page, next2, from, to, low, high)
+    let c = &lists.constraints;
+    let next = put_span(house, page, at, c.span as u16);
+    let next2 = put_units(house, page, next, lists.loader, c.first, c.last);
+    put_rules(house, page, next2, c.from, c.to, c.low, c.high)
 }
