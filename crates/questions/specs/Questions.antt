@@ -1,9 +1,8 @@
 -- Questions that a call asks in their order, and what they come to: the first that is answered no, by number and line
 -- (docs/RULES.md, "The order of the questions"). Definitions only.
-use Rattle.std.specs.Prelude.{Bool, cond, List, [], ◌∷◌, ℕ, T}
+use Rattle.std.specs.Prelude.{Bool, cond, List, [], ◌∷◌, ℕ, T, Result, Ok, Err}
 use Rattle.lists.specs.Lists.{every}
-use Rattle.questions.specs.declared.Checked.{Checked}
-use Rattle.questions.specs.declared.Checked.TheVariants.{No, Yes}
+use Rattle.questions.specs.declared.Refusal.{Refusal}
 
 -- the number of the question, the line that it is asked of, 0 where it is asked of none, and the answer
 pub record Question : Type 0 where
@@ -33,6 +32,6 @@ abbrev pub AllYes : List Question → Type 0
 AllYes qs = T (every (λ q. q.yes) qs)
 
 -- the code's reply as a verdict
-abbrev pub verdict_of : Checked → Verdict
-verdict_of (No f) = no f.number f.line
-verdict_of Yes = all_yes
+abbrev pub verdict_of : {A : Type 0} → Result A Refusal → Verdict
+verdict_of (Err f) = no f.number f.line
+verdict_of (Ok a) = all_yes
