@@ -3,6 +3,9 @@
 ghost use Rattle.std.specs.Prelude.{◌≡◌, ◌≤◌};
 ghost use Rattle.sheet.specs.Sizes.{max_slots, carried_place, boundaries_of};
 ghost use Rattle.sheet.specs.Questions.{is_span, rising};
+ghost use Rattle.sheet.specs.Lists.{Lists as Listed, WrittenLists as Written, listed};
+
+use std::marker::Model;
 
 // The place after the last slot of a span, where a unit is carried over into the next wave.
 pub fn carried_place(span: usize) -> usize
@@ -12,12 +15,12 @@ pub fn carried_place(span: usize) -> usize
     span + 1
 }
 
-// The number of boundaries of a span: 0 to the end of the carried place. The compiler reads no contracts; the branch tells it how many there are at
-// most, so that it makes short loops over them.
+// The number of boundaries of a span: 0 to the end of the carried place.
 pub fn boundaries(span: usize) -> usize
     requires { span ≤ max_slots }
     ensures { result ≡ boundaries_of span }
 {
+    // stays: the compiler reads no contracts; the branch tells it how many there are at most, so that it makes short loops over them
     if span < Sheet::MAX_SLOTS {
         carried_place(span) + 1
     } else {
@@ -29,26 +32,14 @@ pub fn boundaries(span: usize) -> usize
 pub fn is_span(span: usize) -> bool
     ensures { result ≡ is_span span }
 {
-    if span < 1 {
-        return false;
-    }
-    span <= Sheet::MAX_SLOTS
+    1 <= span && span <= Sheet::MAX_SLOTS
 }
 
 // Is the first from least to start, and the last from the first to most? The one test of a window and of a rule's stretch and counts, questions 7 and 8.
 pub fn rises(least: usize, start: usize, most: usize, first: usize, last: usize) -> bool
     ensures { result ≡ rising least start most first last }
 {
-    if first < least {
-        return false;
-    }
-    if start < first {
-        return false;
-    }
-    if last < first {
-        return false;
-    }
-    last <= most
+    least <= first && first <= start && (first <= last && last <= most)
 }
 
 // A sheet's span and its numbers of units and rules; the lists themselves are lent.
@@ -89,4 +80,35 @@ impl Sheet {
             rules: 0,
         }
     }
+}
+
+// The windows and the rules of a sheet in parallel lists, as a call is lent them.
+#[derive(Drop)]
+pub struct Lists<'a> {
+    pub span: usize,
+    pub first: &'a [u16],
+    pub last: &'a [u16],
+    pub from: &'a [u16],
+    pub to: &'a [u16],
+    pub low: &'a [u16],
+    pub high: &'a [u16],
+}
+
+impl<'a> Model for Lists<'a> {
+    ghost Value = { Listed };
+
+    ghost view = { λ a. listed a.span a.first.now a.last.now a.from.now a.to.now a.low.now a.high.now };
+}
+
+// The whole sheet: the units' loader numbers too.
+#[derive(Drop)]
+pub struct WrittenLists<'a> {
+    pub loader: &'a [u16],
+    pub constraints: Lists<'a>,
+}
+
+impl<'a> Model for WrittenLists<'a> {
+    ghost Value = { Written };
+
+    ghost view = { λ a. record { loader = a.loader.now; constraints = a.constraints } };
 }
