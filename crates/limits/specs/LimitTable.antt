@@ -7,6 +7,7 @@ use Rattle.network_pass.specs.Pass.{finished, pass_from}
 use Rattle.slots.specs.Slots.{Boundary}
 use Rattle.sheet.specs.Sheet.{Sheet, boundaries, limit}
 use Rattle.sheet.specs.Questions.{sheet_of, lists_agree, accepted}
+use Rattle.sheet.specs.Lists.{Lists}
 
 -- the limits of all steps, in front of what stands past them
 abbrev pub limit_table : Sheet → List ℤ → List ℤ
@@ -29,3 +30,7 @@ pub record Fillable (span : ℕ) (first last from to low high : List ℕ) (room 
   pub agree : T (lists_agree first last from to low high)
   pub ok : T (accepted (sheet_of span first last from to low high))
   pub fits : boundaries (sheet_of span first last from to low high) * boundaries (sheet_of span first last from to low high) ≤ room
+
+-- the same of lists that a call is lent
+abbrev pub CanFill : Lists → ℕ → Type 0
+CanFill l room = Fillable l.span l.first l.last l.from l.to l.low l.high room

@@ -2,12 +2,13 @@ ghost use Rattle.std.specs.Prelude.{◌≡◌, ◌++◌, ◌+◌, ◌*◌, ◌<�
 ghost use Rattle.network.specs.Table.{table_of, entry};
 ghost use Rattle.slots.specs.Slots.{slot_end, slot_start};
 ghost use Rattle.sheet.specs.Sizes.{max_units, max_count};
-ghost use Rattle.sheet.specs.Questions.{sheet_of};
-ghost use Rattle.limits.specs.LimitTable.{with_forward, tightened_at, limit_table, Fillable};
+ghost use Rattle.sheet.specs.Lists.{given};
+ghost use Rattle.limits.specs.LimitTable.{with_forward, tightened_at, limit_table, CanFill};
 
 use limit_places::{back_place, forward_place};
 use limit_value::{Limit, signed};
 use limit_windows::windows_inside;
+use sheet::Lists;
 
 // n on every forward step.
 pub fn fill_forward(n: usize, w: usize, t: &mut [i16])
@@ -17,11 +18,7 @@ pub fn fill_forward(n: usize, w: usize, t: &mut [i16])
     let most = signed(n as u16);
     for a in 0..w {
         let row = a * w;
-        let mut b = w;
-        while a + 1 < b {
-            b -= 1;
-            t[row + b] = most;
-        }
+        t[row + a + 1..row + w].fill(most);
     }
 }
 
@@ -32,39 +29,24 @@ pub fn apply_rule(from: u16, to: u16, low: u16, high: u16, w: usize, t: &mut [i1
         (tightened_at (slot_start from * w + slot_end to) (pos high) t.old) }
 {
     let ahead = forward_place(from, to, w);
-    let forward = Limit { value: t[ahead] };
-    let fewer = forward.with_high(high);
-    let most = fewer.value;
-    t[ahead] = most;
+    t[ahead] = Limit { value: t[ahead] }.with_high(high).value;
     let behind = back_place(from, to, w);
-    let back = Limit { value: t[behind] };
-    let more = back.with_low(low);
-    let least = more.value;
-    t[behind] = least;
+    t[behind] = Limit { value: t[behind] }.with_low(low).value;
 }
 
 // The limits of all steps: windows inside, n on every forward step, and every rule.
-pub fn fill_limits(
-    span: usize,
-    first: &[u16],
-    last: &[u16],
-    from: &[u16],
-    to: &[u16],
-    low: &[u16],
-    high: &[u16],
-    t: &mut [i16],
-)
-    requires { Fillable span first.now last.now from.now to.now low.now high.now (length t.old) }
-    ensures { let s = sheet_of span first.now last.now from.now to.now low.now high.now in
-        t.new ≡ limit_table s t.old }
+pub fn fill_limits(lists: &Lists<'_>, t: &mut [i16])
+    requires { CanFill lists.now (length t.old) }
+    ensures { t.new ≡ limit_table (given lists.now) t.old }
 {
-    let w = sheet::boundaries(span);
-    windows_inside(first, last, w, t);
-    fill_forward(first.len(), w, t);
+    let w = sheet::boundaries(lists.span);
+    windows_inside(lists.first, lists.last, w, t);
+    fill_forward(lists.first.len(), w, t);
     // From the last rule to the first, as the list of rules is built.
-    let mut k = from.len();
-    while 0 < k {
-        k -= 1;
-        apply_rule(from[k], to[k], low[k], high[k], w, t);
+    // stays: a place over four parallel lists.
+    for k in (0..lists.from.len()).rev() {
+        apply_rule(
+            lists.from[k], lists.to[k], lists.low[k], lists.high[k], w, t,
+        );
     }
 }
