@@ -1,7 +1,6 @@
 #![tactic(auto)]
 
-ghost use Rattle.sheet.specs.Questions.{sheet_of};
-ghost use Rattle.sheet.specs.Lists.{written_lists, given_by};
+ghost use Rattle.sheet.specs.Lists.{given_by};
 ghost use Rattle.plan_ask.specs.Asking.{Listed};
 ghost use Rattle.read_questions.specs.Reading.{rooms};
 ghost use Rattle.read_whole.specs.Fronts.{fronts, Held};
@@ -10,30 +9,17 @@ ghost use Rattle.answer_conditions.specs.Answer.{AnswerToSheet, AnswerTo, Answer
 use answer_lists::{fits_sheet, plan_sheet};
 use forms::House;
 use print_page::MAX_PAGE;
-use read_questions::Reading;
-use sheet::Sheet;
+use sheet::{Lists, Sheet, WrittenLists};
 use wave_words::Query;
 
 // The answer to what is asked of a sheet.
-fn answer_sheet(
-    query: Query,
-    span: usize,
-    loader: &[u16],
-    first: &[u16],
-    last: &[u16],
-    from: &[u16],
-    to: &[u16],
-    low: &[u16],
-    high: &[u16],
-    page: &mut [u8; MAX_PAGE],
-) -> usize
-    requires { Listed (written_lists span loader.now first.now last.now from.now to.now low.now high.now) }
-    ensures { let s = sheet_of span first.now last.now from.now to.now low.now high.now in
-        Answered (AnswerToSheet query loader.now s) page.old page.new result }
+fn answer_sheet(query: Query, lists: &WrittenLists<'_>, page: &mut [u8; MAX_PAGE]) -> usize
+    requires { Listed lists.now }
+    ensures { Answered (AnswerToSheet query lists.now.loader (given_by lists.now)) page.old page.new result }
 {
     match query {
-        Query::Plan => plan_sheet(span, loader, first, last, from, to, low, high, page),
-        Query::Fits => fits_sheet(span, first, last, from, to, low, high, page),
+        Query::Plan => plan_sheet(lists, page),
+        Query::Fits => fits_sheet(&lists.constraints, page),
     }
 }
 
@@ -57,18 +43,19 @@ fn answer_fronts(
 {
     let n = s.units;
     let r = s.rules;
-    answer_sheet(
-        query,
-        s.span,
-        &loader[..n],
-        &first[..n],
-        &last[..n],
-        &from[..r],
-        &to[..r],
-        &low[..r],
-        &high[..r],
-        page,
-    )
+    let lists = WrittenLists {
+        loader: &loader[..n],
+        constraints: Lists {
+            span: s.span,
+            first: &first[..n],
+            last: &last[..n],
+            from: &from[..r],
+            to: &to[..r],
+            low: &low[..r],
+            high: &high[..r],
+        },
+    };
+    answer_sheet(query, &lists, page)
 }
 
 // The answer to what is asked of a text of a house, from the first place of the page on, and the place just past it. The lists are long enough for every
@@ -95,13 +82,13 @@ pub fn answer(house: House, query: Query, text: &[u8], page: &mut [u8; MAX_PAGE]
         &mut high,
     );
     match reading {
-        Reading::Refused(refusal) => print_lines::put_refusal(
+        Err(refusal) => print_lines::put_refusal(
             page,
             0,
             refusal.number as u16,
             refusal.line as u16,
         ),
-        Reading::Sheet(s) => answer_fronts(
+        Ok(s) => answer_fronts(
             query, s, &loader, &first, &last, &from, &to, &low, &high, page,
         ),
     }

@@ -2,56 +2,30 @@
 
 ghost use Rattle.std.specs.Prelude.{true, List, ℕ, T, length};
 ghost use Rattle.sheet.specs.Sheet.{is_ring};
-ghost use Rattle.sheet.specs.Questions.{sheet_of};
-ghost use Rattle.sheet.specs.Lists.{listed, written_lists};
-ghost use Rattle.limits.specs.LimitTable.{Fillable};
+ghost use Rattle.sheet.specs.Lists.{given, given_by};
+ghost use Rattle.limits.specs.LimitTable.{CanFill};
 ghost use Rattle.plan_ask.specs.Asking.{Listed, Solvable};
 ghost use Rattle.print_bytes.specs.Writing.{Written};
 ghost use Rattle.pages.specs.SheetPages.{ring_bytes};
 ghost use Rattle.answer_conditions.specs.Answer.{AnswerToSheet, Answered};
 
-use plan_answers::Fit;
 use print_page::MAX_PAGE;
-use sheet::Sheet;
+use sheet::{Lists, Sheet, WrittenLists};
 use wave_words::Query;
 
 // The page of a ring. Its limits are the sheet's own, which are worked out again.
-fn put_ring(
-    span: usize,
-    first: &[u16],
-    last: &[u16],
-    from: &[u16],
-    to: &[u16],
-    low: &[u16],
-    high: &[u16],
-    table: &mut [i16],
-    ring: &[u16],
-    page: &mut [u8; MAX_PAGE],
-) -> usize
-    requires { Fillable span first.now last.now from.now to.now low.now high.now (length table.old)
-        × T (is_ring (sheet_of span first.now last.now from.now to.now low.now high.now) ring.now) }
-    ensures { let s = sheet_of span first.now last.now from.now to.now low.now high.now in
-        Written page.old 0 (ring_bytes s ring.now) page.new result }
+fn put_ring(lists: &Lists<'_>, table: &mut [i16], ring: &[u16], page: &mut [u8; MAX_PAGE]) -> usize
+    requires { CanFill lists.now (length table.old) × T (is_ring (given lists.now) ring.now) }
+    ensures { Written page.old 0 (ring_bytes (given lists.now) ring.now) page.new result }
 {
-    limits::fill::fill_limits(span, first, last, from, to, low, high, table);
-    print_none::put_none(page, 0, table, sheet::boundaries(span), ring)
+    limits::fill::fill_limits(lists, table);
+    print_none::put_none(page, 0, table, sheet::boundaries(lists.span), ring)
 }
 
 // The plan of a sheet, or a ring.
-pub fn plan_sheet(
-    span: usize,
-    loader: &[u16],
-    first: &[u16],
-    last: &[u16],
-    from: &[u16],
-    to: &[u16],
-    low: &[u16],
-    high: &[u16],
-    page: &mut [u8; MAX_PAGE],
-) -> usize
-    requires { Listed (written_lists span loader.now first.now last.now from.now to.now low.now high.now) }
-    ensures { let s = sheet_of span first.now last.now from.now to.now low.now high.now in
-        Answered (AnswerToSheet Query.Plan loader.now s) page.old page.new result }
+pub fn plan_sheet(lists: &WrittenLists<'_>, page: &mut [u8; MAX_PAGE]) -> usize
+    requires { Listed lists.now }
+    ensures { Answered (AnswerToSheet Query.Plan lists.now.loader (given_by lists.now)) page.old page.new result }
 {
     let mut table = [0i16; Sheet::MAX_CELLS];
     let mut plan = [0u16; Sheet::MAX_UNITS];
@@ -59,84 +33,46 @@ pub fn plan_sheet(
     let mut latest = [0u16; Sheet::MAX_UNITS];
     let mut ring = [0u16; Sheet::MAX_BOUNDARIES];
     let fit = plan_solve::solve(
-        span,
-        first,
-        last,
-        from,
-        to,
-        low,
-        high,
+        &lists.constraints,
         &mut table,
         &mut plan,
         &mut earliest,
         &mut latest,
         &mut ring,
     );
-    let w = sheet::boundaries(span);
-    let cells = w * w;
-    let n = first.len();
     match fit {
-        Fit::Fits => print_page::put_plan(
-            page,
-            0,
-            span,
-            loader,
-            &plan[..n],
-            &earliest[..n],
-            &latest[..n],
-            &table[..cells],
-        ),
-        Fit::None(k) => put_ring(
-            span,
-            first,
-            last,
-            from,
-            to,
-            low,
-            high,
-            &mut table,
-            &ring[..k],
-            page,
-        ),
+        Ok(()) => {
+            let span = lists.constraints.span;
+            let w = sheet::boundaries(span);
+            let n = lists.constraints.first.len();
+            print_page::put_plan(
+                page,
+                0,
+                span,
+                lists.loader,
+                &plan[..n],
+                &earliest[..n],
+                &latest[..n],
+                &table[..w * w],
+            )
+        }
+        Err(none) => put_ring(&lists.constraints, &mut table, &ring[..none.length], page),
     }
 }
 
 // Whether a sheet fits, and each slot's range, or a ring. No unit is seated for it, and its loader numbers are not looked at.
-pub fn fits_sheet(
-    span: usize,
-    first: &[u16],
-    last: &[u16],
-    from: &[u16],
-    to: &[u16],
-    low: &[u16],
-    high: &[u16],
-    page: &mut [u8; MAX_PAGE],
-) -> usize
-    requires { Solvable (listed span first.now last.now from.now to.now low.now high.now) true }
-    ensures { let s = sheet_of span first.now last.now from.now to.now low.now high.now in
-        ((ks : List ℕ) → Answered (AnswerToSheet Query.Fits ks s) page.old page.new result) }
+pub fn fits_sheet(lists: &Lists<'_>, page: &mut [u8; MAX_PAGE]) -> usize
+    requires { Solvable lists.now true }
+    ensures { (ks : List ℕ) → Answered (AnswerToSheet Query.Fits ks (given lists.now)) page.old page.new result }
 {
     let mut table = [0i16; Sheet::MAX_CELLS];
     let mut ring = [0u16; Sheet::MAX_BOUNDARIES];
-    let fit = plan_solve::decide(
-        span, first, last, from, to, low, high, &mut table, &mut ring,
-    );
-    let w = sheet::boundaries(span);
-    let cells = w * w;
-    let n = first.len();
-    match fit {
-        Fit::Fits => print_page::put_fits(page, 0, span, n, &table[..cells]),
-        Fit::None(k) => put_ring(
-            span,
-            first,
-            last,
-            from,
-            to,
-            low,
-            high,
-            &mut table,
-            &ring[..k],
-            page,
-        ),
+    match plan_solve::decide(lists, &mut table, &mut ring) {
+        Ok(()) => {
+            let w = sheet::boundaries(lists.span);
+            let n = lists.first.len();
+            print_page::put_fits(page, 0, lists.span, n, &table[..w * w])
+        }
+        Err(none) => put_ring(lists, &mut table, &ring[..none.length], page),
     }
 }

@@ -7,7 +7,6 @@ ghost use Rattle.convert_lists.specs.Converting as says;
 
 use convert_lists::{Converted, convert_fronts, refuse};
 use forms::House;
-use read_questions::Reading;
 use sheet::Sheet;
 use write_lines::MAX_TEXT;
 
@@ -36,8 +35,8 @@ pub fn convert(from: House, to: House, text: &[u8], page: &mut [u8; MAX_TEXT]) -
         &mut high,
     );
     match reading {
-        Reading::Refused(refusal) => refuse(page, refusal.number, refusal.line),
-        Reading::Sheet(s) => convert_fronts(
+        Err(refusal) => refuse(page, refusal),
+        Ok(s) => convert_fronts(
             to, s, &loader, &first, &last, &starts, &ends, &low, &high, page,
         ),
     }

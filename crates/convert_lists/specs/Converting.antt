@@ -1,6 +1,6 @@
 -- What converting a text from a house to a house answers and leaves: what reading refuses, what the other house refuses, or the text of the sheet that was
 -- read (docs/RULES.md, "The order of the questions"). Definitions only.
-use Rattle.std.specs.Prelude.{List, ◌++◌, ℕ}
+use Rattle.std.specs.Prelude.{List, ◌++◌, ℕ, Option, Some, None}
 use Rattle.questions.specs.Questions.{Question, Verdict, first_no}
 use Rattle.forms.specs.declared.House.{House}
 use Rattle.sheet.specs.Sheet.{constraints}
@@ -8,8 +8,8 @@ use Rattle.read_questions.specs.Reading.{questions, rooms_for_all, sheet_in}
 use Rattle.write_ask.specs.HouseQuestions.{house_questions}
 use Rattle.sheet_texts.specs.SheetText.{sheet_text}
 use Rattle.write_fronts.specs.Outcome.{bytes_by, Reply, sheet, refused, reply_by}
+use Rattle.questions.specs.declared.Refusal.{Refusal}
 use Rattle.convert_lists.specs.declared.Converted.{Converted}
-use Rattle.convert_lists.specs.declared.Converted.TheVariants as Converted
 
 -- what reading asks, with rooms for every sheet, and then what the other house asks of the sheet that was read
 abbrev pub asked : House → House → List ℕ → List Question
@@ -24,9 +24,13 @@ converted from to text = bytes_by (refusal from to text) (sheet_text to (sheet_i
 
 -- ---- the answer
 
+-- by the refusal whose line was written, or none, and the place just past what was
+abbrev pub written : Option Refusal → ℕ → Reply
+written None next = sheet next
+written (Some f) next = refused f.number f.line next
+
 abbrev pub reply_of : Converted → Reply
-reply_of (Converted.Sheet next) = sheet next
-reply_of (Converted.Refused f next) = refused f.number f.line next
+reply_of c = written c.refusal c.place
 
 abbrev pub converting : House → House → List ℕ → Reply
 converting from to text = reply_by (refusal from to text) (sheet_text to (sheet_in from text))

@@ -13,31 +13,28 @@ ghost use Rattle.write_fronts.specs.Outcome.{refused, bytes_by, reply_by};
 ghost use Rattle.convert_lists.specs.Converting as says;
 
 use forms::House;
-use questions::{Checked, Refusal};
+use questions::Refusal;
 use sheet::Sheet;
 use write_lines::MAX_TEXT;
 
-// What was written on the page, by the place just past it: the sheet as a text of the other house, or the line of a refusal.
+// What was written on the page: the place just past it; and the refusal, where it is the line of one and not the sheet as a text of the other house.
 #[derive(Clone, Copy)]
-pub enum Converted {
-    Sheet(usize),
-    Refused(Refusal, usize),
+pub struct Converted {
+    pub place: usize,
+    pub refusal: Option<Refusal>,
 }
 
 // The line of a refusal, from the first place of the page on.
-pub fn refuse(page: &mut [u8; MAX_TEXT], number: usize, line: usize) -> Converted
-    requires { (number < 100) × (line ≤ max_bytes) }
-    ensures { (says.reply_of result ≡ refused number line (length (refused_line number line)))
-        × (page.new ≡ with_bytes page.old 0 (refused_line number line)) }
+pub fn refuse(page: &mut [u8; MAX_TEXT], refusal: Refusal) -> Converted
+    requires { (refusal.number < 100) × (refusal.line ≤ max_bytes) }
+    ensures { let line = refused_line refusal.number refusal.line in
+        (says.reply_of result ≡ refused refusal.number refusal.line (length line)) × (page.new ≡ with_bytes page.old 0 line) }
 {
-    let next = write_fronts::put_refused(page, number, line);
-    Converted::Refused(
-        Refusal {
-            number: number,
-            line: line,
-        },
-        next,
-    )
+    let next = write_fronts::put_refused(page, refusal.number, refusal.line);
+    Converted {
+        place: next,
+        refusal: Some(refusal),
+    }
 }
 
 // What the house asks of the sheet that reading left at the front of the lists, and then its text.
@@ -62,14 +59,12 @@ pub fn convert_fronts(
 {
     let n = s.units;
     let r = s.rules;
-    let asked = write_ask::ask_house(house, s.span, &last[..n], &low[..r]);
-    match asked {
-        Checked::No(refusal) => refuse(page, refusal.number, refusal.line),
-        Checked::Yes => {
-            let next = write_fronts::put_fronts(
-                house, s, loader, first, last, from, to, low, high, page,
-            );
-            Converted::Sheet(next)
-        }
+    if let Err(refusal) = write_ask::ask_house(house, s.span, &last[..n], &low[..r]) {
+        return refuse(page, refusal);
+    }
+    let next = write_fronts::put_fronts(house, s, loader, first, last, from, to, low, high, page);
+    Converted {
+        place: next,
+        refusal: None,
     }
 }

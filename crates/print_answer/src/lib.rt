@@ -8,15 +8,15 @@ ghost use Rattle.pages.specs.Page.{RingFits, none_page, max_ring_page};
 ghost use Rattle.print_answer.specs.Printing.{holds as holdsAnswer, Asked};
 ghost use Rattle.print_answer.specs.Reply as says;
 
+use plan_answers::{Fit, Ring};
 use print_none::MAX_RING_PAGE;
-use questions::Refusal;
+use questions::{Question, Refusal};
 
-// What a call answers: a refusal; a plan; or none, with the length of the ring. An answer has the place just past it.
+// What was printed: a plan, or none, with the length of the ring; and the place just past the answer.
 #[derive(Clone, Copy)]
-pub enum Printed {
-    Refused(Refusal),
-    Plan(usize),
-    None(usize, usize),
+pub struct Printed {
+    pub fit: Fit,
+    pub place: usize,
 }
 
 // The page of a ring is written into an array of the call's own. Where the lent page holds it, it is put there, the ring stands in its room and the
@@ -29,7 +29,7 @@ pub fn print_ring(
     ring: &mut [u16],
     page: &mut [u8],
     at: usize,
-) -> Printed
+) -> Result<Printed, Refusal>
     requires ring_fits { RingFits w limits.now found.now }
     requires w_in_bounds { (w * w ≤ length table.old) × (length found.now ≤ length ring.old) }
     requires found_len_bound { length (none_page (entry w limits.now) found.now) ≤ max_ring_page }
@@ -42,15 +42,16 @@ pub fn print_ring(
 {
     let mut answer = [0u8; MAX_RING_PAGE];
     let length = print_none::put_none(&mut answer, 0, limits, w, found);
-    if print_writer::holds(page.len(), at, length) {
-        network::clear(w * w, table);
-        lists::copy_list(found, ring);
-        let next = print_writer::write(page, at, &answer[..length]);
-        Printed::None(found.len(), next)
-    } else {
-        Printed::Refused(Refusal {
-            number: 15,
-            line: 0,
-        })
+    if !print_writer::holds(page.len(), at, length) {
+        return Err(Question::Page.refused());
     }
+    network::clear(w * w, table);
+    lists::copy_list(found, ring);
+    let next = print_writer::write(page, at, &answer[..length]);
+    Ok(Printed {
+        fit: Err(Ring {
+            length: found.len(),
+        }),
+        place: next,
+    })
 }

@@ -1,8 +1,8 @@
 #![tactic(auto)]
 
 ghost use Rattle.std.specs.Prelude.{◌≡◌, [], ◌++◌, ◌≤◌, T, length, drop};
-ghost use Rattle.sheet.specs.Questions.{sheet_of, loaders_fit};
-ghost use Rattle.sheet.specs.Lists.{listed, given};
+ghost use Rattle.sheet.specs.Questions.{loaders_fit};
+ghost use Rattle.sheet.specs.Lists.{given_by};
 ghost use Rattle.plan_rooms.specs.Rooms.{lent, plan_lent, rooms_fit};
 ghost use Rattle.plan_ask.specs.Asking.{Solvable};
 ghost use Rattle.plan_steps.specs.Closing.{passed};
@@ -12,11 +12,10 @@ ghost use Rattle.print_answer.specs.Printing.{holds as holdsAnswer, Asked, Print
 ghost use Rattle.print_answer.specs.Reply as says;
 ghost use Rattle.lists.specs.Lists.{on_front};
 
-use plan_answers::Fit;
 use print_answer::Printed;
 use print_page::MAX_PAGE;
-use questions::Refusal;
-use sheet::Sheet;
+use questions::{Question, Refusal};
+use sheet::{Sheet, WrittenLists};
 
 // The finished table, the plan and the narrowed windows, at the front of their rooms.
 fn keep_plan(
@@ -36,7 +35,7 @@ fn keep_plan(
         × (earliest.new ≡ firsts.now ++ drop (length firsts.now) earliest.old)
         × (latest.new ≡ lasts.now ++ drop (length lasts.now) latest.old) }
 {
-    network::copy_row(closed, table);
+    lists::copy_list(closed, table);
     lists::copy_list(seats, plan);
     lists::copy_list(firsts, earliest);
     lists::copy_list(lasts, latest);
@@ -56,7 +55,7 @@ fn print_plan(
     latest: &mut [u16],
     page: &mut [u8],
     at: usize,
-) -> Printed
+) -> Result<Printed, Refusal>
     requires printable { Printable span loader.now seats.now firsts.now lasts.now closed.now }
     requires closed_in_bounds { (length closed.now ≤ length table.old) × (length seats.now ≤ length plan.old)
         × (length firsts.now ≤ length earliest.old) × (length lasts.now ≤ length latest.old) }
@@ -71,28 +70,20 @@ fn print_plan(
 {
     let mut answer = [0u8; MAX_PAGE];
     let length = print_page::put_plan(&mut answer, 0, span, loader, seats, firsts, lasts, closed);
-    if print_writer::holds(page.len(), at, length) {
-        keep_plan(closed, seats, firsts, lasts, table, plan, earliest, latest);
-        let next = print_writer::write(page, at, &answer[..length]);
-        Printed::Plan(next)
-    } else {
-        Printed::Refused(Refusal {
-            number: 15,
-            line: 0,
-        })
+    if !print_writer::holds(page.len(), at, length) {
+        return Err(Question::Page.refused());
     }
+    keep_plan(closed, seats, firsts, lasts, table, plan, earliest, latest);
+    let next = print_writer::write(page, at, &answer[..length]);
+    Ok(Printed {
+        fit: Ok(()),
+        place: next,
+    })
 }
 
 // A sheet of which every question of planning is answered yes. It is planned in arrays of this call's own: a refusal by 15 changes nothing.
 pub fn print_solved(
-    span: usize,
-    loader: &[u16],
-    first: &[u16],
-    last: &[u16],
-    from: &[u16],
-    to: &[u16],
-    low: &[u16],
-    high: &[u16],
+    lists: &WrittenLists<'_>,
     table: &mut [i16],
     plan: &mut [u16],
     earliest: &mut [u16],
@@ -100,12 +91,12 @@ pub fn print_solved(
     ring: &mut [u16],
     page: &mut [u8],
     at: usize,
-) -> Printed
-    requires fact { let l = listed span first.now last.now from.now to.now low.now high.now in
-        Solvable l (rooms_fit (given l) (plan_lent (lent table.old plan.old earliest.old latest.old ring.old))) }
-    requires t { T (loaders_fit loader.now) × (length loader.now ≡ length first.now) }
-    ensures { let s = sheet_of span first.now last.now from.now to.now low.now high.now in
-        PrintingOf (by_pass (passed s)) loader.now s
+) -> Result<Printed, Refusal>
+    requires fact { Solvable lists.now.constraints
+        (rooms_fit (given_by lists.now) (plan_lent (lent table.old plan.old earliest.old latest.old ring.old))) }
+    requires t { T (loaders_fit lists.now.loader) × (length lists.now.loader ≡ length lists.now.constraints.first) }
+    ensures { let s = given_by lists.now in
+        PrintingOf (by_pass (passed s)) lists.now.loader s
         (lent table.old plan.old earliest.old latest.old ring.old)
         page.old at (says.reply_of result)
         (lent table.new plan.new earliest.new latest.new ring.new) page.new }
@@ -116,40 +107,36 @@ pub fn print_solved(
     let mut lasts = [0u16; Sheet::MAX_UNITS];
     let mut found = [0u16; Sheet::MAX_BOUNDARIES];
     let fit = plan_solve::solve(
-        span,
-        first,
-        last,
-        from,
-        to,
-        low,
-        high,
+        &lists.constraints,
         &mut closed,
         &mut seats,
         &mut firsts,
         &mut lasts,
         &mut found,
     );
+    let span = lists.constraints.span;
     let w = sheet::boundaries(span);
-    let cells = w * w;
-    let n = first.len();
     match fit {
-        Fit::Fits => print_plan(
-            span,
-            loader,
-            &closed[..cells],
-            &seats[..n],
-            &firsts[..n],
-            &lasts[..n],
-            table,
-            plan,
-            earliest,
-            latest,
-            page,
-            at,
-        ),
-        Fit::None(k) => {
-            limits::fill::fill_limits(span, first, last, from, to, low, high, &mut closed);
-            print_answer::print_ring(&closed, w, &found[..k], table, ring, page, at)
+        Ok(()) => {
+            let n = lists.constraints.first.len();
+            print_plan(
+                span,
+                lists.loader,
+                &closed[..w * w],
+                &seats[..n],
+                &firsts[..n],
+                &lasts[..n],
+                table,
+                plan,
+                earliest,
+                latest,
+                page,
+                at,
+            )
+        }
+        Err(none) => {
+            limits::fill::fill_limits(&lists.constraints, &mut closed);
+            print_answer::print_ring(&closed, w, &found[..none.length], table, ring, page, at)
         }
     }
 }

@@ -1,6 +1,6 @@
 -- What writing a sheet as a text of a house answers and leaves (docs/RULES.md, "The order of the questions"): the questions in their order, and the first that
 -- is answered no. Definitions only.
-use Rattle.std.specs.Prelude.{Bool, List, [], ◌∷◌, ◌++◌, ℕ, ◌+◌, leb, length}
+use Rattle.std.specs.Prelude.{Bool, List, [], ◌∷◌, ◌++◌, ℕ, ◌+◌, leb, length, Result, Ok, Err}
 use Rattle.questions.specs.Questions.{Question, ask, Verdict, no, all_yes, first_no}
 use Rattle.forms.specs.declared.House.{House}
 use Rattle.sheet.specs.Lists.{WrittenLists, given_by, written_by}
@@ -8,8 +8,7 @@ use Rattle.plan_ask.specs.Questions.{list_questions}
 use Rattle.sheet_texts.specs.SheetText.{sheet_text}
 use Rattle.write_ask.specs.HouseQuestions.{house_questions}
 use Rattle.print_bytes.specs.Writing.{with_bytes}
-use Rattle.write.specs.declared.Writing.{Writing}
-use Rattle.write.specs.declared.Writing.TheVariants.{Refused, Text}
+use Rattle.questions.specs.declared.Refusal.{Refusal}
 
 -- the text of a call's lists
 abbrev pub text_of : House → WrittenLists → List ℕ
@@ -43,9 +42,9 @@ pub data Reply : Type 0 where
   refused : (number line : ℕ) → Reply
   text : (place : ℕ) → Reply
 
-abbrev pub reply_of : Writing → Reply
-reply_of (Refused f) = refused f.number f.line
-reply_of (Text next) = text next
+abbrev pub reply_of : Result ℕ Refusal → Reply
+reply_of (Err f) = refused f.number f.line
+reply_of (Ok next) = text next
 
 -- by this verdict, of a call that has these bytes to write
 abbrev pub concluded : Verdict → ℕ → List ℕ → Reply

@@ -1,51 +1,47 @@
 #![tactic(auto)]
 
-ghost use Rattle.std.specs.Prelude.{◌≡◌, leb};
+ghost use Rattle.std.specs.Prelude.{◌≡◌, [], ◌∷◌, leb};
 ghost use Rattle.questions.specs.Questions.{first_no, verdict_of};
-ghost use Rattle.write_ask.specs.HouseQuestions.{first_at_fault, end_questions};
+ghost use Rattle.questions.specs.Numbers.{number_of};
+ghost use Rattle.write_ask.specs.HouseQuestions.{first_at_fault, line_found, ask_each, end_questions};
+ghost use Rattle.write_ask.specs.HouseQuestions as asks;
 
 use forms::House;
-use questions::{Checked, Refusal};
+use questions::{Question, Refusal};
 
 // What is asked of a sheet before it goes out as a text of a house.
 
-// The first place of a list, counted from 1, whose number is past the most allowed. 0 where there is none.
-fn first_past(xs: &[u16], most: usize) -> usize
-    ensures { result ≡ first_at_fault (λ x. leb x most) xs.now }
+// The line, counted from 1, of the first number of a list that is past the most allowed, or none.
+fn first_past(xs: &[u16], most: usize) -> Option<usize>
+    ensures { result ≡ line_found (first_at_fault (λ x. leb x most) xs.now) }
 {
-    let mut j: usize = 0;
-    while j < xs.len() {
-        if xs[j] as usize <= most {
-            j += 1;
-        } else {
-            return j + 1;
+    for (j, x) in xs.iter().enumerate() {
+        if *x as usize > most {
+            return Some(j + 1);
         }
     }
-    0
+    None
+}
+
+// A question that is asked of each number of a list: is it at most so much? The line of the first that is not is to blame.
+fn ask_each(question: Question, xs: &[u16], most: usize) -> Result<(), Refusal>
+    ensures { verdict_of result ≡ first_no (asks.ask_each (number_of question) (λ x. leb x most) xs.now ∷ []) }
+{
+    match first_past(xs, most) {
+        Some(line) => Err(question.at(line)),
+        None => Ok(()),
+    }
 }
 
 // What the house asks, of the last slots of the units and the lows of the rules.
-pub fn ask_house(house: House, span: usize, last: &[u16], low: &[u16]) -> Checked
+pub fn ask_house(house: House, span: usize, last: &[u16], low: &[u16]) -> Result<(), Refusal>
     ensures { verdict_of result ≡ first_no (end_questions house span last.now low.now) }
 {
     match house {
-        House::Ours => Checked::Yes,
+        House::Ours => Ok(()),
         House::Partner => {
-            let carried = first_past(last, span);
-            if carried != 0 {
-                return Checked::No(Refusal {
-                    number: 17,
-                    line: carried,
-                });
-            }
-            let with_low = first_past(low, 0);
-            if with_low != 0 {
-                return Checked::No(Refusal {
-                    number: 18,
-                    line: with_low,
-                });
-            }
-            Checked::Yes
+            ask_each(Question::CarriedUnit, last, span)?;
+            ask_each(Question::RuleLow, low, 0)
         }
     }
 }

@@ -9,7 +9,7 @@ ghost use Rattle.sheet_texts.specs.SheetText.{sheet_text};
 ghost use Rattle.print_bytes.specs.Writing.{Written, refused_line};
 
 use forms::House;
-use sheet::Sheet;
+use sheet::{Lists, Sheet, WrittenLists};
 use write_lines::MAX_TEXT;
 
 // What stands on a page that is long enough for every text, from its first place on; each answers the place just past it.
@@ -42,17 +42,17 @@ pub fn put_fronts(
 {
     let n = s.units;
     let r = s.rules;
-    write_lines::put_sheet(
-        house,
-        page,
-        0,
-        s.span,
-        &loader[..n],
-        &first[..n],
-        &last[..n],
-        &from[..r],
-        &to[..r],
-        &low[..r],
-        &high[..r],
-    )
+    let lists = WrittenLists {
+        loader: &loader[..n],
+        constraints: Lists {
+            span: s.span,
+            first: &first[..n],
+            last: &last[..n],
+            from: &from[..r],
+            to: &to[..r],
+            low: &low[..r],
+            high: &high[..r],
+        },
+    };
+    write_lines::put_sheet(house, page, 0, &lists)
 }
