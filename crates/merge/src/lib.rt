@@ -6,9 +6,8 @@ ghost use Rattle.read_rooms.specs.Rooms.{sizes_of, leaves};
 ghost use Rattle.merge_questions.specs.Merging.{merged_in, merging};
 
 use merge_join::{BOTH_RULES, BOTH_UNITS};
-use merge_questions::Joined;
-use questions::Refusal;
-use read_questions::Reading;
+use questions::{Question, Refusal};
+use sheet::Sheet;
 
 // The open entry: two texts of our own format as one sheet. A refusal leaves every room as it was; else the merged units and rules stand at the front of
 // theirs.
@@ -22,7 +21,7 @@ pub fn merge(
     to: &mut [u16],
     low: &mut [u16],
     high: &mut [u16],
-) -> Reading
+) -> Result<Sheet, Refusal>
     ensures result_value { reply_of result
         ≡ merging one.now two.now
         (sizes_of (rooms loader.old first.old last.old from.old to.old low.old
@@ -40,7 +39,7 @@ pub fn merge(
     let mut tos = [0u16; BOTH_RULES];
     let mut lows = [0u16; BOTH_RULES];
     let mut highs = [0u16; BOTH_RULES];
-    let joined = merge_join::join(
+    let merged = merge_join::join(
         one,
         two,
         &mut numbers,
@@ -50,30 +49,22 @@ pub fn merge(
         &mut tos,
         &mut lows,
         &mut highs,
-    );
-    match joined {
-        Joined::Refused(refusal, _) => Reading::Refused(refusal),
-        Joined::Sheet(s) => {
-            if !read_rooms::lists_fit(
-                s,
-                loader.len(),
-                first.len(),
-                last.len(),
-                from.len(),
-                to.len(),
-                low.len(),
-                high.len(),
-            ) {
-                return Reading::Refused(Refusal {
-                    number: 12,
-                    line: 0,
-                });
-            }
-            read_rooms::fill(
-                s, &numbers, &firsts, &lasts, &froms, &tos, &lows, &highs, loader, first, last,
-                from, to, low, high,
-            );
-            Reading::Sheet(s)
-        }
+    )?;
+    if !read_rooms::lists_fit(
+        merged,
+        loader.len(),
+        first.len(),
+        last.len(),
+        from.len(),
+        to.len(),
+        low.len(),
+        high.len(),
+    ) {
+        return Err(Question::Rooms.refused());
     }
+    read_rooms::fill(
+        merged, &numbers, &firsts, &lasts, &froms, &tos, &lows, &highs, loader, first, last, from,
+        to, low, high,
+    );
+    Ok(merged)
 }

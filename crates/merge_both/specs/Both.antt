@@ -1,5 +1,5 @@
 -- Two sheets in one set of lists, the first's numbers in front, and what asking about both comes to. Definitions only.
-use Rattle.std.specs.Prelude.{ℕ, ◌+◌, ◌≤◌, ◌≡◌, List, ◌++◌, map, length, take}
+use Rattle.std.specs.Prelude.{ℕ, ◌+◌, ◌≤◌, ◌≡◌, List, ◌++◌, map, length, take, Result, IfOk}
 use Rattle.questions.specs.Questions.{all_yes, first_no}
 use Rattle.sheet.specs.Sizes.{max_units, max_rules}
 use Rattle.sheet.specs.Sheet.{Rule, WrittenSheet, loaders}
@@ -8,8 +8,7 @@ use Rattle.read_questions.specs.Reading.{concluded}
 use Rattle.merge_sheets.specs.Merge.{merged}
 use Rattle.merge_rules.specs.Columns.{Columns, AtFront}
 use Rattle.merge_questions.specs.Merging.{join_questions, blamed, joined_reply, joined_blame}
-use Rattle.merge_questions.specs.declared.Joined.{Joined}
-use Rattle.merge_questions.specs.declared.Joined.TheVariants as Joined
+use Rattle.merge_questions.specs.declared.Blamed.{Blamed}
 
 -- the numbers of a sheet that was read
 pub record Counted (s : Sheet) (w : WrittenSheet) : Type 0 where
@@ -46,12 +45,11 @@ pub record RulesLeft (s : Sheet) (wa wb : WrittenSheet) (before now : Columns) :
   pub units : s.units ≡ length wa.units + length wb.units
   pub at_front : AtFront (merged wa wb).rules s.rules before now
 
-abbrev pub LeavesRules : Joined → WrittenSheet → WrittenSheet → Columns → Columns → Type 0
-LeavesRules (Joined.Refused f k) wa wb before now = Unit {0}
-LeavesRules (Joined.Sheet s) wa wb before now = RulesLeft s wa wb before now
+abbrev pub LeavesRules : Result Sheet Blamed → WrittenSheet → WrittenSheet → Columns → Columns → Type 0
+LeavesRules r wa wb before now = IfOk r (λ s. RulesLeft s wa wb before now)
 
 -- the reply, which sheet it blames, and what is left in the columns
-pub record AsksBoth (r : Joined) (wa wb : WrittenSheet) (two : List ℕ) (before now : Columns) : Type 0 where
+pub record AsksBoth (r : Result Sheet Blamed) (wa wb : WrittenSheet) (two : List ℕ) (before now : Columns) : Type 0 where
   pub reply : joined_reply r ≡ concluded (first_no (join_questions two wa wb)) (merged wa wb)
   pub blames : joined_blame r ≡ blamed all_yes (first_no (join_questions two wa wb))
   pub left : LeavesRules r wa wb before now

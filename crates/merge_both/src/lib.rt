@@ -6,19 +6,17 @@ ghost use Rattle.sheet.specs.Sheet.{WrittenSheet};
 ghost use Rattle.merge_rules.specs.Columns.{columns};
 ghost use Rattle.merge_both.specs.Both.{BothRead, AsksBoth};
 
-use merge_questions::Joined;
-use merge_stretches::Stretches;
-use questions::{Checked, Refusal};
+use merge_questions::Blamed;
+use questions::{Question, Refusal};
 use sheet::Sheet;
 
-// Which sheet a refusal is of, once the first has passed its own questions: rules that cross where the second has none are the first's.
-pub fn blamed(refusal: Refusal) -> usize
-    ensures { result ≡ cond (eqb refusal.number 21 && eqb refusal.line 0) 1 2 }
+// A refusal with the sheet that it is of, once the first has passed its own questions: rules that cross where the second has none are the first's.
+pub fn blamed(refusal: Refusal) -> Blamed
+    ensures { result ≡ record { refusal = refusal; sheet = cond (eqb refusal.number 21 && eqb refusal.line 0) 1 2 } }
 {
-    if refusal.number != 21 {
-        return 2;
-    }
-    if refusal.line == 0 { 1 } else { 2 }
+    let crossed = refusal.number == Question::CrossedRules.number();
+    let sheet = if crossed && refusal.line == 0 { 1 } else { 2 };
+    Blamed { refusal, sheet }
 }
 
 // The questions of both, by their numbers and rules in lists, the first sheet's in front; then the combined rules stand at the front of the arrays.
@@ -35,7 +33,7 @@ pub fn ask_both(
     tos: &mut [u16],
     lows: &mut [u16],
     highs: &mut [u16],
-) -> Joined
+) -> Result<Sheet, Blamed>
     requires { (wa : WrittenSheet) × ((wb : WrittenSheet)
         × BothRead wa wb a b numbers.now (columns from.now to.now low.now high.now)
         (columns froms.old tos.old lows.old highs.old)) }
@@ -49,30 +47,24 @@ pub fn ask_both(
     let rules = a.rules;
     let n = units + b.units;
     let r = rules + b.rules;
-    let asked = merge_units::ask_units(two, a.span, b.span, &numbers[..units], &numbers[units..n]);
-    match asked {
-        Checked::No(refusal) => Joined::Refused(refusal, blamed(refusal)),
-        Checked::Yes => {
-            let stretches = merge_stretches::ask_rules(
-                two,
-                rules,
-                &from[..r],
-                &to[..r],
-                &low[..r],
-                &high[..r],
-                froms,
-                tos,
-                lows,
-                highs,
-            );
-            match stretches {
-                Stretches::No(refusal) => Joined::Refused(refusal, blamed(refusal)),
-                Stretches::Count(k) => Joined::Sheet(Sheet {
-                    span: a.span,
-                    units: n,
-                    rules: k,
-                }),
-            }
-        }
-    }
+    merge_units::ask_units(two, a.span, b.span, &numbers[..units], &numbers[units..n])
+        .map_err(blamed)?;
+    let count = merge_stretches::ask_rules(
+        two,
+        rules,
+        &from[..r],
+        &to[..r],
+        &low[..r],
+        &high[..r],
+        froms,
+        tos,
+        lows,
+        highs,
+    )
+    .map_err(blamed)?;
+    Ok(Sheet {
+        span: a.span,
+        units: n,
+        rules: count,
+    })
 }

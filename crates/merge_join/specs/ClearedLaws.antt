@@ -1,12 +1,11 @@
 -- Arrays for both sheets, as a call makes them, hold both; and what they hold by the answer, where it is a merged sheet.
-use Rattle.std.specs.Prelude.{ℕ, ◌+◌, ◌≡◌, List, replicate}
+use Rattle.std.specs.Prelude.{ℕ, ◌+◌, ◌≡◌, List, replicate, Result, Ok}
 use Rattle.std.proofs.Common.{subst, lit≤}
 use Rattle.sheet.specs.Sizes.{max_units, max_rules}
 use Rattle.sheet.specs.declared.Sheet.{Sheet}
 use Rattle.read_questions.specs.Reading.{ListRooms, rooms}
 use Rattle.read_questions.specs.Steps.{Holds}
-use Rattle.merge_questions.specs.declared.Joined.{Joined}
-use Rattle.merge_questions.specs.declared.Joined.TheVariants as Joined
+use Rattle.merge_questions.specs.declared.Blamed.{Blamed}
 use Rattle.merge_join.specs.Join.{MergedAtFront, LeavesMerged}
 
 abbrev pub cleared : ListRooms (List ℕ)
@@ -27,5 +26,5 @@ cleared_hold =
       in_high = lit≤ tt;
     }
 
-pub left_of : (j : Joined) (s : Sheet) (one two : List ℕ) (m : ListRooms (List ℕ)) → j ≡ Joined.Sheet s → LeavesMerged j one two m → MergedAtFront s one two m
+pub left_of : (j : Result Sheet Blamed) (s : Sheet) (one two : List ℕ) (m : ListRooms (List ℕ)) → j ≡ Ok s → LeavesMerged j one two m → MergedAtFront s one two m
 left_of j s one two m e k = subst (λ x. LeavesMerged x one two m) e k

@@ -8,8 +8,7 @@ ghost use Rattle.read_questions.specs.Steps.{Holds};
 ghost use Rattle.merge_questions.specs.Merging.{joined_reply, joined_blame, blamed_sheet};
 ghost use Rattle.merge_join.specs.Join.{join_reply, LeavesMerged};
 
-use merge_questions::Joined;
-use read_questions::Reading;
+use merge_questions::Blamed;
 use sheet::Sheet;
 
 // As many units, and as many rules, as two sheets may have.
@@ -28,7 +27,7 @@ pub fn join(
     tos: &mut [u16],
     lows: &mut [u16],
     highs: &mut [u16],
-) -> Joined
+) -> Result<Sheet, Blamed>
     requires { Holds (max_units + max_units) (max_rules + max_rules)
         (rooms numbers.old firsts.old lasts.old froms.old tos.old lows.old highs.old) }
     ensures result_value { joined_reply result ≡ join_reply one.now two.now }
@@ -41,23 +40,15 @@ pub fn join(
     let mut to = [0u16; BOTH_RULES];
     let mut low = [0u16; BOTH_RULES];
     let mut high = [0u16; BOTH_RULES];
-    let first = merge_read::read_behind(
+    let a = merge_read::read_behind(
         one, 0, 0, numbers, firsts, lasts, &mut from, &mut to, &mut low, &mut high,
-    );
-    match first {
-        Reading::Refused(refusal) => Joined::Refused(refusal, 1),
-        Reading::Sheet(a) => {
-            let units = a.units;
-            let rules = a.rules;
-            let second = merge_read::read_behind(
-                two, units, rules, numbers, firsts, lasts, &mut from, &mut to, &mut low, &mut high,
-            );
-            match second {
-                Reading::Refused(refusal) => Joined::Refused(refusal, merge_both::blamed(refusal)),
-                Reading::Sheet(b) => merge_both::ask_both(
-                    two, a, b, numbers, &from, &to, &low, &high, froms, tos, lows, highs,
-                ),
-            }
-        }
-    }
+    )
+    .map_err(|refusal| Blamed { refusal, sheet: 1 })?;
+    let b = merge_read::read_behind(
+        two, a.units, a.rules, numbers, firsts, lasts, &mut from, &mut to, &mut low, &mut high,
+    )
+    .map_err(merge_both::blamed)?;
+    merge_both::ask_both(
+        two, a, b, numbers, &from, &to, &low, &high, froms, tos, lows, highs,
+    )
 }

@@ -1,10 +1,11 @@
 -- What merging two texts of our own format asks and answers (docs/RULES.md, "Two sheets made one"). Definitions only.
-use Rattle.std.specs.Prelude.{ℕ, suc, ◌-◌, Bool, ◌&&◌, not, cond, List, [], ◌∷◌, ◌++◌, eqb, leb, ltb, length, get_or, take}
+use Rattle.std.specs.Prelude.{ℕ, suc, ◌-◌, Bool, ◌&&◌, not, cond, List, [], ◌∷◌, ◌++◌, eqb, leb, ltb, length, get_or, take, Result, Ok, Err}
 use Rattle.lists.specs.Lists.{every, keep, member}
 use Rattle.lists.specs.First.{first_place}
 use Rattle.questions.specs.Questions.{Question, ask, Verdict, no, all_yes, first_no}
 use Rattle.sheet.specs.Sizes.{max_units, max_rules}
 use Rattle.sheet.specs.Sheet.{Rule, WrittenSheet, loaders, on_stretch, head_or, no_rule}
+use Rattle.sheet.specs.declared.Sheet.{Sheet}
 use Rattle.forms.specs.declared.House.TheVariants.{Ours}
 use Rattle.read_questions.specs.Reading.{sheet_in, ListRooms, lists_fit, Reply, refused, read, concluded}
 use Rattle.lists.specs.Last.{last_passing}
@@ -13,8 +14,7 @@ use Rattle.merge_read.specs.Behind.{text_questions}
 use Rattle.read_places.specs.Places.{spots, no_spot}
 use Rattle.read_form.specs.declared.Kind.{Kind}
 use Rattle.read_form.specs.declared.Kind.TheVariants as Kind
-use Rattle.merge_questions.specs.declared.Joined.{Joined}
-use Rattle.merge_questions.specs.declared.Joined.TheVariants as Joined
+use Rattle.merge_questions.specs.declared.Blamed.{Blamed}
 
 -- ---- the lines that refusals name, all of the second text
 
@@ -92,10 +92,10 @@ blamed_sheet one two = blamed (first_no (text_questions Ours one)) (first_no (me
 
 -- ---- the code's reply: all questions but 12
 
-abbrev pub joined_reply : Joined → Reply
-joined_reply (Joined.Refused f s) = refused f.number f.line
-joined_reply (Joined.Sheet s) = read s.span s.units s.rules
+abbrev pub joined_reply : Result Sheet Blamed → Reply
+joined_reply (Err b) = refused b.refusal.number b.refusal.line
+joined_reply (Ok s) = read s.span s.units s.rules
 
-abbrev pub joined_blame : Joined → ℕ
-joined_blame (Joined.Refused f s) = s
-joined_blame (Joined.Sheet s) = 0
+abbrev pub joined_blame : Result Sheet Blamed → ℕ
+joined_blame (Err b) = b.sheet
+joined_blame (Ok s) = 0

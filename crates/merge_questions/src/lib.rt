@@ -1,12 +1,22 @@
-// What merging two texts asks and answers is definitions and laws; the code is the answer's type.
+// What merging two texts asks and answers is definitions and laws; the code is the answer's types.
 #![tactic(auto)]
 
-use questions::Refusal;
-use sheet::Sheet;
+ghost use Rattle.std.specs.Prelude.{◌≡◌};
 
-// The first no, with which of the two sheets it is of, or the merged sheet.
+use questions::Refusal;
+
+// The first no, with which of the two sheets it is of, 1 or 2; 0 where it is of neither.
 #[derive(Clone, Copy)]
-pub enum Joined {
-    Refused(Refusal, usize),
-    Sheet(Sheet),
+pub struct Blamed {
+    pub refusal: Refusal,
+    pub sheet: usize,
+}
+
+// The refusal alone.
+impl From<Blamed> for Refusal {
+    ghost from_gives = { λ blamed refusal. refusal ≡ blamed.refusal };
+
+    fn from(blamed: Blamed) -> Refusal {
+        blamed.refusal
+    }
 }

@@ -1,14 +1,13 @@
 -- What reading a text asks of it alone, all but question 12, and where its numbers go. Definitions only.
-use Rattle.std.specs.Prelude.{ℕ, ◌≤◌, ◌≡◌, List, ◌∷◌, leb, length}
+use Rattle.std.specs.Prelude.{ℕ, ◌≤◌, ◌≡◌, List, ◌∷◌, leb, length, Result, IfOk}
 use Rattle.questions.specs.Questions.{Question, ask, first_no}
+use Rattle.questions.specs.declared.Refusal.{Refusal}
 use Rattle.sheet.specs.Sizes.{max_units, max_rules, max_bytes}
 use Rattle.sheet.specs.declared.Sheet.{Sheet}
 use Rattle.forms.specs.declared.House.{House}
 use Rattle.forms.specs.declared.House.TheVariants.{Ours}
 use Rattle.read_questions.specs.Reading.{sheet_in, pass_questions, ListRooms, Reply, concluded}
 use Rattle.read_questions.specs.Steps.{columns, set_at}
-use Rattle.read_questions.specs.declared.Reading.{Reading}
-use Rattle.read_questions.specs.declared.Reading.TheVariants as Reading
 
 -- reading's questions but 12
 abbrev pub text_questions : House → List ℕ → List Question
@@ -23,6 +22,5 @@ pub record NumbersBehind (s : Sheet) (text : List ℕ) (units rules : ℕ) (m m'
   pub few_rules : s.rules ≤ max_rules
   pub in_arrays : m' ≡ set_at m units rules (columns (sheet_in Ours text).units (sheet_in Ours text).rules)
 
-abbrev pub KeptBehind : Reading → List ℕ → ℕ → ℕ → ListRooms (List ℕ) → ListRooms (List ℕ) → Type 0
-KeptBehind (Reading.Refused f) text units rules m m' = Unit {0}
-KeptBehind (Reading.Sheet s) text units rules m m' = NumbersBehind s text units rules m m'
+abbrev pub KeptBehind : Result Sheet Refusal → List ℕ → ℕ → ℕ → ListRooms (List ℕ) → ListRooms (List ℕ) → Type 0
+KeptBehind r text units rules m m' = IfOk r (λ s. NumbersBehind s text units rules m m')

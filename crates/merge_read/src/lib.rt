@@ -8,8 +8,7 @@ ghost use Rattle.read_questions.specs.Steps.{Holds};
 ghost use Rattle.merge_read.specs.Behind.{text_reply, KeptBehind};
 
 use forms::House;
-use questions::Refusal;
-use read_questions::Reading;
+use questions::{Question, Refusal};
 use sheet::Sheet;
 
 // Reading's questions but 12, of a text of our own. Its units and rules go into the arrays behind those that stand there.
@@ -24,7 +23,7 @@ pub fn read_behind(
     tos: &mut [u16],
     lows: &mut [u16],
     highs: &mut [u16],
-) -> Reading
+) -> Result<Sheet, Refusal>
     requires { Holds (units + max_units) (rules + max_rules)
         (rooms numbers.old firsts.old lasts.old froms.old tos.old lows.old highs.old) }
     ensures result_value { reply_of result ≡ text_reply Ours text.now }
@@ -35,7 +34,7 @@ pub fn read_behind(
         highs.new) }
 {
     if Sheet::MAX_BYTES < text.len() {
-        return Reading::Refused(Refusal { number: 1, line: 0 });
+        return Err(Question::TextLength.refused());
     }
     read_ask::ask_text(
         House::Ours,

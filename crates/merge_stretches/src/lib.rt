@@ -1,25 +1,18 @@
 // Questions 21 and 10 of two sheets that are to be one, and the combined rules.
 #![tactic(auto)]
 
-ghost use Rattle.std.specs.Prelude.{◌≡◌, map, ◌≤◌, length, take, drop};
+ghost use Rattle.std.specs.Prelude.{◌≡◌, map, ◌≤◌, length, take, drop, IfOk};
 ghost use Rattle.lists.specs.Lists.{on_front};
 ghost use Rattle.questions.specs.Questions.{verdict_of, first_no};
 ghost use Rattle.sheet.specs.Sizes.{max_rules};
 ghost use Rattle.sheet.specs.Questions.{rules_of};
 ghost use Rattle.merge_sheets.specs.Merge.{merged_rules};
 ghost use Rattle.merge_questions.specs.Merging.{stretch_questions, rule_questions};
-ghost use Rattle.merge_stretches.specs.Stretches.{last_at, verdict_by, CountIs};
+ghost use Rattle.merge_stretches.specs.Stretches.{last_at};
 
-use questions::{Checked, Refusal};
+use questions::{Question, Refusal};
 use read_form::Kind;
 use sheet::Sheet;
-
-// The first no, or how many combined rules there are.
-#[derive(Clone, Copy)]
-pub enum Stretches {
-    No(Refusal),
-    Count(usize),
-}
 
 // The questions of the combined rules, by the stretches of the second sheet's rules and the place of the one that makes too many.
 fn ask_combined(
@@ -31,7 +24,7 @@ fn ask_combined(
     tos: &[u16],
     lows: &[u16],
     highs: &[u16],
-) -> Checked
+) -> Result<(), Refusal>
     requires { (length to.now ≡ length from.now) × (length tos.now ≡ length froms.now) × (length lows.now ≡ length froms.now)
         × (length highs.now ≡ length froms.now) }
     ensures { verdict_of result
@@ -41,21 +34,15 @@ fn ask_combined(
     let p = merge_rules::first_crossed(lows, highs);
     if p < froms.len() {
         let last = merge_rules::last_on(from, to, froms[p], tos[p]);
-        return Checked::No(Refusal {
-            number: 21,
-            line: read_places::line_number(two, Kind::Rule, last),
-        });
+        return Err(Question::CrossedRules.at(read_places::line_number(two, Kind::Rule, last)));
     }
     if Sheet::MAX_RULES < froms.len() {
-        return Checked::No(Refusal {
-            number: 10,
-            line: read_places::line_number(two, Kind::Rule, past),
-        });
+        return Err(Question::Rules.at(read_places::line_number(two, Kind::Rule, past)));
     }
-    Checked::Yes
+    Ok(())
 }
 
-// The questions of the rules of both sheets, of which the first has n, and the combined rules at the front of the arrays.
+// The questions of the rules of both sheets, of which the first has n, and the combined rules at the front of the arrays: how many they are.
 pub fn ask_rules(
     two: &[u8],
     n: usize,
@@ -67,15 +54,15 @@ pub fn ask_rules(
     tos: &mut [u16],
     lows: &mut [u16],
     highs: &mut [u16],
-) -> Stretches
+) -> Result<usize, Refusal>
     requires agree { (length to.now ≡ length from.now) × (length low.now ≡ length from.now) × (length high.now ≡ length from.now) }
     requires rooms { (length from.now ≤ length froms.old) × (length from.now ≤ length tos.old)
         × (length from.now ≤ length lows.old) × (length from.now ≤ length highs.old) }
     requires first { (n ≤ length from.now) × (n ≤ max_rules) }
     ensures verdict { let rs = rules_of from.now to.now low.now high.now in
-        verdict_by result ≡ first_no (rule_questions two.now (take n rs) (drop n rs)) }
+        verdict_of result ≡ first_no (rule_questions two.now (take n rs) (drop n rs)) }
     ensures count { let rs = rules_of from.now to.now low.now high.now in
-        CountIs result (length (merged_rules rs)) }
+        IfOk result (λ k. k ≡ length (merged_rules rs)) }
     ensures froms { let rs = rules_of from.now to.now low.now high.now in
         froms.new ≡ on_front (map (λ q. q.from) (merged_rules rs)) froms.old }
     ensures tos { let rs = rules_of from.now to.now low.now high.now in
@@ -87,7 +74,7 @@ pub fn ask_rules(
 {
     let all = merge_rules::combine(from, to, low, high, froms, tos, lows, highs);
     let k = all.count;
-    let asked = ask_combined(
+    ask_combined(
         two,
         &from[n..],
         &to[n..],
@@ -96,9 +83,6 @@ pub fn ask_rules(
         &tos[..k],
         &lows[..k],
         &highs[..k],
-    );
-    match asked {
-        Checked::No(refusal) => Stretches::No(refusal),
-        Checked::Yes => Stretches::Count(k),
-    }
+    )?;
+    Ok(k)
 }

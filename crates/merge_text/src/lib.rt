@@ -8,15 +8,14 @@ ghost use Rattle.merge_text.specs.MergeText as says;
 
 use forms::House;
 use merge_join::{BOTH_RULES, BOTH_UNITS};
-use merge_questions::Joined;
-use questions::Refusal;
+use merge_questions::Blamed;
 use write_lines::MAX_TEXT;
 
-// What was written on the page, by the place just past it: the merged sheet as a text of our own format, or the line of a refusal, with which sheet it is of.
+// The place just past what was written on the page: the merged sheet as a text of our own format, or the line of a refusal, where there is one.
 #[derive(Clone, Copy)]
-pub enum Merged {
-    Sheet(usize),
-    Refused(Refusal, usize, usize),
+pub struct Merged {
+    pub place: usize,
+    pub blamed: Option<Blamed>,
 }
 
 // Merges two texts into one, from the first place of the page on. The lists are long enough for every sheet and the page for every text, so that nothing is
@@ -45,14 +44,18 @@ pub fn merge_text(one: &[u8], two: &[u8], page: &mut [u8; MAX_TEXT]) -> Merged
         &mut high,
     );
     match joined {
-        Joined::Refused(refusal, sheet) => {
-            let next = write_fronts::put_refused(page, refusal.number, refusal.line);
-            Merged::Refused(refusal, sheet, next)
+        Err(blamed) => {
+            let refusal = blamed.refusal;
+            let place = write_fronts::put_refused(page, refusal.number, refusal.line);
+            Merged {
+                place,
+                blamed: Some(blamed),
+            }
         }
-        Joined::Sheet(s) => {
-            let next = write_fronts::put_fronts(
+        Ok(merged) => {
+            let place = write_fronts::put_fronts(
                 House::Ours,
-                s,
+                merged,
                 &loader,
                 &first,
                 &last,
@@ -62,7 +65,10 @@ pub fn merge_text(one: &[u8], two: &[u8], page: &mut [u8; MAX_TEXT]) -> Merged
                 &high,
                 page,
             );
-            Merged::Sheet(next)
+            Merged {
+                place,
+                blamed: None,
+            }
         }
     }
 }
