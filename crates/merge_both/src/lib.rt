@@ -47,8 +47,9 @@ pub fn ask_both(
     let rules = a.rules;
     let n = units + b.units;
     let r = rules + b.rules;
-    merge_units::ask_units(two, a.span, b.span, &numbers[..units], &numbers[units..n])
-        .map_err(blamed)?;
+    merge_units::ask_units(two, a.span, b.span, &numbers[..units], &numbers[units..n]).map_err(
+        blamed,
+    )?;
     let count = merge_stretches::ask_rules(
         two,
         rules,

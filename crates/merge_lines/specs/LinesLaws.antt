@@ -1,7 +1,7 @@
 -- A line that was found stands in its text; and where the merge's questions are all yes, the place of a loader number among the units of both is that of its
 -- line among the lines of units of both.
 -- Key idea: a text has as many lines of units as its sheet has units, so that a place past the first's units is one of the second's.
-use Rattle.std.specs.Prelude.{ℕ, suc, ◌+◌, ◌-◌, ◌≤◌, ◌≡◌, Bool, ◌||◌, cond, eqb, ltb}
+use Rattle.std.specs.Prelude.{ℕ, suc, ◌+◌, ◌-◌, ◌≤◌, ◌≡◌, Bool, ◌||◌, cond, eqb, ltb, Result, Ok, Err}
 use Rattle.std.proofs.Math.Path.{refl, ap, ap₂}
 use Rattle.std.proofs.Common.{sym, ◌∙◌, arith, zero-add}
 use Rattle.std.proofs.Math.Bool.{true, false}
@@ -13,7 +13,6 @@ use borrow.Author.Tests.{lt-ltb, ltb-true, ltb-false}
 use Rattle.lists.specs.Lists.{member}
 use Rattle.questions.specs.Questions.{ask, Verdict, no, all_yes, first_no, AllYes}
 use Rattle.questions.proofs.FirstNoLaws.{first_then, every_yes}
-use Rattle.questions.specs.declared.Refusal.{Refusal}
 use Rattle.forms.specs.declared.House.TheVariants.{Ours}
 use Rattle.sheet.specs.Sheet.{loaders}
 use Rattle.read_questions.specs.Reading.{sheet_in, refused, read}
@@ -21,7 +20,6 @@ use Rattle.read_questions.proofs.ConcludedLaws.{concluded_read, concluded_no}
 use Rattle.read_form.specs.declared.Kind.TheVariants as Kind
 use Rattle.read_places.specs.Places.{spots, sought}
 use Rattle.read_places.specs.PlacesLaws.{unit_count, sought_at, sought_past, spot_inside}
-use Rattle.read_places.specs.declared.Sought.TheVariants.{At, Past}
 use Rattle.merge_read.specs.Behind.{text_questions}
 use Rattle.merge_read.specs.BehindLaws.{lines_asked}
 use Rattle.merge_sheets.specs.Merge.{merged}
@@ -30,8 +28,9 @@ use Rattle.merge_questions.specs.FirstLaws.{first_cons}
 use Rattle.merge_join.specs.Join.{join_reply}
 use Rattle.merge_laws.proofs.Merged.{first_asked, second_asked}
 use Rattle.merge_lines.specs.Lines.{has_loader, questions_of_line, loader_place, spot_of, place_of, found_by, found_line, in_second, in_either, located_at}
-use Rattle.merge_lines.specs.declared.LineFound.{LineFound}
-use Rattle.merge_lines.specs.declared.LineFound.TheVariants.{Refused, First, Second}
+use Rattle.merge_questions.specs.declared.Blamed.{Blamed}
+use Rattle.merge_lines.specs.declared.LinePlace.{LinePlace}
+use Rattle.merge_lines.specs.declared.LinePlace.TheVariants.{First, Second}
 
 -- ---- the place of a loader number
 
@@ -72,20 +71,20 @@ module _ (text : List ℕ) (asked : AllYes (text_questions Ours text)) (k : ℕ)
   spots_many : length (spots Kind.Unit text) ≡ length numbers
   spots_many = unit_count text (lines_asked Ours text asked) ∙ sym (length-map (sheet_in Ours text).units (λ u. u.loader))
 
-  spot_there : has_loader text k ≡ true → sought Kind.Unit text (loader_place numbers k) ≡ At (spot_of text k)
+  spot_there : has_loader text k ≡ true → sought Kind.Unit text (loader_place numbers k) ≡ Ok (spot_of text k)
   unfolding sought
   spot_there h =
       sought_at (spots Kind.Unit text) (loader_place numbers k)
       (omega (arith, spots_many, ltb-true (loader_place numbers k) (length numbers) (place_found k numbers ∙ h)))
 
   -- past this text's units: so far past them
-  spot_past : (i : ℕ) → sought Kind.Unit text (length numbers + i) ≡ Past i
+  spot_past : (i : ℕ) → sought Kind.Unit text (length numbers + i) ≡ Err i
   unfolding sought
   spot_past i =
       let e : length numbers + i - length (spots Kind.Unit text) ≡ i = omega (arith, spots_many) in
-      sought_past (spots Kind.Unit text) (length numbers + i) (omega (arith, spots_many)) ∙ ap Past e
+      sought_past (spots Kind.Unit text) (length numbers + i) (omega (arith, spots_many)) ∙ ap Err e
 
-  nowhere : has_loader text k ≡ false → in_second (sought Kind.Unit text (loader_place numbers k)) ≡ Refused (record { number = 27; line = 0 }) 0
+  nowhere : has_loader text k ≡ false → in_second (sought Kind.Unit text (loader_place numbers k)) ≡ Err (record { refusal = record { number = 27; line = 0 }; sheet = 0 })
   unfolding sought
   nowhere h =
       ap in_second (sought_past (spots Kind.Unit text) (loader_place numbers k)
@@ -94,12 +93,13 @@ module _ (text : List ℕ) (asked : AllYes (text_questions Ours text)) (k : ℕ)
 -- ---- both texts
 module _ (one two : List ℕ) (k : ℕ) where
   -- a refusal of the merge is one of the line
-  pub found_refused : (f : Refusal) (s : ℕ) → refused f.number f.line ≡ join_reply one two → s ≡ blamed_sheet one two
-      → Refused f s ≡ found_line one two k
+  pub found_refused : (b : Blamed) → refused b.refusal.number b.refusal.line ≡ join_reply one two → b.sheet ≡ blamed_sheet one two
+      → Err b ≡ found_line one two k
   unfolding found_line questions_of_line join_reply
-  found_refused f s r b =
+  found_refused b r s =
+      let f = b.refusal in
       let e = concluded_no (first_no (merge_questions one two)) (merged_in one two) f.number f.line r in
-      ap (Refused f) b
+      ap (λ (n : ℕ). Err (record { refusal = f; sheet = n })) s
       ∙ ap (λ (v : Verdict). found_by v (blamed_sheet one two) (place_of one two k))
       (sym (first_then (merge_questions one two) (ask 27 0 (has_loader one k || has_loader two k) ∷ []) (no f.number f.line) e))
 
@@ -118,7 +118,7 @@ module _ (one two : List ℕ) (k : ℕ) where
     abbrev b : List ℕ
     b = loaders (sheet_in Ours two)
 
-    in_one : has_loader one k ≡ true → located_at one two (loader_place (a ++ b) k) ≡ First (spot_of one k).start (spot_of one k).end
+    in_one : has_loader one k ≡ true → located_at one two (loader_place (a ++ b) k) ≡ Ok (First (spot_of one k).start (spot_of one k).end)
     in_one h =
         ap (located_at one two) (place_both k a b ∙ ap (λ (c : Bool). cond c (loader_place a k) (length a + loader_place b k)) h)
         ∙ ap (in_either two) (spot_there one (first_asked one two e) k h)
@@ -149,10 +149,10 @@ module _ (one two : List ℕ) (k : ℕ) where
         go false false p q = past_one p ∙ nowhere two (second_asked one two e) k q
 
   -- ---- what was found lies within its text
-  abbrev pub Inside : LineFound → Type 0
-  Inside (Refused f s) = Unit {0}
-  Inside (First a b) = (a ≤ b) × (b ≤ length one)
-  Inside (Second a b) = (a ≤ b) × (b ≤ length two)
+  abbrev pub Inside : Result LinePlace Blamed → Type 0
+  Inside (Err b) = Unit {0}
+  Inside (Ok (First a b)) = (a ≤ b) × (b ≤ length one)
+  Inside (Ok (Second a b)) = (a ≤ b) × (b ≤ length two)
 
   pub found_inside : Inside (found_line one two k)
   unfolding found_line

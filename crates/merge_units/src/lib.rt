@@ -30,8 +30,7 @@ fn first_shared(ones: &[u16], twos: &[u16]) -> Option<usize>
     let mut heads = [0u16; loaders::CHAINS];
     let mut nexts = [0u16; Sheet::MAX_UNITS];
     link_all(ones, &mut heads, &mut nexts);
-    twos.iter()
-        .position(|k| loaders::is_among(ones, ones.len(), &heads, &nexts, *k))
+    twos.iter().position(|k| loaders::is_among(ones, ones.len(), &heads, &nexts, *k))
 }
 
 // The questions, by the spans and the loader numbers of both sheets; lines are those of the second's text.
