@@ -4,11 +4,9 @@
 ghost use Rattle.std.specs.Prelude.{◌≡◌, ◌++◌, ◌≤◌, length, drop};
 
 // The list, at the front of out.
-pub fn copy_list(c: &[u16], out: &mut [u16])
+pub fn copy_list<T: Copy>(c: &[T], out: &mut [T])
     requires { length c.now ≤ length out.old }
     ensures { out.new ≡ c.now ++ drop (length c.now) out.old }
 {
-    for i in 0..c.len() {
-        out[i] = c[i];
-    }
+    out[..c.len()].copy_from_slice(c);
 }

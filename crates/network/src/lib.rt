@@ -10,16 +10,6 @@ pub const MAX_BOUNDARIES: usize = 50;
 // The row step takes this many columns at a time, whole vectors of the machine; the last stretch of a row is shorter.
 pub const STRETCH: usize = 32;
 
-// The row, at the front of out.
-pub fn copy_row(row: &[i16], out: &mut [i16])
-    requires { length row.now ≤ length out.old }
-    ensures { out.new ≡ row.now ++ drop (length row.now) out.old }
-{
-    for i in 0..row.len() {
-        out[i] = row[i];
-    }
-}
-
 // Row m as it is before the table changes.
 pub fn load_row(t: &[i16], m: usize, w: usize, out: &mut [i16])
     requires { (m < w) × (w * w ≤ length t.now) × (w ≤ length out.old) }
@@ -27,7 +17,7 @@ pub fn load_row(t: &[i16], m: usize, w: usize, out: &mut [i16])
 {
     let first = m * w;
     let last = first + w;
-    copy_row(&t[first..last], out);
+    lists::copy_list(&t[first..last], out);
 }
 
 // How many stretches a row has. Two are enough, and the count is a test and no division: so the compiler sees that a second stretch is not empty.
@@ -52,7 +42,7 @@ pub fn relax_row(row: &mut [i16], mid: &[i16], am: i16)
     ensures { row.new ≡ relaxed am mid.now row.old }
 {
     for b in 0..row.len() {
-        row[b] = integers::lesser(row[b], am + mid[b]);
+        row[b] = row[b].min(am + mid[b]);
     }
 }
 
@@ -61,10 +51,7 @@ pub fn falls(row: &[i16], a: usize, b: usize, e: usize) -> bool
     requires { a < length row.now }
     ensures { result ≡ falls_in b e a row.now }
 {
-    if a < b {
-        return false;
-    }
-    a < e && integers::less(row[a], 0)
+    (b..e).contains(&a) && row[a] < 0
 }
 
 // Entry (a, b) of a table with w numbers a row.
@@ -80,7 +67,5 @@ pub fn clear(n: usize, t: &mut [i16])
     requires { n ≤ length t.old }
     ensures { t.new ≡ cleared n t.old }
 {
-    for i in 0..n {
-        t[i] = 0;
-    }
+    t[..n].fill(0);
 }

@@ -8,16 +8,18 @@ ghost use Rattle.network_pass.specs.PassBounds.{Limited};
 ghost use Rattle.network_levels.specs.Finder.{Weighed, Infeasible, CycleAt};
 ghost use Rattle.network_border.specs.Codes.{code_of, PassTold};
 
+use network_pass::{NegativeCycle, Outcome};
+
 // The pass and the finder of negative cycles for the tests, numbers and slices only. All three ask something of their caller, so they are no part of the
 // library for other languages; what calls them from there tests it first.
 
 // How a pass ended, as a number: 0 where it finished, 1 where it stopped.
-fn code(outcome: network_pass::Outcome) -> usize
+fn code(outcome: Outcome) -> usize
     ensures { result ≡ code_of outcome }
 {
     match outcome {
-        network_pass::Outcome::Finished => 0,
-        network_pass::Outcome::Stopped => 1,
+        Ok(()) => 0,
+        Err(NegativeCycle) => 1,
     }
 }
 

@@ -4,7 +4,6 @@ ghost use Rattle.std.specs.Prelude.{◌+◌, ◌<◌, ◌≤◌, length};
 ghost use Rattle.slots.specs.Slots.{slot_end};
 ghost use Rattle.network_cuts.specs.Decider.{Modest, LeastSum, CutNetwork, Cuts, Sinking, AdmitsAt, Settling, Decides, Barred, LeastCutAt};
 
-use integers::{less, lesser};
 use slots::{Boundary, Slot};
 
 // What lowering a potential to the arcs of a cut comes to: it keeps them, it fell, or no potential keeps them.
@@ -22,7 +21,7 @@ fn least_sum(xs: &[i16], ys: &[i16]) -> i16
 {
     let mut r = xs[0] + ys[0];
     for i in 0..xs.len() {
-        r = lesser(r, xs[i] + ys[i]);
+        r = r.min(xs[i] + ys[i]);
     }
     r
 }
@@ -49,10 +48,10 @@ fn settle(
     let arcs = row + from;
     let arcs_end = row + to;
     let k = least_sum(&z[from..to], &m[arcs..arcs_end]);
-    if less(k, z[into]) {
+    if k < z[into] {
         network::relax_row(z, &d[row..end], k);
         let before = f.start().0;
-        if less(z[before], 0) {
+        if z[before] < 0 {
             return Settled::Lost;
         }
         return Settled::Lower;
@@ -114,7 +113,7 @@ pub fn admits(d: &[i16], m: &[i16], w: usize, f: Slot, v: Slot, l: Slot) -> bool
     let before = f.start().0;
     let row = before * w;
     let end = row + w;
-    network::copy_row(&d[row..end], &mut z);
+    lists::copy_list(&d[row..end], &mut z);
     sink(d, m, w, f, v, l, &mut z[..w])
 }
 

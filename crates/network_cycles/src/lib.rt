@@ -25,7 +25,7 @@ fn first_below(low: &[i16], high: &[i16]) -> usize
     let n = low.len();
     let mut v = 0;
     while v < n {
-        if integers::less(low[v], high[v]) {
+        if low[v] < high[v] {
             return v;
         }
         v += 1;
@@ -95,7 +95,7 @@ fn source_of(d: &[i16], w: usize, levels: &[i16], k: usize, v: usize) -> usize
     let mut u = 0;
     while u < w {
         let x = left_by(d, w, levels, above, u, v);
-        if integers::less(target, x) {} else {
+        if x <= target {
             return u;
         }
         u += 1;

@@ -24,7 +24,7 @@ fn make_level(d: &[i16], w: usize, prev: &[i16], row: &mut [i16])
     requires { (w ≤ max_boundaries) × (w * w ≤ length d.now) × (length prev.now ≡ w) × (length row.old ≡ w) × StepsFit w d.now prev.now }
     ensures { row.new ≡ list_of w (lower w (entry w d.now) (λ v. get_or prev.now v (pos 0))) }
 {
-    network::copy_row(prev, row);
+    row.copy_from_slice(prev);
     next_level(d, w, prev, row);
 }
 
@@ -35,7 +35,7 @@ fn add_level(d: &[i16], w: usize, k: usize, prev: &mut [i16], levels: &mut [i16]
 {
     let from = k * w;
     let to = from + w;
-    network::copy_row(&levels[from..to], prev);
+    lists::copy_list(&levels[from..to], prev);
     let end = to + w;
     make_level(d, w, &prev[..w], &mut levels[to..end]);
 }

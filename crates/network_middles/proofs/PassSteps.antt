@@ -17,6 +17,7 @@ use mir.Syntax.{w16}
 use mir.Val.{SFits}
 use borrow.Author.Tests.{lt-ltb, le-leb}
 use Rattle.integers.specs.Parts.{min_ℤ}
+use Rattle.std.specs.Prelude.{Ok, Err, is_err}
 use Rattle.lists.specs.Lists.{run, joined}
 use Rattle.lists.specs.Members.{and_left, and_right}
 use Rattle.lists.specs.Slices.{part_at, part_length, back, back_length}
@@ -28,11 +29,9 @@ use Rattle.network.proofs.TableLaws.{length_rows, rows_snoc, drop_middle}
 use Rattle.network.specs.RowStep.{relaxed_at, relaxed, falls_in, SumsFit}
 use Rattle.network.specs.Bounds.{Small}
 use Rattle.network.proofs.BoundLaws.{sum_fits}
-use Rattle.network_pass.specs.Pass.{Passed, finished, stopped, after_rows, pass_from, outcome_of, After, Ran}
+use Rattle.network_pass.specs.Pass.{Passed, finished, stopped, after_rows, pass_from, Outcome, outcome_of, After, Ran}
 use Rattle.network_pass.proofs.PassLaws.{pass_more}
 use Rattle.network_pass.specs.PassBounds.{StaysSmall}
-use Rattle.network_pass.specs.declared.Outcome.{Outcome}
-use Rattle.network_pass.specs.declared.Outcome.TheVariants.{Finished, Stopped}
 
 -- ---- the middle row, copied
 pub record MidIs (w m : ℕ) (t mid : List ℤ) : Type 0 where
@@ -64,18 +63,17 @@ pub record RowOver (w m a : ℕ) (t mid old : List ℤ) (am : ℤ) : Type 0 wher
   pub over : am ≡ entry w t a m
 
 -- ---- the stretches of one row
-pub record ColsInv (am : ℤ) (mid old : List ℤ) (w a : ℕ) (outcome : Outcome) (row : List ℤ) (b : ℕ) : Type 0 where
+pub record ColsInv (am : ℤ) (mid old : List ℤ) (w a : ℕ) (row : List ℤ) (b : ℕ) : Type 0 where
   pub at_most : b ≤ w
-  pub none : outcome ≡ Finished
   pub wide : length old ≡ w
   pub long : length row ≡ w
   pub form : Filled (relaxed_at am mid old) b old row
   pub fine : a < b → lt_z (relaxed_at am mid old a) (pos 0) ≡ false
 
-pub cols_start : {am : ℤ} {mid old : List ℤ} {w a : ℕ} {outcome : Outcome} → outcome ≡ Finished → length old ≡ w → ColsInv am mid old w a outcome old 0
-cols_start n l = record { at_most = omega arith; none = n; wide = l; long = l; form = refl; fine = λ h. absurd (omega arith) }
+pub cols_start : {am : ℤ} {mid old : List ℤ} {w a : ℕ} → length old ≡ w → ColsInv am mid old w a old 0
+cols_start l = record { at_most = omega arith; wide = l; long = l; form = refl; fine = λ h. absurd (omega arith) }
 
-module _ {am : ℤ} {mid old : List ℤ} {w a : ℕ} {outcome : Outcome} {row : List ℤ} {b : ℕ} (v : ColsInv am mid old w a outcome row b)
+module _ {am : ℤ} {mid old : List ℤ} {w a : ℕ} {row : List ℤ} {b : ℕ} (v : ColsInv am mid old w a row b)
     (e : ℕ) (hb : b < e) (he : e ≤ w) {ys : List ℤ} (ey : ys ≡ relaxed am (take (e - b) (drop b mid)) (take (e - b) (drop b row))) where
   fits : b + (e - b) ≤ length row
   fits = omega (arith, v.long)
@@ -105,10 +103,9 @@ module _ {am : ℤ} {mid old : List ℤ} {w a : ℕ} {outcome : Outcome} {row : 
 
   -- what the look at the diagonal tells, in the stretch that holds it and in the others
   module _ {r : Bool} (look : r ≡ falls_in b e a (back b (e - b) ys row)) where
-    pub cols_again : r ≡ false → ColsInv am mid old w a outcome (back b (e - b) ys row) e
+    pub cols_again : r ≡ false → ColsInv am mid old w a (back b (e - b) ys row) e
     cols_again f = record {
       at_most = he;
-      none = v.none;
       wide = v.wide;
       long = cols_long;
       form = stretch_form;
@@ -142,17 +139,16 @@ module _ {w m a : ℕ} {t mid old : List ℤ} {am : ℤ} (s : RowOver w m a t mi
   relaxed_is j h = ap₂ (λ (x y : ℤ). min_ℤ x (am +ℤ y)) (s.row.at j h) (s.middle.at j h)
       ∙ ap (λ (x : ℤ). min_ℤ (entry w t a j) (x +ℤ entry w t m j)) s.over
 
-  pub row_done : {outcome : Outcome} {row : List ℤ} {b : ℕ} → ColsInv am mid old w a outcome row b → w ≤ b → row ≡ new_row w m t a
-  row_done {outcome} {row} {b} i h = list_of_is (step m (entry w t) a) (pos 0) w row i.long
+  pub row_done : {row : List ℤ} {b : ℕ} → ColsInv am mid old w a row b → w ≤ b → row ≡ new_row w m t a
+  row_done {row} {b} i h = list_of_is (step m (entry w t) a) (pos 0) w row i.long
       (λ j l. filled_new (relaxed_at am mid old) b old row i.form j (pos 0) (omega arith) ∙ relaxed_is j l)
 
   pub row_low : (f : Bool) → lt_z (relaxed_at am mid old a) (pos 0) ≡ f → lt_z (step m (entry w t) a a) (pos 0) ≡ f
   row_low f q = ap (λ (x : ℤ). lt_z x (pos 0)) (sym (relaxed_is a s.inside)) ∙ q
 
 -- ---- the rows of one middle boundary
-pub record RowsInv (w m : ℕ) (t₁ : List ℤ) (outcome : Outcome) (t : List ℤ) (a : ℕ) : Type 0 where
+pub record RowsInv (w m : ℕ) (t₁ t : List ℤ) (a : ℕ) : Type 0 where
   pub at_most : a ≤ w
-  pub none : outcome ≡ Finished
   pub long : length t ≡ length t₁
   pub form : t ≡ joined (map (new_row w m t₁) (run 0 a)) ++ drop (a * w) t₁
   pub rest : (next : Passed) → after_rows w 0 w m t₁ next ≡ after_rows (w - a) a w m t₁ next
@@ -160,13 +156,13 @@ pub record RowsInv (w m : ℕ) (t₁ : List ℤ) (outcome : Outcome) (t : List �
 wide : (w m : ℕ) (t : List ℤ) (a : ℕ) → length (new_row w m t a) ≡ w
 wide w m t a = length_list_of (step m (entry w t) a) w
 
-pub rows_start : {w m : ℕ} {t : List ℤ} {outcome : Outcome} → outcome ≡ Finished → RowsInv w m t outcome t 0
-rows_start {w} {m} {t} n =
+pub rows_start : {w m : ℕ} {t : List ℤ} → RowsInv w m t t 0
+rows_start {w} {m} {t} =
     let z : 0 * w ≡ 0 = omega arith in
     let k : w ≡ w - 0 = omega arith in
-    record { at_most = omega arith; none = n; long = refl; form = rw z refl; rest = λ next. ap (λ (i : ℕ). after_rows i 0 w m t next) k }
+    record { at_most = omega arith; long = refl; form = rw z refl; rest = λ next. ap (λ (i : ℕ). after_rows i 0 w m t next) k }
 
-module _ {w m : ℕ} {t₁ t : List ℤ} {outcome : Outcome} {a : ℕ} (v : RowsInv w m t₁ outcome t a) where
+module _ {w m : ℕ} {t₁ t : List ℤ} {a : ℕ} (v : RowsInv w m t₁ t a) where
   done_long : length (joined (map (new_row w m t₁) (run 0 a))) ≡ a * w
   done_long = length_rows w (new_row w m t₁) (wide w m t₁) 0 a
 
@@ -193,16 +189,15 @@ module _ {w m : ℕ} {t₁ t : List ℤ} {outcome : Outcome} {a : ℕ} (v : Rows
     pub rows_low : lt_z (step m (entry w t₁) a a) (pos 0) ≡ true → (next : Passed) → after_rows w 0 w m t₁ next ≡ stopped
     rows_low l next = next_row next ∙ (rw l refl)
 
-    pub rows_again : {next-outcome : Outcome} (k : ℕ) {ys : List ℤ} → next-outcome ≡ Finished → k ≡ w → a * w + k ≤ length t
-        → ys ≡ new_row w m t₁ a → lt_z (step m (entry w t₁) a a) (pos 0) ≡ false → RowsInv w m t₁ next-outcome (back (a * w) k ys t) (a + 1)
-    rows_again k {ys} n e fits y l =
+    pub rows_again : (k : ℕ) {ys : List ℤ} → k ≡ w → a * w + k ≤ length t
+        → ys ≡ new_row w m t₁ a → lt_z (step m (entry w t₁) a a) (pos 0) ≡ false → RowsInv w m t₁ (back (a * w) k ys t) (a + 1)
+    rows_again k {ys} e fits y l =
         let long : length ys ≡ k = ap length y ∙ wide w m t₁ a ∙ sym e in
         let i : a * w + k ≡ (a + 1) * w = omega arith in
         let z : 0 + a ≡ a = omega arith in
         let xs = joined (map (new_row w m t₁) (run 0 a)) in
         record {
           at_most = omega arith;
-          none = n;
           long = back_length (a * w) k ys t fits long ∙ v.long;
           form = front_part xs (a * w) done_long t₁ t v.form k ys
               ∙ ap (λ (n : ℕ). (xs ++ ys) ++ drop n t₁) i
@@ -225,25 +220,23 @@ module _ {w m : ℕ} {t₁ t : List ℤ} {outcome : Outcome} {a : ℕ} (v : Rows
     rows_on next = let z : w - a ≡ 0 = omega arith in v.rest next ∙ ap (λ (i : ℕ). after_rows i a w m t₁ next) z
 
 -- ---- the middle boundaries
-pub record PassInv (t₀ : List ℤ) (w from to : ℕ) (t : List ℤ) (outcome : Outcome) (mid : List ℤ) (m : ℕ) : Type 0 where
+pub record PassInv (t₀ : List ℤ) (w from to : ℕ) (t mid : List ℤ) (m : ℕ) : Type 0 where
   pub at_least : from ≤ m
   pub at_most : m ≤ to
-  pub none : outcome ≡ Finished
   pub room : length mid ≡ max_boundaries
   pub long : length t ≡ length t₀
   pub past : drop (w * w) t ≡ drop (w * w) t₀
   pub reached : pass_from (m - from) from w t₀ ≡ finished t
   pub rest : pass_from (to - from) from w t₀ ≡ pass_from (to - m) m w t
 
-pub pass_start : {t₀ : List ℤ} {w from to : ℕ} {outcome : Outcome} {mid : List ℤ} → from ≤ to → outcome ≡ Finished → length mid ≡ max_boundaries
-    → PassInv t₀ w from to t₀ outcome mid from
+pub pass_start : {t₀ : List ℤ} {w from to : ℕ} {mid : List ℤ} → from ≤ to → length mid ≡ max_boundaries
+    → PassInv t₀ w from to t₀ mid from
 unfolding pass_from
-pass_start {t₀} {w} {from} h n l =
+pass_start {t₀} {w} {from} h l =
     let z : from - from ≡ 0 = omega arith in
     record {
       at_least = omega arith;
       at_most = h;
-      none = n;
       room = l;
       long = refl;
       past = refl;
@@ -251,7 +244,7 @@ pass_start {t₀} {w} {from} h n l =
       rest = refl;
     }
 
-module _ {t₀ t₁ : List ℤ} {w from to : ℕ} {outcome₁ : Outcome} {mid₁ : List ℤ} {m : ℕ} (p : PassInv t₀ w from to t₁ outcome₁ mid₁ m) where
+module _ {t₀ t₁ : List ℤ} {w from to : ℕ} {mid₁ : List ℤ} {m : ℕ} (p : PassInv t₀ w from to t₁ mid₁ m) where
   next_middle : m < to → pass_from (to - from) from w t₀ ≡ after_rows w 0 w m t₁ (pass_from (to - (m + 1)) (suc m) w (middle w m t₁))
   unfolding pass_from
   next_middle h = let k : to - m ≡ suc (to - (m + 1)) = omega arith in p.rest ∙ ap (λ (i : ℕ). pass_from i m w t₁) k
@@ -260,12 +253,11 @@ module _ {t₀ t₁ : List ℤ} {w from to : ℕ} {outcome₁ : Outcome} {mid₁
   pub begins_small : m < to → StaysSmall w from (to - from) t₀ → Small w t₁
   begins_small h S = S (m - from) t₁ (omega (arith, p.at_least)) p.reached
 
-  pub middle_again : m < to → {t : List ℤ} {outcome : Outcome} {a : ℕ} → RowsInv w m t₁ outcome t a → w ≤ a → {mid : List ℤ} → length mid ≡ max_boundaries
-      → PassInv t₀ w from to t outcome mid (m + 1)
+  pub middle_again : m < to → {t : List ℤ} {a : ℕ} → RowsInv w m t₁ t a → w ≤ a → {mid : List ℤ} → length mid ≡ max_boundaries
+      → PassInv t₀ w from to t mid (m + 1)
   middle_again h {t} v ha l = record {
     at_least = omega (arith, p.at_least);
     at_most = omega arith;
-    none = v.none;
     room = l;
     long = v.long ∙ p.long;
     past = ap (drop (w * w)) (rows_done v ha) ∙ drop_middle w m t₁ ∙ p.past;
@@ -280,13 +272,13 @@ module _ {t₀ t₁ : List ℤ} {w from to : ℕ} {outcome₁ : Outcome} {mid₁
         ∙ ap (λ (n : ℕ). pass_from (to - (m + 1)) n w t) (sym (add-one m));
   }
 
-  pub pass_ended : to ≤ m → Ran w t₀ (pass_from (to - from) from w t₀) outcome₁ t₁
+  pub pass_ended : to ≤ m → Ran w t₀ (pass_from (to - from) from w t₀) (Ok tt) t₁
   unfolding pass_from
   pass_ended h =
       let k : to - m ≡ 0 = omega (arith, p.at_most) in
       let e : pass_from (to - from) from w t₀ ≡ finished t₁ = p.rest ∙ ap (λ (i : ℕ). pass_from i m w t₁) k in
       record {
-        outcome = p.none ∙ sym (ap outcome_of e);
+        outcome = sym (ap outcome_of e);
         table = λ x q. let r : finished t₁ ≡ finished x = sym e ∙ q in cc;
         long = p.long;
         past = p.past;
@@ -294,7 +286,7 @@ module _ {t₀ t₁ : List ℤ} {w from to : ℕ} {outcome₁ : Outcome} {mid₁
 
   -- the pass stops at a row, with the table half done
   pub pass_left : m < to → (u : List ℤ) → ((next : Passed) → after_rows w 0 w m t₁ next ≡ stopped)
-      → length u ≡ length t₁ → drop (w * w) u ≡ drop (w * w) t₁ → Ran w t₀ (pass_from (to - from) from w t₀) Stopped u
+      → length u ≡ length t₁ → drop (w * w) u ≡ drop (w * w) t₁ → Ran w t₀ (pass_from (to - from) from w t₀) (Err (record {})) u
   pass_left h u e l q =
       let g = next_middle h ∙ e (pass_from (to - (m + 1)) (suc m) w (middle w m t₁)) in
       record {
@@ -305,11 +297,11 @@ module _ {t₀ t₁ : List ℤ} {w from to : ℕ} {outcome₁ : Outcome} {mid₁
       }
 
 -- ---- what the caller finds: the table of a pass that finished, and zeros otherwise
-pub after_finished : {w : ℕ} {t : List ℤ} {p : Passed} {r : Outcome} {u : List ℤ} → Ran w t p r u → r ≡ Finished → After w t p r u
+pub after_finished : {w : ℕ} {t : List ℤ} {p : Passed} {r : Outcome} {u : List ℤ} → Ran w t p r u → is_err r ≡ false → After w t p r u
 after_finished {p = finished x} v e = record { outcome = v.outcome; table = v.table x refl }
-after_finished {p = stopped} v e = let o = v.outcome in let z : ◌≡◌ {A = ℕ} 0 1 = cc in let f : ⊥ = omega arith in absurd f
+after_finished {p = stopped} v e = let o = v.outcome in let z : is_err (outcome_of stopped) ≡ false = cc in absurd (cc)
 
-pub after_cleared : {w : ℕ} {t : List ℤ} {p : Passed} {r : Outcome} {u x : List ℤ} → Ran w t p r u → (r ≡ Finished → ⊥)
+pub after_cleared : {w : ℕ} {t : List ℤ} {p : Passed} {r : Outcome} {u x : List ℤ} → Ran w t p r u → is_err r ≡ true
     → x ≡ cleared (w * w) u → After w t p r x
-after_cleared {p = finished y} v other e = absurd (other v.outcome)
-after_cleared {w} {p = stopped} v other e = record { outcome = v.outcome; table = e ∙ ap (λ (l : List ℤ). replicate (w * w) (pos 0) ++ l) v.past }
+after_cleared {p = finished y} v e q = let o = v.outcome in let z : is_err (outcome_of (finished y)) ≡ true = cc in absurd (cc)
+after_cleared {w} {p = stopped} v e q = record { outcome = v.outcome; table = q ∙ ap (λ (l : List ℤ). replicate (w * w) (pos 0) ++ l) v.past }

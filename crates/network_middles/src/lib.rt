@@ -6,16 +6,15 @@ ghost use Rattle.network_pass.specs.Pass.{pass_from, Ran, After};
 ghost use Rattle.network_pass.specs.PassBounds.{StaysSmall};
 
 use network::{MAX_BOUNDARIES, STRETCH, clear, falls, load_row, relax_row, stretch_end, stretches};
-use network_pass::Outcome;
+use network_pass::{NegativeCycle, Outcome};
 
 // The middle boundaries from..to, until a diagonal entry falls below 0. The table is then left half done.
 fn run_middles(t: &mut [i16], w: usize, from: usize, to: usize) -> Outcome
     requires { (0 < w) × (w ≤ max_boundaries) × (w * w ≤ length t.old) × (from ≤ to) × (to ≤ w) × StaysSmall w from (to - from) t.old }
     ensures { Ran w t.old (pass_from (to - from) from w t.old) result t.new }
 {
-    let mut outcome = Outcome::Finished;
     let mut mid = [0i16; MAX_BOUNDARIES];
-    'pass: for m in from..to {
+    for m in from..to {
         load_row(t, m, w, &mut mid);
         for a in 0..w {
             let start = a * w;
@@ -28,13 +27,12 @@ fn run_middles(t: &mut [i16], w: usize, from: usize, to: usize) -> Outcome
                 let e = stretch_end(b, w);
                 relax_row(&mut row[b..e], &mid[b..e], am);
                 if falls(row, a, b, e) {
-                    outcome = Outcome::Stopped;
-                    break 'pass;
+                    return Err(NegativeCycle);
                 }
             }
         }
     }
-    outcome
+    Ok(())
 }
 
 // The compiler reads no contracts. This tells it how many boundaries there are at most, and so that a row's second stretch is its last.
@@ -55,9 +53,8 @@ pub fn pass_middles(t: &mut [i16], w: usize, from: usize, to: usize) -> Outcome
     ensures { After w t.old (pass_from (to - from) from w t.old) result t.new }
 {
     let outcome = run_middles(t, capped(w), from, to);
-    match outcome {
-        Outcome::Finished => {}
-        Outcome::Stopped => clear(w * w, t),
+    if outcome.is_err() {
+        clear(w * w, t);
     }
     outcome
 }

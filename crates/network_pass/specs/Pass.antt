@@ -1,10 +1,9 @@
 -- The pass over the table of a network, and what it leaves. Definitions only.
-use Rattle.std.specs.Prelude.{◌≡◌, cond, List, ℕ, zero, suc, ◌*◌, length, drop, ℤ, pos}
+use Rattle.std.specs.Prelude.{◌≡◌, cond, List, ℕ, zero, suc, ◌*◌, length, drop, ℤ, pos, Result, Ok, Err}
 use Rattle.std.specs.Int.Signed.{lt_z}
 use Rattle.network.specs.Closure.{step}
 use Rattle.network.specs.Table.{entry, middle, cleared}
-use Rattle.network_pass.specs.declared.Outcome.{Outcome}
-use Rattle.network_pass.specs.declared.Outcome.TheVariants.{Finished, Stopped}
+use Rattle.network_pass.specs.declared.NegativeCycle.{NegativeCycle}
 
 -- how a pass ends: with its table, or at a diagonal entry below 0
 pub data Passed : Type 0 where
@@ -26,9 +25,12 @@ abbrev pub pass_of : ℕ → List ℤ → Passed
 pass_of w t = pass_from w 0 w t
 
 -- the answer of a pass, and the table that it leaves where t was lent: zeros where it did not finish
+abbrev pub Outcome : Type 0
+Outcome = Result (Unit {0}) NegativeCycle
+
 abbrev pub outcome_of : Passed → Outcome
-outcome_of (finished t) = Finished
-outcome_of stopped = Stopped
+outcome_of (finished t) = Ok tt
+outcome_of stopped = Err (record {})
 
 abbrev pub table_after : ℕ → List ℤ → Passed → List ℤ
 table_after w t (finished u) = u
