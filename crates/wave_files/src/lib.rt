@@ -2,7 +2,7 @@
 // system gives.
 #![tactic(auto)]
 
-ghost use Rattle.std.specs.Prelude.{◌<◌, ◌≤◌, length, take, OnOk};
+ghost use Rattle.std.specs.Prelude.{◌<◌, ◌≤◌, length, take, IfOk, IfSome, OnOk};
 ghost use Rattle.std.specs.Io.KnownBytes.{Consumes, IsAtEnd};
 
 use std::env::FillError;
@@ -17,13 +17,6 @@ const PATH_MAX: usize = 4096;
 
 // Longer than any text of an error.
 const MAX_WHY: usize = 320;
-
-// How many bytes were read, and whether a read failed on the way.
-#[derive(Clone, Copy)]
-pub struct Input {
-    pub length: usize,
-    pub failed: bool,
-}
 
 // On standard error. Where that takes no more, nobody can be told.
 pub fn say(rt: &HostRuntime, words: &[u8]) {
@@ -49,6 +42,7 @@ pub fn say_why(rt: &HostRuntime, what: &[u8], why: &io::Error) {
 
 // Reads until the input ends or the buffer is full, or a read fails: how many bytes were read, and why no more. They are the next ones of a reader whose bytes are
 // known, and all of them where there is room for more. A read may be short, as of a pipe or a terminal.
+// stays: the number beside the `Result`; the contract says which bytes a reader gave before it failed, too.
 fn read_all<R: Read>(file: &mut R, buffer: &mut [u8]) -> (usize, io::Result<()>)
     ensures within { result.0 ≤ length buffer.new }
     ensures bytes { Consumes (R.remaining file.old) (R.remaining file.new) (take result.0 buffer.new) }
@@ -65,25 +59,26 @@ fn read_all<R: Read>(file: &mut R, buffer: &mut [u8]) -> (usize, io::Result<()>)
     (done, Ok(()))
 }
 
-// Standard input, and a word where it cannot be read.
-pub fn read_stdin(rt: &HostRuntime, buffer: &mut [u8]) -> Input
-    ensures { result.length ≤ length buffer.new }
+// How many bytes were read, where no read failed on the way.
+fn read_whole<R: Read>(file: &mut R, buffer: &mut [u8]) -> io::Result<usize>
+    ensures { IfOk result (λ n. n ≤ length buffer.new) }
 {
-    let mut stdin = rt.stdin();
-    let (length, end) = read_all(&mut stdin, buffer);
-    if let Err(why) = &end {
-        say_why(rt, b"read", why);
-    }
-    Input {
-        length,
-        failed: end.is_err(),
-    }
+    let (length, end) = read_all(file, buffer);
+    end?;
+    Ok(length)
 }
 
-// The word before the system's own, which says why.
-fn say_unread(rt: &HostRuntime, name: &[u8], why: &io::Error) {
-    say(rt, b"wave: cannot read ");
-    say_why(rt, name, why);
+// Standard input, by how many bytes were read; a word, and nothing, where it cannot be read.
+pub fn read_stdin(rt: &HostRuntime, buffer: &mut [u8]) -> Option<usize>
+    ensures { IfSome result (λ n. n ≤ length buffer.new) }
+{
+    match read_whole(&mut rt.stdin(), buffer) {
+        Ok(length) => Some(length),
+        Err(why) => {
+            say_why(rt, b"read", &why);
+            None
+        }
+    }
 }
 
 // A name is text to std, so no file is opened by one that is not UTF-8.
@@ -94,37 +89,36 @@ fn open_read(rt: &HostRuntime, name: &[u8]) -> io::Result<File> {
     }
 }
 
-// The file of this name, and a word where it cannot be opened or read, as where it is a folder.
-fn read_file(rt: &HostRuntime, name: &[u8], buffer: &mut [u8]) -> Input
-    ensures { result.length ≤ length buffer.new }
+// The file of this name, by how many bytes were read.
+fn read_file(rt: &HostRuntime, name: &[u8], buffer: &mut [u8]) -> io::Result<usize>
+    ensures { IfOk result (λ n. n ≤ length buffer.new) }
 {
-    let mut file = match open_read(rt, name) {
-        Ok(file) => file,
+    let mut file = open_read(rt, name)?;
+    read_whole(&mut file, buffer)
+}
+
+// The same, and a word, and nothing, where it cannot be opened or read, as where it is a folder.
+fn read_or_say(rt: &HostRuntime, name: &[u8], buffer: &mut [u8]) -> Option<usize>
+    ensures { IfSome result (λ n. n ≤ length buffer.new) }
+{
+    match read_file(rt, name, buffer) {
+        Ok(length) => Some(length),
         Err(why) => {
-            say_unread(rt, name, &why);
-            return Input {
-                length: 0,
-                failed: true,
-            };
+            // The word before the system's own, which says why.
+            say(rt, b"wave: cannot read ");
+            say_why(rt, name, &why);
+            None
         }
-    };
-    let (length, end) = read_all(&mut file, buffer);
-    if let Err(why) = &end {
-        say_unread(rt, name, why);
-    }
-    Input {
-        length,
-        failed: end.is_err(),
     }
 }
 
 // The file that the i-th word names. No file has a name as long as PATH_MAX, so a word that does not fit is none.
-fn read_named(rt: &HostRuntime, i: usize, buffer: &mut [u8]) -> Input
-    ensures { result.length ≤ length buffer.new }
+fn read_named(rt: &HostRuntime, i: usize, buffer: &mut [u8]) -> Option<usize>
+    ensures { IfSome result (λ n. n ≤ length buffer.new) }
 {
     let mut name = [0u8; PATH_MAX];
     match rt.arg(i, &mut name) {
-        Ok(n) => read_file(rt, &name[..n], buffer),
+        Ok(n) => read_or_say(rt, &name[..n], buffer),
         Err(why) => {
             say(
                 rt,
@@ -133,40 +127,24 @@ fn read_named(rt: &HostRuntime, i: usize, buffer: &mut [u8]) -> Input
                     FillError::TooLong => b"wave: cannot read a file: File name too long\n",
                 },
             );
-            Input {
-                length: 0,
-                failed: true,
-            }
+            None
         }
     }
 }
 
-// How many bytes were read of the first of two files and of the second, and whether one of them could not be read.
-#[derive(Clone, Copy)]
-pub struct Inputs {
-    pub first: usize,
-    pub second: usize,
-    pub failed: bool,
-}
-
-// The files that the i-th word and the j-th one name. Where the first cannot be read, the second is left alone.
-pub fn read_two(rt: &HostRuntime, i: usize, one: &mut [u8], j: usize, two: &mut [u8]) -> Inputs
-    ensures { (result.first ≤ length one.new) × (result.second ≤ length two.new) }
+// The files that the i-th word and the j-th one name, by how many bytes were read of each. Where the first cannot be read, the second is left alone.
+pub fn read_two(
+    rt: &HostRuntime,
+    i: usize,
+    one: &mut [u8],
+    j: usize,
+    two: &mut [u8],
+) -> Option<(usize, usize)>
+    ensures { IfSome result (λ n. (n.0 ≤ length one.new) × (n.1 ≤ length two.new)) }
 {
-    let first = read_named(rt, i, one);
-    if first.failed {
-        return Inputs {
-            first: 0,
-            second: 0,
-            failed: true,
-        };
-    }
-    let second = read_named(rt, j, two);
-    Inputs {
-        first: first.length,
-        second: second.length,
-        failed: second.failed,
-    }
+    let first = read_named(rt, i, one)?;
+    let second = read_named(rt, j, two)?;
+    Some((first, second))
 }
 
 // How many words the program was started with, its own name among them.
@@ -183,10 +161,7 @@ pub fn count_words(rt: &HostRuntime) -> usize {
 pub fn put_word(rt: &HostRuntime, i: usize, buffer: &mut [u8]) -> usize
     ensures { result ≤ length buffer.new }
 {
-    match rt.arg(i, buffer) {
-        Ok(n) => n,
-        Err(_) => 0,
-    }
+    rt.arg(i, buffer).unwrap_or(0)
 }
 
 // A word on standard error, and the i-th word of the program behind it.

@@ -1,5 +1,6 @@
 -- The number of a word, digit by digit.
 -- Key idea: a number that is past every loader number stays so with more digits behind it, so capping it at each digit is capping it once at the end.
+use Rattle.std.specs.Prelude.{Option, Some, None}
 use mathlib.Core.Path.{◌≡◌, refl, sym, ap, ◌∙◌}
 use mathlib.Core.Bool.{Bool, true, ◌&&◌, cond}
 use mathlib.Core.List.{List, [], ◌∷◌}
@@ -11,13 +12,11 @@ use lib.Seq.{drop-cons}
 use Rattle.lists.specs.Lists.{every}
 use Rattle.sheet.specs.Sizes.{max_loader}
 use Rattle.forms.specs.Form.{is_digit, value_from}
-use Rattle.wave_loader.specs.declared.Loader.{Loader}
-use Rattle.wave_loader.specs.declared.Loader.TheVariants.{Number, NoNumber}
 use Rattle.wave_loader.specs.Named.{capped, loader_named}
 
 -- what is named where these bytes follow on a number
-abbrev pub named_from : ℕ → List ℕ → Loader
-named_from v l = cond (every is_digit l) (Number (capped (value_from v l))) NoNumber
+abbrev pub named_from : ℕ → List ℕ → Option ℕ
+named_from v l = cond (every is_digit l) (Some (capped (value_from v l))) None
 
 capped_step : (v d : ℕ) → capped (capped v * 10 + d) ≡ capped (v * 10 + d)
 capped_step v d = omega arith
@@ -34,7 +33,7 @@ unfolding loader_named
 some_named [] h = absurd (h refl)
 some_named (b ∷ l) h = refl
 
-pub none_named : (word : List ℕ) → length word ≡ 0 → loader_named word ≡ NoNumber
+pub none_named : (word : List ℕ) → length word ≡ 0 → loader_named word ≡ None
 unfolding loader_named
 none_named [] h = refl
 none_named (b ∷ l) h = absurd (omega arith)
@@ -48,11 +47,11 @@ module _ (word : List ℕ) (v i : ℕ) (h : i < length word) where
       let b = get_or word i 0 in
       let rest = drop (suc i) word in
       rw (add-one i, e) (rw (drop-cons word i 0 h) (
-      ap (λ (t : Bool). cond (t && every is_digit rest) (Number (capped (value_from (v * 10 + (b - 48)) rest))) NoNumber) d
-      ∙ ap (λ n. cond (every is_digit rest) (Number n) NoNumber) (sym (capped_early (v * 10 + (b - 48)) rest))
+      ap (λ (t : Bool). cond (t && every is_digit rest) (Some (capped (value_from (v * 10 + (b - 48)) rest))) None) d
+      ∙ ap (λ n. cond (every is_digit rest) (Some n) None) (sym (capped_early (v * 10 + (b - 48)) rest))
       ))
 
 -- behind the last byte
-pub all_named : (word : List ℕ) (v i : ℕ) → length word ≤ i → v ≤ suc max_loader → named_from v (drop i word) ≡ Number v
+pub all_named : (word : List ℕ) (v i : ℕ) → length word ≤ i → v ≤ suc max_loader → named_from v (drop i word) ≡ Some v
 unfolding value_from
-all_named word v i h small = ap (named_from v) (drop_of_length-le word h) ∙ ap Number (omega arith)
+all_named word v i h small = ap (named_from v) (drop_of_length-le word h) ∙ ap Some (omega arith)

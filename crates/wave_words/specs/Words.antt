@@ -1,5 +1,5 @@
 -- The words that the program takes, and what each asks for. Definitions only.
-use Rattle.std.specs.Prelude.{◌≡◌, ◌⊎◌, List, [], ◌∷◌, ℕ}
+use Rattle.std.specs.Prelude.{◌≡◌, ◌⊎◌, List, [], ◌∷◌, ℕ, Option, Some, None}
 use Rattle.forms.specs.Words.{text}
 use Rattle.forms.specs.declared.House.TheVariants.{Ours, Partner}
 use Rattle.wave_words.specs.declared.Query.TheVariants.{Plan, Fits}
@@ -27,10 +27,10 @@ words =
 abbrev pub Calls : Word → List ℕ → ℕ → Type 0
 Calls w word more = (word ≡ w.bytes) × (more ≡ w.takes)
 
--- what the first of these that is the word asks for, and where none is, nothing that the program does
-abbrev pub FoundIn : List Word → Asked → List ℕ → ℕ → Type 0
-FoundIn [] asks word more = asks ≡ asked.Unknown
-FoundIn (w ∷ ws) asks word more = (Calls w word more × (asks ≡ w.asks)) ⊎ ((Calls w word more → ⊥) × FoundIn ws asks word more)
+-- what the first of these that is the word asks for, and where none is, nothing
+abbrev pub FoundIn : List Word → Option Asked → List ℕ → ℕ → Type 0
+FoundIn [] asks word more = asks ≡ None
+FoundIn (w ∷ ws) asks word more = (Calls w word more × (asks ≡ Some w.asks)) ⊎ ((Calls w word more → ⊥) × FoundIn ws asks word more)
 
-abbrev pub AsksFor : Asked → List ℕ → ℕ → Type 0
+abbrev pub AsksFor : Option Asked → List ℕ → ℕ → Type 0
 AsksFor asks word more = FoundIn words asks word more

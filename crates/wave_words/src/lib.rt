@@ -17,66 +17,47 @@ pub enum Query {
 }
 
 // What the words ask for: an answer to a sheet of a house, a sheet of one house in the form of another, two sheets as one, or the line of a unit of two
-// sheets; or that they are none that the program takes.
+// sheets.
 #[derive(Clone, Copy)]
 pub enum Asked {
     Answer(House, Query),
     Convert(House, House),
     Merge,
     Line,
-    Unknown,
-}
-
-fn same(a: &[u8], b: &[u8]) -> bool
-    ensures { T result ↔ (a.now ≡ b.now) }
-{
-    if a.len() != b.len() {
-        return false;
-    }
-    let mut i: usize = 0;
-    while i < a.len() {
-        if a[i] != b[i] {
-            return false;
-        }
-        i += 1;
-    }
-    true
 }
 
 // Whether the word is this one, with as many further words as it takes.
 fn called(word: &[u8], more: usize, name: &[u8], takes: usize) -> bool
     ensures { T result ↔ ((word.now ≡ name.now) × (more ≡ takes)) }
 {
-    if more != takes {
-        return false;
-    }
-    same(word, name)
+    word == name && more == takes
 }
 
-// What a word asks for that is followed by so many more.
-pub fn asked_by(word: &[u8], more: usize) -> Asked
+// What a word asks for that is followed by so many more; nothing where the program does not take them.
+// stays: an `if` for each word; a `match` on byte strings leaves more than sixty goals, one for each way past its arms.
+pub fn asked_by(word: &[u8], more: usize) -> Option<Asked>
     ensures { AsksFor result word.now more }
 {
     if called(word, more, b"plan", 0) {
-        return Asked::Answer(House::Ours, Query::Plan);
+        return Some(Asked::Answer(House::Ours, Query::Plan));
     }
     if called(word, more, b"fits", 0) {
-        return Asked::Answer(House::Ours, Query::Fits);
+        return Some(Asked::Answer(House::Ours, Query::Fits));
     }
     if called(word, more, b"partner", 0) {
-        return Asked::Answer(House::Partner, Query::Plan);
+        return Some(Asked::Answer(House::Partner, Query::Plan));
     }
     if called(word, more, b"from-partner", 0) {
-        return Asked::Convert(House::Partner, House::Ours);
+        return Some(Asked::Convert(House::Partner, House::Ours));
     }
     if called(word, more, b"to-partner", 0) {
-        return Asked::Convert(House::Ours, House::Partner);
+        return Some(Asked::Convert(House::Ours, House::Partner));
     }
     if called(word, more, b"merge", 2) {
-        return Asked::Merge;
+        return Some(Asked::Merge);
     }
     if called(word, more, b"line", 3) {
-        return Asked::Line;
+        return Some(Asked::Line);
     }
-    Asked::Unknown
+    None
 }
