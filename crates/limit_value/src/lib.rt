@@ -5,6 +5,7 @@ ghost use Rattle.sheet.specs.Sizes.{max_count};
 ghost use Rattle.limit_value.specs.Tightened.{with_bound, with_high, with_low};
 
 // The limit of a step.
+// stays: a struct of one field, since its methods hand a tightened limit back by value, and a number would not say that it is a limit.
 #[derive(Clone, Copy)]
 pub struct Limit {
     pub value: i16,
@@ -15,9 +16,8 @@ impl Limit {
     fn with_bound(self, bound: i16) -> Limit
         ensures { result ≡ with_bound self bound }
     {
-        let v = self.value;
         Limit {
-            value: integers::lesser(v, bound),
+            value: self.value.min(bound),
         }
     }
 

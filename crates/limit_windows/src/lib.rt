@@ -14,11 +14,8 @@ pub fn exact_windows(first: &[u16], last: &[u16], w: usize, t: &mut [i16])
 {
     network::clear(w * w, t);
     // From the last unit to the first, as the list of windows is built.
-    let mut j = first.len();
-    while 0 < j {
-        j -= 1;
-        let at = back_place(first[j], last[j], w);
-        t[at] -= 1;
+    for (&first, &last) in first.iter().zip(last).rev() {
+        t[back_place(first, last, w)] -= 1;
     }
 }
 
@@ -32,9 +29,7 @@ pub fn windows_inside(first: &[u16], last: &[u16], w: usize, t: &mut [i16])
         let row = a * w;
         let mut sum: i16 = 0;
         // Right of the diagonal no window lies inside.
-        let mut b = a;
-        while 0 < b {
-            b -= 1;
+        for b in (0..a).rev() {
             let at = row + b;
             sum += t[at];
             t[at] = sum + t[at - w];

@@ -13,12 +13,15 @@ use sheet::Sheet;
 // How many chains there are: of 9,999 numbers no more than 40 share a remainder.
 pub const CHAINS: usize = 256;
 
+// stays: the list, how many of it count, and the two arrays of its chains are parameters of their own here and in `is_new` and `link`, since their callers
+// write the list while the chains grow.
 // Whether a number is among the first n of a list, by the chain that it belongs to.
 pub fn is_among(ks: &[u16], n: usize, heads: &[u16], nexts: &[u16], k: u16) -> bool
     requires { (n ≤ length ks.now) × (n ≤ length nexts.now) × Linked ks.now n heads.now nexts.now }
     ensures { result ≡ member k (take n ks.now) }
 {
     let mut p = heads[k as usize % CHAINS] as usize;
+    // stays: it follows links, and goes over no run of places.
     while 0 < p {
         if ks[p - 1] == k {
             return true;
@@ -33,13 +36,7 @@ pub fn is_new(ks: &[u16], n: usize, heads: &[u16], nexts: &[u16], k: u16) -> boo
     requires { (n ≤ length ks.now) × (n ≤ length nexts.now) × Linked ks.now n heads.now nexts.now }
     ensures { result ≡ is_new (take n ks.now) k }
 {
-    if is_among(ks, n, heads, nexts, k) {
-        return false;
-    }
-    if k < 1 {
-        return false;
-    }
-    k <= Sheet::MAX_LOADER
+    !is_among(ks, n, heads, nexts, k) && 1 <= k && k <= Sheet::MAX_LOADER
 }
 
 // The number at place n of a list is put in front of its chain.
@@ -60,15 +57,11 @@ pub fn all_new(ks: &[u16]) -> bool
 {
     let mut heads = [0u16; CHAINS];
     let mut nexts = [0u16; Sheet::MAX_UNITS];
-    let mut j: usize = 0;
-    while j < ks.len() {
-        let k = ks[j];
-        if is_new(ks, j, &heads, &nexts, k) {
-            link(k, j, &mut heads, &mut nexts);
-            j += 1;
-        } else {
+    for (j, &k) in ks.iter().enumerate() {
+        if !is_new(ks, j, &heads, &nexts, k) {
             return false;
         }
+        link(k, j, &mut heads, &mut nexts);
     }
     true
 }

@@ -12,31 +12,17 @@ ghost use Rattle.merge_rules.specs.Columns.{Columns, columns, rule_of, stretch_a
 
 use sheet::Sheet;
 
-fn larger(a: u16, b: u16) -> u16
-    ensures { result ≡ max a b }
-{
-    if a < b { b } else { a }
-}
-
-fn smaller(a: u16, b: u16) -> u16
-    ensures { result ≡ min a b }
-{
-    if b < a { b } else { a }
-}
-
 // The place of a stretch among the first n, or n.
 fn place_of(froms: &[u16], tos: &[u16], n: usize, f: u16, t: u16) -> usize
     requires { (n ≤ length froms.now) × (n ≤ length tos.now) }
     ensures { result ≡ first_place n (stretch_at froms.now tos.now f t) }
 {
-    let mut j = 0;
-    while j < n {
+    for j in 0..n {
         if froms[j] == f && tos[j] == t {
             return j;
         }
-        j += 1;
     }
-    j
+    n
 }
 
 // One rule more: it tightens the rule on its stretch, or stands behind the n that are there. Answers how many there are then.
@@ -58,8 +44,8 @@ fn add_rule(
 {
     let p = place_of(froms, tos, n, from, to);
     if p < n {
-        lows[p] = larger(lows[p], low);
-        highs[p] = smaller(highs[p], high);
+        lows[p] = lows[p].max(low);
+        highs[p] = highs[p].min(high);
         return n;
     }
     froms[n] = from;
@@ -105,14 +91,12 @@ pub fn combine(
 {
     let mut count: usize = 0;
     let mut past: usize = 0;
-    let mut i: usize = 0;
-    while i < from.len() {
+    for i in 0..from.len() {
         count = add_rule(
             from[i], to[i], low[i], high[i], count, froms, tos, lows, highs,
         );
-        i += 1;
         if count <= Sheet::MAX_RULES {
-            past = i;
+            past = i + 1;
         }
     }
     Combined {
@@ -126,14 +110,12 @@ pub fn first_crossed(low: &[u16], high: &[u16]) -> usize
     requires { length high.now ≡ length low.now }
     ensures { result ≡ first_place (length low.now) (λ j. ltb (get_or high.now j 0) (get_or low.now j 0)) }
 {
-    let mut j = 0;
-    while j < low.len() {
-        if high[j] < low[j] {
+    for (j, (&low, &high)) in low.iter().zip(high).enumerate() {
+        if high < low {
             return j;
         }
-        j += 1;
     }
-    j
+    low.len()
 }
 
 // The last place of a stretch, or how many places there are.
@@ -141,9 +123,7 @@ pub fn last_on(froms: &[u16], tos: &[u16], f: u16, t: u16) -> usize
     requires { length tos.now ≡ length froms.now }
     ensures { result ≡ last_passing (length froms.now) (stretch_at froms.now tos.now f t) }
 {
-    let mut n = froms.len();
-    while 0 < n {
-        n -= 1;
+    for n in (0..froms.len()).rev() {
         if froms[n] == f && tos[n] == t {
             return n;
         }

@@ -15,6 +15,7 @@ pub fn mirror(t: &[i16], w: usize, out: &mut [i16])
     requires { (w * w ≤ length t.now) × (w * w ≤ length out.old) }
     ensures { HasEntries w (mirrored (w - 1) (entry w t.now)) out.new }
 {
+    // stays: both loops count boundaries, of which places of two tables come; here and in `arcs`.
     for a in 0..w {
         let row = a * w;
         let column = w - 1 - a;

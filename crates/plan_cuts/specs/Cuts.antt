@@ -3,10 +3,10 @@ use Rattle.std.specs.Prelude.{◌≡◌, List, ℕ, ◌≤◌, ◌<◌, length, 
 use Rattle.network_cuts.specs.Decider.{AdmitsAt, Barred, LeastCutAt}
 use Rattle.plan_marks.specs.Marks.{slot}
 
--- r is the last place of the row that is marked, or 0
+-- r is the last place of the row that is marked
 pub record LastMark (row : List ℕ) (r : ℕ) : Type 0 where
-  pub inside : 0 < r → r < length row
-  pub marked : 0 < r → 0 < get_or row r 0
+  pub inside : r < length row
+  pub marked : 0 < get_or row r 0
   pub last : (j : ℕ) → r < j → get_or row j 0 ≡ 0
 
 -- x is an admitted cut of the window f..l

@@ -1,6 +1,6 @@
 #![tactic(auto)]
 
-ghost use Rattle.std.specs.Prelude.{◌≡◌, ◌*◌, ◌<◌, ◌≤◌, max, min, length};
+ghost use Rattle.std.specs.Prelude.{◌≡◌, ◌*◌, ◌<◌, ◌≤◌, ℕ, MatchOption, IfSome, length, get_or};
 ghost use Rattle.slots.specs.Slots.{slot_end};
 ghost use Rattle.network_cuts.specs.Decider.{CutNetwork};
 ghost use Rattle.plan_cuts.specs.Cuts.{LastMark, KnownRow, CommonCut, CutRow, Floor, KnownCuts, CutRows};
@@ -8,52 +8,35 @@ ghost use Rattle.plan_cuts.specs.Cuts.{LastMark, KnownRow, CommonCut, CutRow, Fl
 use network_cuts::{admits, least_cut};
 use slots::Slot;
 
-// The larger of a floor that is known and one that is kept in a list.
-fn larger(a: usize, b: u16) -> usize
-    ensures { result ≡ max a b }
+// The last place of the row that is marked.
+fn last_marked(row: &[u16]) -> Option<usize>
+    ensures { MatchOption result ((j : ℕ) → get_or row.now j 0 ≡ 0) (λ r. LastMark row.now r) }
 {
-    let c = b as usize;
-    if a < c { c } else { a }
-}
-
-fn smaller(a: usize, b: usize) -> usize
-    ensures { result ≡ min a b }
-{
-    if b < a { b } else { a }
-}
-
-// The last place of the row that is marked, or 0.
-fn last_marked(row: &[u16]) -> usize
-    ensures { LastMark row.now result }
-{
-    let mut n = row.len();
-    while 0 < n {
-        let last = n - 1;
-        if 0 < row[last] {
-            return last;
-        }
-        n = last;
-    }
-    0
+    row.iter().rposition(|&mark| 0 < mark)
 }
 
 // A cut of every marked window that reaches to it. What the longest window admits, the others that open with it do too, so one try mostly
-// serves the whole row; where it fails, the answer is w, which no window reaches.
-fn common_cut(d: &[i16], m: &[i16], w: usize, f: Slot, row: &[u16], floor: &[u16]) -> usize
+// serves the whole row. None where it fails, or where no window is marked.
+fn common_cut(
+    d: &[i16],
+    m: &[i16],
+    w: usize,
+    f: Slot,
+    row: &[u16],
+    floor: &[u16],
+) -> Option<usize>
     requires { CutNetwork w d.now m.now × (1 ≤ f.0) × (slot_end f.0 < w) × (length row.now ≡ w) × (w ≤ length floor.now)
         × KnownRow w d.now m.now f.0 row.now }
-    ensures { CommonCut w d.now m.now f.0 row.now result }
+    ensures { IfSome result (λ v. CommonCut w d.now m.now f.0 row.now v) }
 {
-    let l = last_marked(row);
-    let v = larger(f.0, floor[l]);
+    let l = last_marked(row)?;
+    let v = f.0.max(floor[l] as usize);
     let known = row[l] as usize;
-    if known <= v {
-        return v;
+    if known <= v || admits(d, m, w, f, Slot(v), Slot(l)) {
+        Some(v)
+    } else {
+        None
     }
-    if admits(d, m, w, f, Slot(v), Slot(l)) {
-        return v;
-    }
-    w
 }
 
 // The least cuts of the windows that open in f, in the order in which they close: what is barred for one is barred for the next, and for
@@ -64,14 +47,16 @@ fn cut_row(d: &[i16], m: &[i16], w: usize, f: Slot, row: &mut [u16], floor: &mut
     ensures cut_row { CutRow w d.now m.now f.0 w row.old row.new }
     ensures floor { Floor w d.now m.now f.0 floor.new }
 {
-    let common = common_cut(d, m, w, f, row, floor);
-    let first = f.0;
-    let mut low = first;
-    for l in first..w {
-        low = larger(low, floor[l]);
+    // No window reaches to w.
+    let common = common_cut(d, m, w, f, row, floor).unwrap_or(w);
+    let mut low = f.0;
+    // stays: each slot is a number that the tries are given, beside its places in the two lists.
+    for l in f.0..w {
+        low = low.max(floor[l] as usize);
         let known = row[l] as usize;
         if 0 < known {
-            low = least_cut(d, m, w, f, Slot(l), Slot(low), Slot(smaller(known, common))).0;
+            let most = known.min(common);
+            low = least_cut(d, m, w, f, Slot(l), Slot(low), Slot(most)).0;
             row[l] = low as u16;
         }
         floor[l] = low as u16;

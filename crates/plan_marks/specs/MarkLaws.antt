@@ -1,6 +1,6 @@
 -- Marks of windows, one unit at a time.
 -- Key idea: a place of the table is one pair of slots, so a store changes the mark of one window only.
-use Rattle.std.specs.Prelude.{◌≡◌, refl, Bool, true, false, List, ℕ, zero, suc, ◌+◌, ◌*◌, ◌≤◌, ◌<◌, length, get_or, set, replicate}
+use Rattle.std.specs.Prelude.{◌≡◌, refl, List, ℕ, zero, suc, ◌+◌, ◌*◌, ◌≤◌, ◌<◌, length, get_or, set, replicate}
 use Rattle.std.proofs.Common.{sym, ap, inl, inr, arith, mul-le-mul_right, get_or-set_same, get_or-set_other}
 use Rattle.std.proofs.Math.Logic.{⊎_map}
 use Rattle.std.proofs.Math.Decide.{ℕ_discrete}
@@ -8,6 +8,8 @@ use Rattle.network.specs.Table.{max_boundaries}
 use Rattle.network.proofs.TableLaws.{row_inside}
 use Rattle.sheet.specs.Sizes.{max_cells}
 use Rattle.limit_places.specs.LentTableLaws.{place_row, place_column}
+use Rattle.plan_marks.specs.declared.Side.{Side}
+use Rattle.plan_marks.specs.declared.Side.TheVariants.{Front, End}
 use Rattle.plan_marks.specs.Marks.{seen, seen_at, Units, Marked}
 
 -- a table of boundaries has room in the largest
@@ -21,35 +23,35 @@ zeros (suc n) zero = refl
 zeros (suc n) (suc i) = zeros n i
 
 -- ---- slots seen from the end
-pub seen_twice : (turned : Bool) (w x : ℕ) → x ≤ w → seen turned w (seen turned w x) ≡ x
-seen_twice false w x h = refl
-seen_twice true w x h = omega arith
+pub seen_twice : (side : Side) (w x : ℕ) → x ≤ w → seen side w (seen side w x) ≡ x
+seen_twice Front w x h = refl
+seen_twice End w x h = omega arith
 
-seen_below : (turned : Bool) (w x : ℕ) → 1 ≤ seen turned w x → seen turned w x < w → x ≤ w
-seen_below false w x h k = omega arith
-seen_below true w x h k = omega arith
+seen_below : (side : Side) (w x : ℕ) → 1 ≤ seen side w x → seen side w x < w → x ≤ w
+seen_below Front w x h k = omega arith
+seen_below End w x h k = omega arith
 
 -- a slot within the boundaries, seen from either end, is one
-pub seen_most : (turned : Bool) (w x : ℕ) → x ≤ w → seen turned w x ≤ w
-seen_most false w x h = h
-seen_most true w x h = omega arith
+pub seen_most : (side : Side) (w x : ℕ) → x ≤ w → seen side w x ≤ w
+seen_most Front w x h = h
+seen_most End w x h = omega arith
 
-module _ {turned : Bool} {w : ℕ} {opens closes plan : List ℕ} (units : Units turned w opens closes plan) where
+module _ {side : Side} {w : ℕ} {opens closes plan : List ℕ} (units : Units side w opens closes plan) where
   abbrev first : ℕ → ℕ
-  first = seen_at turned w opens
+  first = seen_at side w opens
 
   abbrev last : ℕ → ℕ
-  last = seen_at turned w closes
+  last = seen_at side w closes
 
   abbrev seat : ℕ → ℕ
-  seat = seen_at turned w plan
+  seat = seen_at side w plan
 
   pub slots_below : (j : ℕ) → j < length opens → (get_or opens j 0 ≤ w) × (get_or closes j 0 ≤ w) × (get_or plan j 0 ≤ w)
   slots_below j h =
       let u = units.inside j h in (
-        seen_below turned w (get_or opens j 0) (omega arith) (omega arith),
-        seen_below turned w (get_or closes j 0) (omega arith) (omega arith),
-        seen_below turned w (get_or plan j 0) (omega arith) (omega arith),
+        seen_below side w (get_or opens j 0) (omega arith) (omega arith),
+        seen_below side w (get_or closes j 0) (omega arith) (omega arith),
+        seen_below side w (get_or plan j 0) (omega arith) (omega arith),
       )
 
   pub place_inside : (j : ℕ) → j < length opens → first j * w + last j < w * w

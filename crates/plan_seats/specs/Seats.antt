@@ -1,5 +1,5 @@
 -- The lists that seating takes, as the sheet and the finished table that they come from, and what it leaves. Definitions only.
-use Rattle.std.specs.Prelude.{◌≡◌, Bool, List, ℕ, suc, ◌-◌, ◌≤◌, ◌<◌, length, get_or, replicate, ℤ, pos, ◌≤ℤ◌}
+use Rattle.std.specs.Prelude.{◌≡◌, Bool, Option, MatchOption, List, ℕ, suc, ◌-◌, ◌≤◌, ◌<◌, length, get_or, replicate, ℤ, pos, ◌≤ℤ◌}
 use Rattle.integers.specs.Parts.{up}
 use Rattle.slots.specs.Slots.{Slot, Boundary, slot_before}
 use Rattle.network.specs.Network.{Weights}
@@ -35,6 +35,10 @@ last_slot counts = slot_before (length counts - 1)
 -- the unit at a place of the order is free and open at slot s
 abbrev pub open_at : List ℕ → Slot → List ℕ → List ℕ → ℕ → Bool
 open_at first s order plan p = free_open (at plan) (at first) s (at order p)
+
+-- what a search finds: the first place that passes, p, or none where p is the end of the order
+abbrev pub FirstOpen : ℕ → ℕ → Option ℕ → Type 0
+FirstOpen end p found = MatchOption found (p ≡ end) (λ r. (r < end) × (r ≡ p))
 
 -- all slots take their units in order, in a plan where some may have seats already
 abbrev pub seats_into : List ℕ → List ℤ → List ℕ → List ℕ → List ℕ

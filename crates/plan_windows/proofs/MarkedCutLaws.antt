@@ -3,7 +3,6 @@
 -- unit with this window.
 use mathlib.Core.Path.{sym, subst}
 use mathlib.Core.Logic.{⊎_elim}
-use mathlib.Core.Bool.{Bool}
 use mathlib.Core.List.{List}
 use Prim.Native.Nat.{ℕ, ◌<◌}
 use native.Mathlib.Omega.{arith}
@@ -11,22 +10,23 @@ use lib.ListN.{length}
 use lib.IntN.{ℤ}
 use Rattle.lists.specs.Values.{Filled}
 use Rattle.network_cuts.specs.Decider.{LeastCutAt}
+use Rattle.plan_marks.specs.declared.Side.{Side}
 use Rattle.plan_marks.specs.Marks.{slot, seen, seen_at, Units, Marked, Reads}
 use Rattle.plan_marks.specs.MarkLaws.{seen_twice, slots_below}
 use Rattle.plan_cuts.specs.Cuts.{KnownCut, KnownCuts, CutRows}
 use Rattle.plan_windows.specs.Windows.{Admitted, LeastCuts}
 
-module _ {turned : Bool} {w : ℕ} {opens closes plan : List ℕ} (units : Units turned w opens closes plan) where
+module _ {side : Side} {w : ℕ} {opens closes plan : List ℕ} (units : Units side w opens closes plan) where
   abbrev first : ℕ → ℕ
-  first = seen_at turned w opens
+  first = seen_at side w opens
 
   abbrev last : ℕ → ℕ
-  last = seen_at turned w closes
+  last = seen_at side w closes
 
   abbrev seat : ℕ → ℕ
-  seat = seen_at turned w plan
+  seat = seen_at side w plan
 
-  module _ (d m : List ℤ) (admitted : Admitted turned w d m opens closes plan) {marks : List ℕ}
+  module _ (d m : List ℤ) (admitted : Admitted side w d m opens closes plan) {marks : List ℕ}
       (marked : Marked (length opens) w first last seat marks) where
     pub marks_known : KnownCuts w d m marks
     marks_known f l hf hl p = ⊎_elim (λ z. absurd (omega arith)) (λ x.
@@ -41,18 +41,18 @@ module _ {turned : Bool} {w : ℕ} {opens closes plan : List ℕ} (units : Units
       least : (j : ℕ) → j < length opens → LeastCutAt w d m (first j) (last j) (slot w marks' (first j) (last j))
       least j h = let u = units.inside j h in (cut (first j) (last j) (omega arith) (omega arith)).1 (marked.found j h)
 
-      pub cuts_read : (j : ℕ) → j < length opens → Reads turned w opens closes marks' j
+      pub cuts_read : (j : ℕ) → j < length opens → Reads side w opens closes marks' j
       cuts_read j h =
           let u = units.inside j h in
           let b = slots_below units j h in
           let i = (least j h).inside in
           record { raw = (b.0, b.1); window = (omega arith, omega arith); mark = omega arith }
 
-      pub cuts_least : (out out' : List ℕ) → Filled (λ j. seen turned w (slot w marks' (first j) (last j))) (length opens) out out'
-          → LeastCuts turned w d m opens closes out out'
+      pub cuts_least : (out out' : List ℕ) → Filled (λ j. seen side w (slot w marks' (first j) (last j))) (length opens) out out'
+          → LeastCuts side w d m opens closes out out'
       cuts_least out out' f = record {
-        value = λ j. seen turned w (slot w marks' (first j) (last j));
+        value = λ j. seen side w (slot w marks' (first j) (last j));
         each = λ j h. subst (λ (y : ℕ). LeastCutAt w d m (first j) (last j) y)
-            (sym (seen_twice turned w (slot w marks' (first j) (last j)) (cuts_read j h).mark)) (least j h);
+            (sym (seen_twice side w (slot w marks' (first j) (last j)) (cuts_read j h).mark)) (least j h);
         filled = f;
       }

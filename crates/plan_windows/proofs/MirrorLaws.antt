@@ -2,7 +2,6 @@
 -- Key idea: z is feasible for D exactly when -z, read backwards, is feasible for the mirrored D, and an arc from a to b is one from top - b to top - a.
 -- So cutting a window from below is cutting the mirrored window from above, with slot x read as w - x.
 use mathlib.Core.Path.{◌≡◌, sym, ap₂, ◌∙◌, subst}
-use mathlib.Core.Bool.{true, false}
 use mathlib.Core.List.{List}
 use Prim.Native.Nat.{ℕ, suc, ◌+◌, ◌-◌, ◌*◌, ◌≤◌}
 use native.Mathlib.Omega.{arith}
@@ -16,6 +15,7 @@ use Rattle.network.specs.Bounds.{max_weight}
 use Rattle.network_cuts.specs.Cut.{Admits, LeastCut}
 use Rattle.network_cuts.specs.Sink.{Closed}
 use Rattle.network_cuts.specs.Decider.{into, CutNetwork}
+use Rattle.plan_marks.specs.declared.Side.TheVariants.{Front, End}
 use Rattle.plan_marks.specs.Marks.{Units}
 use Rattle.plan_arcs.specs.Arcs.{mirrored, HasEntries}
 use Rattle.plan_windows.specs.Windows.{Admitted, LeastCuts, AdmittedLate, GreatestCuts}
@@ -100,13 +100,13 @@ module _ (w : ℕ) (d m d' m' : List ℤ) (net : CutNetwork w d m) (size : w * w
     small = λ a b ha hb. subst (Within (max_weight + 1)) (sym (em a b ha hb)) (net.small (w - 1 - b) (w - 1 - a) (omega arith) (omega arith));
   }
 
-  module _ (first last plan : List ℕ) (units : Units false w first last plan) where
-    pub late_turned : AdmittedLate w d m first last plan → Admitted true w d' m' last first plan
+  module _ (first last plan : List ℕ) (units : Units Front w first last plan) where
+    pub late_turned : AdmittedLate w d m first last plan → Admitted End w d' m' last first plan
     late_turned a j h = admits_agree (w - 1) (mirrored (w - 1) (entry w d)) (mirrored (w - 1) (into w m)) (entry w d') (into w m')
         (λ a b ha hb. sym (table_mirrored a b ha hb)) (λ a b ha hb. sym (arcs_mirrored a b ha hb)) (w - get_or last j 0) (w - get_or first j 0)
         (omega arith) (omega arith) (w - get_or plan j 0) (a j (omega (arith, units.paired)))
 
-    pub turned_greatest : (out out' : List ℕ) → LeastCuts true w d' m' last first out out' → GreatestCuts w d m first last out out'
+    pub turned_greatest : (out out' : List ℕ) → LeastCuts End w d' m' last first out out' → GreatestCuts w d m first last out out'
     turned_greatest out out' c = record {
       value = c.value;
       each = λ j h. least_agree (w - 1) (entry w d') (into w m') (mirrored (w - 1) (entry w d)) (mirrored (w - 1) (into w m)) table_mirrored arcs_mirrored
@@ -115,7 +115,7 @@ module _ (w : ℕ) (d m d' m' : List ℤ) (net : CutNetwork w d m) (size : w * w
     }
 
 -- windows and slots seen from the end
-pub turned_units : (w : ℕ) (first last plan : List ℕ) → Units false w first last plan → Units true w last first plan
+pub turned_units : (w : ℕ) (first last plan : List ℕ) → Units Front w first last plan → Units End w last first plan
 turned_units w first last plan u = record {
   paired = sym u.paired;
   seats = omega (arith, u.paired, u.seats);

@@ -2,7 +2,6 @@
 -- Key idea: entries of a finished table are counts, so they are within the number of units of 0; the arcs are the windows inside, one more counted.
 use mathlib.Core.Path.{◌≡◌, sym, ap, ◌∙◌, subst}
 use mathlib.Core.Logic.{⊎_elim}
-use mathlib.Core.Bool.{false}
 use mathlib.Core.List.{List, ◌++◌}
 use Prim.Native.Nat.{ℕ, suc, ◌+◌, ◌-◌, ◌*◌, ◌≤◌, ◌<◌}
 use native.Mathlib.Omega.{arith}
@@ -32,6 +31,7 @@ use Rattle.plan_arcs.proofs.ArcLaws.{less_arc, less_other, inside_within}
 use Rattle.plan_windows.specs.CutSheet.{added_arc}
 use Rattle.network_cuts.specs.Sink.{Closed}
 use Rattle.network_cuts.specs.Decider.{into, CutNetwork}
+use Rattle.plan_marks.specs.declared.Side.TheVariants.{Front}
 use Rattle.plan_marks.specs.Marks.{Units}
 use Rattle.plan_windows.specs.Windows.{Admitted, LeastCuts, AdmittedLate, GreatestCuts}
 use Rattle.plan_windows.specs.Narrowing.{Narrowable, earliest_room, latest_room}
@@ -84,7 +84,7 @@ module _ {s : Sheet} {first last plan : List ℕ} {table : List ℤ} {w : ℕ} (
       let u = subst (λ (x : Window). (x.first ≤ get_or (take n plan) j 0) × (get_or (take n plan) j 0 ≤ x.last)) (window j l) i in
       omega (arith, u, slot_at j l)
 
-  pub units_of_lem : Units false w first last plan
+  pub units_of_lem : Units Front w first last plan
   units_of_lem = record {
     paired = h.paired;
     seats = omega (arith, size, length-take n plan);
@@ -151,11 +151,11 @@ module _ {s : Sheet} {first last plan : List ℕ} {table : List ℤ} {w : ℕ} (
     }
 
     -- ---- earliest slots
-    pub admitted_of : Admitted false w table m first last plan
+    pub admitted_of : Admitted Front w table m first last plan
     admitted_of j l = rw (window j l, tops) at (plan_admits s (entry w table) (into w m) h.solved arcs_of j (omega (arith, count)) (take n plan)
         h.lawfully (get_or plan j 0) (omega (arith, slot_at j l)) (rw (window j l) (seated j l).1))
 
-    earliest_at : (out out' : List ℕ) (c : LeastCuts false w table m first last out out') (j : ℕ) → j < n → c.value j ≡ earliest s j
+    earliest_at : (out out' : List ℕ) (c : LeastCuts Front w table m first last out out') (j : ℕ) → j < n → c.value j ≡ earliest s j
     earliest_at out out' c j l =
         sym (earliest_is s (entry w table) (into w m) h.solved arcs_of j (omega (arith, count)) (take n plan) h.lawfully (c.value j)
         (rw (window j l, tops) (c.each j l)))
@@ -172,7 +172,7 @@ module _ {s : Sheet} {first last plan : List ℕ} {table : List ℤ} {w : ℕ} (
         omega (arith, e, (c.each j l).inside, windows j l, h.boundaries)
 
     -- ---- the rooms
-    pub earliest_room_lem : (out out' : List ℕ) → LeastCuts false w table m first last out out' → out' ≡ earliest_room s out
+    pub earliest_room_lem : (out out' : List ℕ) → LeastCuts Front w table m first last out out' → out' ≡ earliest_room s out
     unfolding earliest_slots
     earliest_room_lem out out' c = room_is (earliest s) c.value out out' c.filled (earliest_at out out' c)
 

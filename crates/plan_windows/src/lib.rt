@@ -1,6 +1,6 @@
 #![tactic(auto)]
 
-ghost use Rattle.std.specs.Prelude.{◌≡◌, ◌≤◌, true, false, length};
+ghost use Rattle.std.specs.Prelude.{◌≡◌, ◌≤◌, length};
 ghost use Rattle.sheet.specs.Sheet.{Sheet};
 ghost use Rattle.network_cuts.specs.Decider.{CutNetwork};
 ghost use Rattle.plan_marks.specs.Marks.{Units};
@@ -9,11 +9,11 @@ ghost use Rattle.plan_windows.specs.Narrowing.{Narrowable, earliest_room, latest
 
 use plan_arcs::{cut_arcs, mirror};
 use plan_cuts::cut_windows;
-use plan_marks::{mark, read_marks};
+use plan_marks::{Side, mark, read_marks};
 
 // Each unit's least cut.
 fn least_cuts(
-    turned: bool,
+    side: Side,
     w: usize,
     d: &[i16],
     m: &[i16],
@@ -22,14 +22,14 @@ fn least_cuts(
     plan: &[u16],
     out: &mut [u16],
 )
-    requires cut_network { CutNetwork w d.now m.now × Units turned w opens.now closes.now plan.now × (length opens.now ≤ length out.old) }
-    requires admitted { Admitted turned w d.now m.now opens.now closes.now plan.now }
-    ensures { LeastCuts turned w d.now m.now opens.now closes.now out.old out.new }
+    requires cut_network { CutNetwork w d.now m.now × Units side w opens.now closes.now plan.now × (length opens.now ≤ length out.old) }
+    requires admitted { Admitted side w d.now m.now opens.now closes.now plan.now }
+    ensures { LeastCuts side w d.now m.now opens.now closes.now out.old out.new }
 {
     let mut marks = [0u16; sheet::Sheet::MAX_CELLS];
-    mark(turned, w, opens, closes, plan, &mut marks);
+    mark(side, w, opens, closes, plan, &mut marks);
     cut_windows(d, m, w, &mut marks);
-    read_marks(turned, w, opens, closes, &marks, out);
+    read_marks(side, w, opens, closes, &marks, out);
 }
 
 // Each unit's greatest cut from below: its least cut in the network seen from its end, where its window opens at its last slot.
@@ -42,7 +42,7 @@ fn greatest_cuts(
     plan: &[u16],
     out: &mut [u16],
 )
-    requires cut_network { CutNetwork w d.now m.now × Units false w first.now last.now plan.now × (length first.now ≤ length out.old) }
+    requires cut_network { CutNetwork w d.now m.now × Units Side.Front w first.now last.now plan.now × (length first.now ≤ length out.old) }
     requires admitted_late { AdmittedLate w d.now m.now first.now last.now plan.now }
     ensures { GreatestCuts w d.now m.now first.now last.now out.old out.new }
 {
@@ -50,7 +50,7 @@ fn greatest_cuts(
     mirror(d, w, &mut table);
     let mut added = [0i16; sheet::Sheet::MAX_CELLS];
     mirror(m, w, &mut added);
-    least_cuts(true, w, &table, &added, last, first, plan, out);
+    least_cuts(Side::End, w, &table, &added, last, first, plan, out);
 }
 
 // Every unit's earliest and latest slot over all lawful plans.
@@ -72,6 +72,6 @@ pub fn narrow(
 {
     let mut added = [0i16; sheet::Sheet::MAX_CELLS];
     cut_arcs(first, last, w, &mut added);
-    least_cuts(false, w, table, &added, first, last, plan, earliest);
+    least_cuts(Side::Front, w, table, &added, first, last, plan, earliest);
     greatest_cuts(table, &added, w, first, last, plan, latest);
 }
