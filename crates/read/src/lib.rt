@@ -5,8 +5,7 @@ ghost use Rattle.read_questions.specs.Reading.{reply_of, reading, rooms};
 ghost use Rattle.read_rooms.specs.Rooms.{sizes_of, rooms_after};
 
 use forms::House;
-use questions::Refusal;
-use read_questions::Reading;
+use questions::{Question, Refusal};
 use sheet::Sheet;
 
 // The open entry, for a text of either house. A refusal leaves every room as it was; else the units and rules stand at the front of theirs.
@@ -20,7 +19,7 @@ pub fn read(
     to: &mut [u16],
     low: &mut [u16],
     high: &mut [u16],
-) -> Reading
+) -> Result<Sheet, Refusal>
     ensures result_value { reply_of result
         ≡ reading house text.now
         (sizes_of (rooms loader.old first.old last.old from.old to.old low.old
@@ -32,7 +31,7 @@ pub fn read(
         high.old) }
 {
     if Sheet::MAX_BYTES < text.len() {
-        return Reading::Refused(Refusal { number: 1, line: 0 });
+        return Err(Question::TextLength.refused());
     }
     let mut numbers = [0u16; Sheet::MAX_UNITS];
     let mut firsts = [0u16; Sheet::MAX_UNITS];
@@ -41,7 +40,7 @@ pub fn read(
     let mut tos = [0u16; Sheet::MAX_RULES];
     let mut lows = [0u16; Sheet::MAX_RULES];
     let mut highs = [0u16; Sheet::MAX_RULES];
-    let asked = read_ask::ask_text(
+    let s = read_ask::ask_text(
         house,
         text,
         &mut numbers,
@@ -51,30 +50,22 @@ pub fn read(
         &mut tos,
         &mut lows,
         &mut highs,
-    );
-    match asked {
-        Reading::Refused(refusal) => Reading::Refused(refusal),
-        Reading::Sheet(s) => {
-            if !read_rooms::lists_fit(
-                s,
-                loader.len(),
-                first.len(),
-                last.len(),
-                from.len(),
-                to.len(),
-                low.len(),
-                high.len(),
-            ) {
-                return Reading::Refused(Refusal {
-                    number: 12,
-                    line: 0,
-                });
-            }
-            read_rooms::fill(
-                s, &numbers, &firsts, &lasts, &froms, &tos, &lows, &highs, loader, first, last,
-                from, to, low, high,
-            );
-            Reading::Sheet(s)
-        }
+    )?;
+    if !read_rooms::lists_fit(
+        s,
+        loader.len(),
+        first.len(),
+        last.len(),
+        from.len(),
+        to.len(),
+        low.len(),
+        high.len(),
+    ) {
+        return Err(Question::Rooms.refused());
     }
+    read_rooms::fill(
+        s, &numbers, &firsts, &lasts, &froms, &tos, &lows, &highs, loader, first, last, from, to,
+        low, high,
+    );
+    Ok(s)
 }

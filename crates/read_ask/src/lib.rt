@@ -8,18 +8,16 @@ ghost use Rattle.read_questions.specs.Reading.{rooms, reply_of};
 ghost use Rattle.read_questions.specs.Steps.{step_of, kept_by, pass_reply, Holds, Kept};
 
 use forms::House;
-use questions::Refusal;
+use questions::{Question, Refusal};
 use read_form::Grid;
 use read_line::Line;
-use read_questions::Reading;
-use read_steps::Step;
 use sheet::Sheet;
 
 // A line after those of a sheet: questions 5 to 10 and 16, and its numbers into the arrays.
 fn line_step(
     house: House,
     s: Sheet,
-    line: Line,
+    line: Result<Line, Question>,
     numbers: &mut [u16],
     firsts: &mut [u16],
     lasts: &mut [u16],
@@ -29,7 +27,7 @@ fn line_step(
     highs: &mut [u16],
     heads: &mut [u16],
     nexts: &mut [u16],
-) -> Step
+) -> Result<Sheet, Question>
     requires { Chained s numbers.old heads.old nexts.old
         × Holds max_units max_rules (rooms numbers.old firsts.old lasts.old froms.old tos.old lows.old highs.old) }
     ensures value { result ≡ step_of house (take s.units numbers.old) s line }
@@ -39,9 +37,8 @@ fn line_step(
         ≡ kept_by result (rooms numbers.old firsts.old lasts.old froms.old tos.old lows.old
         highs.old) s line }
 {
-    match line {
-        Line::Refused(q) => Step::No(q),
-        Line::Note => Step::On(s),
+    match line? {
+        Line::Note => Ok(s),
         Line::Sheet(span) => read_steps::sheet_step(s, span),
         Line::Unit(loader, first, last) => {
             read_unit::unit_step(
@@ -67,7 +64,7 @@ fn pass(
     tos: &mut [u16],
     lows: &mut [u16],
     highs: &mut [u16],
-) -> Reading
+) -> Result<Sheet, Refusal>
     requires { Tables house grid.now table.now
         × Holds max_units max_rules (rooms numbers.old firsts.old lasts.old froms.old tos.old lows.old highs.old) }
     ensures result_value { reply_of result ≡ pass_reply house text.now }
@@ -89,25 +86,18 @@ fn pass(
         let step = line_step(
             house, s, line, numbers, firsts, lasts, froms, tos, lows, highs, &mut heads, &mut nexts,
         );
-        match step {
-            Step::No(q) => {
-                return Reading::Refused(Refusal { number: q, line: n });
-            }
-            Step::On(more) => {
-                s = more;
-            }
-        }
+        s = step.map_err(|q| q.at(n))?;
         at = found.next;
         n += 1;
     }
     if at < text.len() {
         let q = read_line::last_line(house, text, at, grid, table);
-        return Reading::Refused(Refusal { number: q, line: n });
+        return Err(q.at(n));
     }
     if s.span == 0 {
-        return Reading::Refused(Refusal { number: 5, line: 0 });
+        return Err(Question::SheetLine.refused());
     }
-    Reading::Sheet(s)
+    Ok(s)
 }
 
 // The pass over the text: every question but 1 and 12. The numbers of units and rules go into the arrays. Each house has a call
@@ -122,7 +112,7 @@ pub fn ask_text(
     tos: &mut [u16],
     lows: &mut [u16],
     highs: &mut [u16],
-) -> Reading
+) -> Result<Sheet, Refusal>
     requires { Holds max_units max_rules (rooms numbers.old firsts.old lasts.old froms.old tos.old lows.old highs.old) }
     ensures result_value { reply_of result ≡ pass_reply house text.now }
     ensures kept { Kept house result text.now

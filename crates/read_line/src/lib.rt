@@ -1,6 +1,6 @@
 #![tactic(auto)]
 
-ghost use Rattle.std.specs.Prelude.{◌≡◌, true, false, cond, ◌+◌, ◌≤◌, ◌<◌, length, drop};
+ghost use Rattle.std.specs.Prelude.{◌≡◌, true, false, cond, ◌+◌, ◌≤◌, ◌<◌, length, drop, Ok, Err};
 ghost use Rattle.forms.specs.Lines.{whole_lines};
 ghost use Rattle.forms.specs.LinesLaws.{line_end};
 ghost use Rattle.read_form.specs.Grid.{Tables};
@@ -9,27 +9,26 @@ ghost use Rattle.read_scan.specs.Scan.{line_at, Small};
 ghost use Rattle.read_line.specs.Content.{note_matched, last_of};
 ghost use Rattle.read_line.specs.Line.{line_of};
 ghost use Rattle.read_line.specs.Said.{unit_by, rule_by, NoteHasBytes, line_said, unended_fault};
-ghost use Rattle.read_line.specs.declared.Line.TheVariants as Line;
+ghost use Rattle.questions.specs.declared.Question.TheVariants.{PlainNumbers};
 
 use forms::House;
+use questions::Question;
 use read_form::{Grid, Kind};
-use read_notes::End;
 use read_scan::{NUMBERS, run, scan};
 
-// What one line says, or the question it fails. A unit has its loader number and the first and last slot of its window.
+// What one line says. A unit has its loader number and the first and last slot of its window.
 #[derive(Clone, Copy)]
 pub enum Line {
-    Refused(usize),
     Note,
     Sheet(u16),
     Unit(u16, u16, u16),
     Rule(u16, u16, u16, u16),
 }
 
-// A line, and the place where the next one starts.
+// What a line says, or the question that it fails, and the place where the next one starts.
 #[derive(Clone, Copy)]
 pub struct Found {
-    pub line: Line,
+    pub line: Result<Line, Question>,
     pub next: usize,
 }
 
@@ -79,10 +78,14 @@ fn rule_line(house: House, from: u16, second: u16, third: u16, fourth: u16) -> L
 }
 
 // Question 4, of a line by its numbers.
-fn checked(plain: bool, line: Line) -> Line
-    ensures { result ≡ cond plain line (Line.Refused 4) }
+fn checked(plain: bool, line: Line) -> Result<Line, Question>
+    ensures { result ≡ cond plain (Ok line) (Err PlainNumbers) }
 {
-    if plain { line } else { Line::Refused(4) }
+    if plain {
+        Ok(line)
+    } else {
+        Err(Question::PlainNumbers)
+    }
 }
 
 // Question 11.
@@ -90,25 +93,30 @@ fn note_matched(s: &[u8]) -> bool
     requires { 1 ≤ length s.now }
     ensures { result ≡ note_matched s.now }
 {
-    let end = read_notes::list_end(s, 1, 1);
-    match end {
-        End::At(place) => place == s.len(),
-        End::Unmatched => false,
+    match read_notes::list_end(s, 1, 1) {
+        Some(place) => place == s.len(),
+        None => false,
     }
 }
 
 // Questions 2, 11, 3 and 4 of a line that has its line feed, and else what it says.
-fn read_line(house: House, kind: Kind, plain: bool, values: &[u16; NUMBERS], s: &[u8]) -> Line
+fn read_line(
+    house: House,
+    kind: Kind,
+    plain: bool,
+    values: &[u16; NUMBERS],
+    s: &[u8],
+) -> Result<Line, Question>
     requires { Small values.now × NoteHasBytes kind s.now }
     ensures { result ≡ line_said house kind plain values.now s.now }
 {
     match kind {
-        Kind::Unprintable => Line::Refused(2),
+        Kind::Unprintable => Err(Question::Printable),
         Kind::Note => {
             if note_matched(s) {
-                Line::Note
+                Ok(Line::Note)
             } else {
-                Line::Refused(11)
+                Err(Question::NoteBrackets)
             }
         }
         Kind::Sheet => checked(plain, Line::Sheet(values[0])),
@@ -120,7 +128,7 @@ fn read_line(house: House, kind: Kind, plain: bool, values: &[u16; NUMBERS], s: 
             let rule = rule_line(house, values[4], values[5], values[6], values[7]);
             checked(plain, rule)
         }
-        Kind::Other => Line::Refused(3),
+        Kind::Other => Err(Question::LineForm),
     }
 }
 
@@ -142,24 +150,21 @@ pub fn line_at(house: House, text: &[u8], at: usize, grid: &Grid, table: &[u8; 2
 }
 
 // The question that a line without its line feed fails: 2, 11 or, for want of the line feed, 3.
-fn unended(kind: Kind, s: &[u8]) -> usize
+fn unended(kind: Kind, s: &[u8]) -> Question
     requires { NoteHasBytes kind s.now }
     ensures { result ≡ unended_fault kind s.now }
 {
     match kind {
-        Kind::Unprintable => 2,
-        Kind::Note => { if note_matched(s) { 3 } else { 11 } }
-        Kind::Sheet => 3,
-        Kind::Unit => 3,
-        Kind::Rule => 3,
-        Kind::Other => 3,
+        Kind::Unprintable => Question::Printable,
+        Kind::Note if !note_matched(s) => Question::NoteBrackets,
+        Kind::Note | Kind::Sheet | Kind::Unit | Kind::Rule | Kind::Other => Question::LineForm,
     }
 }
 
 // The question that the bytes past the last line feed fail.
-pub fn last_line(house: House, text: &[u8], at: usize, grid: &Grid, table: &[u8; 256]) -> usize
+pub fn last_line(house: House, text: &[u8], at: usize, grid: &Grid, table: &[u8; 256]) -> Question
     requires { (whole_lines text.now ≤ at) × (at ≤ length text.now) × Tables house grid.now table.now }
-    ensures { Line.Refused result ≡ line_of house (drop at text.now) false }
+    ensures { Err result ≡ line_of house (drop at text.now) false }
 {
     let state = run(text, at, grid, table);
     let end = read_form::next_state(grid, table, state, b'\n');

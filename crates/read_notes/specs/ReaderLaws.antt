@@ -1,13 +1,12 @@
 -- The laws of the two readers.
 -- Key idea: to close j + 1 + k lists is to close j + 1 of them and then, from what is left, the other k (`in_turn_lem`). So the list reader may leave each
 -- inner list to the item reader and go on from there, and depth alone, which `matched` counts, says the same (`list_matched`).
-use Rattle.std.specs.Prelude.{ℕ, zero, suc, ◌+◌, ◌-◌, ◌≤◌, ◌<◌, ◌≡◌, Bool, true, false, ◌&&◌, cond, List, [], ◌∷◌, length, drop, get_or, eqb, ltb}
+use Rattle.std.specs.Prelude.{ℕ, zero, suc, ◌+◌, ◌-◌, ◌≤◌, ◌<◌, ◌≡◌, Bool, true, false, ◌&&◌, cond, List, [], ◌∷◌, length, drop, get_or, eqb, ltb, Some, None}
 use Rattle.std.proofs.Math.Path.{refl}
 use Rattle.std.proofs.Common.{sym, ap, ◌∙◌, add-zero, arith, add-one, length-drop, drop_of_length-le, drop-drop, drop-cons, eq-eqb, ne_eqb, lt-ltb, le-ltb}
 use Rattle.forms.specs.Words.{opening, closing}
 use Rattle.read_notes.specs.Note.{max_depth, matched}
 use Rattle.read_notes.specs.Readers.{Rest, rest, unmatched, leave, after_list, after_item, end_of, none, at_end}
-use Rattle.read_notes.specs.declared.End.TheVariants.{At, Unmatched}
 
 -- ---- one list after the other
 
@@ -123,21 +122,21 @@ item_tail (b ∷ l) d =
 -- ---- what each way out of the two readers answers, at a place of a text
 
 module _ (s : List ℕ) (at d : ℕ) where
-  pub list_past : length s ≤ at → Unmatched ≡ end_of (length s) (after_list (drop at s) zero d)
+  pub list_past : length s ≤ at → None ≡ end_of (length s) (after_list (drop at s) zero d)
   unfolding after_list end_of
   list_past h = rw (drop_of_length-le s h) refl
 
   one_byte : at < length s → length s - length (drop (suc at) s) ≡ at + 1
   one_byte h = omega (arith, length-drop (suc at) s)
 
-  pub list_closed : at < length s → get_or s at 0 ≡ closing → At (at + 1) ≡ end_of (length s) (after_list (drop at s) zero d)
+  pub list_closed : at < length s → get_or s at 0 ≡ closing → Some (at + 1) ≡ end_of (length s) (after_list (drop at s) zero d)
   unfolding after_list end_of
-  list_closed h e = rw (drop-cons s at 0 h) (rw (eq-eqb (get_or s at 0) closing e) (ap At (sym (one_byte h))))
+  list_closed h e = rw (drop-cons s at 0 h) (rw (eq-eqb (get_or s at 0) closing e) (ap Some (sym (one_byte h))))
 
   pub list_item : at < length s → (get_or s at 0 ≡ closing → ⊥) → after_list (drop at s) zero d ≡ after (after_item (drop at s) d) zero d
   list_item h e = rw (drop-cons s at 0 h) (item_first (get_or s at 0) (drop (suc at) s) d (ne_eqb (get_or s at 0) closing e))
 
-  pub item_deep : at < length s → get_or s at 0 ≡ opening → max_depth ≤ d → Unmatched ≡ end_of (length s) (after_item (drop at s) d)
+  pub item_deep : at < length s → get_or s at 0 ≡ opening → max_depth ≤ d → None ≡ end_of (length s) (after_item (drop at s) d)
   unfolding after_item end_of
   item_deep h e k = rw (drop-cons s at 0 h) (rw (eq-eqb (get_or s at 0) opening e) (rw (le-ltb d max_depth k) refl))
 
@@ -145,9 +144,9 @@ module _ (s : List ℕ) (at d : ℕ) where
   unfolding after_item
   item_list h e k = rw (add-one at) (rw (drop-cons s at 0 h) (rw (eq-eqb (get_or s at 0) opening e) (rw (lt-ltb d max_depth k) refl)))
 
-  pub item_byte : at < length s → (get_or s at 0 ≡ opening → ⊥) → At (at + 1) ≡ end_of (length s) (after_item (drop at s) d)
+  pub item_byte : at < length s → (get_or s at 0 ≡ opening → ⊥) → Some (at + 1) ≡ end_of (length s) (after_item (drop at s) d)
   unfolding after_item end_of
-  item_byte h e = rw (drop-cons s at 0 h) (rw (ne_eqb (get_or s at 0) opening e) (ap At (sym (one_byte h))))
+  item_byte h e = rw (drop-cons s at 0 h) (rw (ne_eqb (get_or s at 0) opening e) (ap Some (sym (one_byte h))))
 
 -- an item that was read up to `next`: that is further on, within the text, and the list goes on from there
 pub record Went (s : List ℕ) (at d next : ℕ) (o : Rest) : Type 0 where
@@ -155,7 +154,7 @@ pub record Went (s : List ℕ) (at d next : ℕ) (o : Rest) : Type 0 where
   pub within : next ≤ length s
   pub on : after o zero d ≡ after_list (drop next s) zero d
 
-pub went : (s : List ℕ) (at d next : ℕ) (o : Rest) → TailOf (drop at s) o → at < length s → end_of (length s) o ≡ At next → Went s at d next o
+pub went : (s : List ℕ) (at d next : ℕ) (o : Rest) → TailOf (drop at s) o → at < length s → end_of (length s) o ≡ Some next → Went s at d next o
 unfolding end_of
 went s at d next (rest r) t h e =
     let n : length s - length r ≡ next = cc in
@@ -169,7 +168,7 @@ went s at d next (rest r) t h e =
 went s at d next unmatched t h e = let z : ◌≡◌ {A = ℕ} 0 1 = cc in absurd (omega arith)
 
 -- an item that could not be read: nor can the list
-pub item_unmatched : (n : ℕ) (o : Rest) (d : ℕ) → end_of n o ≡ Unmatched → Unmatched ≡ end_of n (after o zero d)
+pub item_unmatched : (n : ℕ) (o : Rest) (d : ℕ) → end_of n o ≡ None → None ≡ end_of n (after o zero d)
 unfolding end_of
 item_unmatched n (rest r) d e = let z : ◌≡◌ {A = ℕ} 0 1 = cc in absurd (omega arith)
 item_unmatched n unmatched d e = refl

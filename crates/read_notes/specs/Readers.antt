@@ -1,9 +1,7 @@
 -- What the list reader and the item reader answer. `list_matched` of ReaderLaws ties them to `matched`.
-use Rattle.std.specs.Prelude.{ℕ, zero, suc, ◌+◌, ◌-◌, Bool, true, false, cond, List, [], ◌∷◌, length, eqb, ltb}
+use Rattle.std.specs.Prelude.{ℕ, zero, suc, ◌+◌, ◌-◌, Bool, true, false, cond, List, [], ◌∷◌, length, eqb, ltb, Option, Some, None}
 use Rattle.forms.specs.Words.{opening, closing}
 use Rattle.read_notes.specs.Note.{max_depth}
-use Rattle.read_notes.specs.declared.End.{End}
-use Rattle.read_notes.specs.declared.End.TheVariants.{At, Unmatched}
 
 -- what is left of a text past a list or an item, or that brackets do not match
 pub data Rest : Type 0 where
@@ -27,10 +25,10 @@ unfoldable pub after_item : List ℕ → ℕ → Rest
 after_item [] d = unmatched
 after_item (b ∷ l) d = cond (eqb b opening) (cond (ltb d max_depth) (after_list l zero (d + 1)) unmatched) (rest l)
 
--- the place where the rest of a text of n bytes starts
-unfoldable pub end_of : ℕ → Rest → End
-end_of n (rest l) = At (n - length l)
-end_of n unmatched = Unmatched
+-- the place where the rest of a text of n bytes starts, or none
+unfoldable pub end_of : ℕ → Rest → Option ℕ
+end_of n (rest l) = Some (n - length l)
+end_of n unmatched = None
 
 -- whether nothing is left
 abbrev pub none : List ℕ → Bool

@@ -2,7 +2,7 @@
 -- line feed, and this line says the sheet's j-th unit.
 -- Key idea: a spot that there is has a line that stands there (`spot_stands`), the units are what these lines say, in their order (`unit_lines_lem`), and a line
 -- that passes its questions says its content's values.
-use Rattle.std.specs.Prelude.{ℕ, suc, ◌+◌, ◌-◌, ◌<◌, ◌≡◌, refl, true, cond, List, [], ◌∷◌, ◌++◌, map, T, length, get_or, take, drop}
+use Rattle.std.specs.Prelude.{ℕ, suc, ◌+◌, ◌-◌, ◌<◌, ◌≡◌, refl, true, cond, List, [], ◌∷◌, ◌++◌, map, T, length, get_or, take, drop, Ok}
 use Rattle.std.proofs.Common.{sym, ap, subst, ◌∙◌, append_assoc, arith, take_at, drop_at}
 use mathlib.Core.List.Memᴰ
 use Rattle.std.proofs.Math.ListN.{get_or-map}
@@ -36,17 +36,17 @@ pub record LineOfUnit (text : List ℕ) (u : SheetUnit) (s : Spot) : Type 0 wher
   pub start : s.start ≡ length (joined (map spelt before))
   pub bytes : take (s.end - s.start) (drop s.start text) ≡ line.bytes
   pub ended : line.ended ≡ true
-  pub says : line_of Ours line.bytes true ≡ Line.Unit u.loader u.window.first u.window.last
+  pub says : line_of Ours line.bytes true ≡ Ok (Line.Unit u.loader u.window.first u.window.last)
   pub listed : In u (sheet_in Ours text).units
 
 -- a line of this kind that passes its questions says its unit
 unit_told : (l : TextLine) → LinePasses Ours l → T (is_of Kind.Unit l)
-    → let u = unit_on l in line_of Ours l.bytes true ≡ Line.Unit u.loader u.window.first u.window.last
+    → let u = unit_on l in line_of Ours l.bytes true ≡ Ok (Line.Unit u.loader u.window.first u.window.last)
 unfolding content_of
 unit_told l p t = p.says ∙ go (form_of Ours l.bytes) (subst T (kind_is l p Kind.Unit) t)
   where
     go : (q : Kind) → T (same_kind q Kind.Unit) → let x = form_content Ours q l.bytes in let u = head_or no_unit (unit_of x) in
-        values_of x ≡ Line.Unit u.loader u.window.first u.window.last
+        values_of x ≡ Ok (Line.Unit u.loader u.window.first u.window.last)
     go Kind.Unprintable t = absurd t
     go Kind.Note t = absurd t
     go Kind.Sheet t = absurd t
@@ -96,7 +96,7 @@ line_says text asked j h =
           ∙ part_is b l.bytes (cond l.ended (line_feed ∷ []) []) (joined (map spelt r.after)) s.start (s.end - s.start) (sym start)
           (omega (arith, start, end));
       ended = passed.ended;
-      says = subst (λ (v : SheetUnit). line_of Ours l.bytes true ≡ Line.Unit v.loader v.window.first v.window.last) said
+      says = subst (λ (v : SheetUnit). line_of Ours l.bytes true ≡ Ok (Line.Unit v.loader v.window.first v.window.last)) said
           (unit_told l passed (subst (λ (x : TextLine). T (is_of Kind.Unit x)) here found.kind));
       listed = in_at no_unit (sheet_in Ours text).units j h;
     }

@@ -1,5 +1,5 @@
 -- Where in a text of our own format the lines of a kind stand. Definitions only.
-use Rattle.std.specs.Prelude.{ℕ, zero, suc, ◌+◌, Bool, ◌&&◌, List, [], ◌∷◌, map, length}
+use Rattle.std.specs.Prelude.{ℕ, zero, suc, ◌+◌, Bool, ◌&&◌, List, [], ◌∷◌, map, length, Result, Ok, Err}
 use Rattle.lists.specs.Lists.{keep}
 use Rattle.forms.specs.Lines.{TextLine, lines, spelt}
 use Rattle.forms.specs.declared.House.TheVariants.{Ours}
@@ -7,8 +7,6 @@ use Rattle.read_form.specs.Kinds.{kind_of}
 use Rattle.read_form.specs.Grid.{same_kind}
 use Rattle.read_form.specs.declared.Kind.{Kind}
 use Rattle.read_places.specs.declared.Spot.{Spot}
-use Rattle.read_places.specs.declared.Sought.{Sought}
-use Rattle.read_places.specs.declared.Sought.TheVariants.{At, Past}
 
 -- a line of a text, and where it stands
 pub record Placed : Type 0 where
@@ -43,10 +41,10 @@ abbrev pub no_spot : Spot
 no_spot = record { number = 0; start = 0; end = 0 }
 
 -- the entry at a place, or how far the place is past the last one
-abbrev pub sought_in : List Spot → ℕ → Sought
-sought_in [] j = Past j
-sought_in (s ∷ ss) zero = At s
+abbrev pub sought_in : List Spot → ℕ → Result Spot ℕ
+sought_in [] j = Err j
+sought_in (s ∷ ss) zero = Ok s
 sought_in (s ∷ ss) (suc j) = sought_in ss j
 
-unfoldable pub sought : Kind → List ℕ → ℕ → Sought
+unfoldable pub sought : Kind → List ℕ → ℕ → Result Spot ℕ
 sought k text j = sought_in (spots k text) j

@@ -1,7 +1,7 @@
 -- The laws of places: the lines of a kind are those that say the sheet's units, or its rules, one by one; and where in the text each stands.
 -- Key idea: a line whose questions are all answered yes has its line feed and is what its kind says, so that the lines of a kind, in order, give the units and
 -- the rules in theirs (`unit_lines_lem`, `rule_lines`). A line stands behind the lines before it as they are spelt, so its place is their length (`Standing`).
-use Rattle.std.specs.Prelude.{ℕ, zero, suc, ◌+◌, ◌-◌, ◌≤◌, ◌<◌, ◌≡◌, Bool, ◌&&◌, T, length}
+use Rattle.std.specs.Prelude.{ℕ, zero, suc, ◌+◌, ◌-◌, ◌≤◌, ◌<◌, ◌≡◌, Bool, ◌&&◌, T, length, Result, Ok, Err}
 use Rattle.std.proofs.Math.Path.{refl, sym, ap, ap₂}
 use Rattle.std.proofs.Common.{subst, ◌∙◌, ⊎_elim, arith, add-zero, length-append}
 use Rattle.std.proofs.Math.Bool.{true, false, cond}
@@ -26,13 +26,11 @@ use Rattle.read_form.specs.Grid.{same_kind}
 use Rattle.read_form.specs.declared.Kind.{Kind}
 use Rattle.read_line.specs.Content.{Content, form_content, content_of, brackets_match, numbers_in}
 use Rattle.read_line.specs.Line.{values_of, said, line_of}
-use Rattle.read_line.specs.declared.Line.TheVariants as Line
+use Rattle.questions.specs.declared.Question.TheVariants.{Printable, PlainNumbers, NoteBrackets}
 use Rattle.read_questions.specs.Reading.{contents, is_form, unit_of, units_in, rule_of, rules_in, sheet_in, questions_of, line_questions}
 use Rattle.read_questions.proofs.SpanLaws.{joined_append}
 use Rattle.read_places.specs.Places.{Placed, placed_at, placed_from, placed, is_of, spots, no_spot, sought_in}
 use Rattle.read_places.specs.declared.Spot.{Spot}
-use Rattle.read_places.specs.declared.Sought.{Sought}
-use Rattle.read_places.specs.declared.Sought.TheVariants.{At, Past}
 
 -- ---- a line whose questions are all answered yes
 
@@ -55,7 +53,7 @@ passes h n before l asked =
     x = content_of h l.bytes
 
     go : (p b q : Bool) → T p → T b → T q
-        → cond p (cond b (cond q (values_of x) (Line.Refused 4)) (Line.Refused 11)) (Line.Refused 2) ≡ values_of x
+        → cond p (cond b (cond q (values_of x) (Err PlainNumbers)) (Err NoteBrackets)) (Err Printable) ≡ values_of x
     go true true true tp tb tq = refl
     go true true false tp tb tq = absurd tq
     go true false q tp tb tq = absurd tb
@@ -154,19 +152,19 @@ spots_counted k text =
 
 -- ---- what is found at a place
 
-pub sought_at : (ss : List Spot) (j : ℕ) → j < length ss → sought_in ss j ≡ At (get_or ss j no_spot)
+pub sought_at : (ss : List Spot) (j : ℕ) → j < length ss → sought_in ss j ≡ Ok (get_or ss j no_spot)
 sought_at [] j h = absurd (omega arith)
 sought_at (s ∷ ss) zero h = refl
 sought_at (s ∷ ss) (suc j) h = sought_at ss j (omega arith)
 
-pub sought_past : (ss : List Spot) (j : ℕ) → length ss ≤ j → sought_in ss j ≡ Past (j - length ss)
-sought_past [] j h = ap Past (sym (sub-zero j))
+pub sought_past : (ss : List Spot) (j : ℕ) → length ss ≤ j → sought_in ss j ≡ Err (j - length ss)
+sought_past [] j h = ap Err (sym (sub-zero j))
 sought_past (s ∷ ss) zero h = absurd (omega arith)
-sought_past (s ∷ ss) (suc j) h = let e : j - length ss ≡ suc j - suc (length ss) = omega arith in sought_past ss j (omega arith) ∙ ap Past e
+sought_past (s ∷ ss) (suc j) h = let e : j - length ss ≡ suc j - suc (length ss) = omega arith in sought_past ss j (omega arith) ∙ ap Err e
 
-abbrev pub number_in : Sought → ℕ
-number_in (At s) = s.number
-number_in (Past j) = 0
+abbrev pub number_in : Result Spot ℕ → ℕ
+number_in (Ok s) = s.number
+number_in (Err j) = 0
 
 pub sought_number : (ss : List Spot) (j : ℕ) → number_in (sought_in ss j) ≡ (get_or ss j no_spot).number
 sought_number [] j = refl

@@ -21,13 +21,6 @@ pub struct Spot {
     pub end: usize,
 }
 
-// Where the line that is looked for stands; or, past the last line of its kind, by how many.
-#[derive(Clone, Copy)]
-pub enum Sought {
-    At(Spot),
-    Past(usize),
-}
-
 // The place of a line's feed, and the state past it, which is the code of the line's kind.
 #[derive(Clone, Copy)]
 struct Ended {
@@ -67,8 +60,9 @@ fn to_end(text: &[u8], at: usize, grid: &Grid, table: &[u8; 256]) -> Ended
     }
 }
 
-// The j-th line of a kind, from 0, with the tables of our own format. Only the lines up to the last line feed are looked at.
-fn search(text: &[u8], kind: Kind, j: usize, grid: &Grid, table: &[u8; 256]) -> Sought
+// The j-th line of a kind, from 0, with the tables of our own format; or, past the last line of its kind, by how many. Only the lines up to the last line
+// feed are looked at.
+fn search(text: &[u8], kind: Kind, j: usize, grid: &Grid, table: &[u8; 256]) -> Result<Spot, usize>
     requires { Tables Ours grid.now table.now }
     ensures { result ≡ sought kind text.now j }
 {
@@ -81,7 +75,7 @@ fn search(text: &[u8], kind: Kind, j: usize, grid: &Grid, table: &[u8; 256]) -> 
         let line = to_end(text, at, grid, table);
         if line.state == wanted {
             if left == 0 {
-                return Sought::At(Spot {
+                return Ok(Spot {
                     number: n,
                     start: at,
                     end: line.place,
@@ -92,11 +86,11 @@ fn search(text: &[u8], kind: Kind, j: usize, grid: &Grid, table: &[u8; 256]) -> 
         at = line.place + 1;
         n += 1;
     }
-    Sought::Past(left)
+    Err(left)
 }
 
-// The j-th line of a kind, from 0, in a text of our own format.
-pub fn seek(text: &[u8], kind: Kind, j: usize) -> Sought
+// Where the j-th line of a kind, from 0, stands in a text of our own format; or, past the last line of its kind, by how many.
+pub fn seek(text: &[u8], kind: Kind, j: usize) -> Result<Spot, usize>
     ensures { result ≡ sought kind text.now j }
 {
     let grid = grid_ours::table();
@@ -108,9 +102,8 @@ pub fn seek(text: &[u8], kind: Kind, j: usize) -> Sought
 pub fn line_number(text: &[u8], kind: Kind, j: usize) -> usize
     ensures { result ≡ (get_or (spots kind text.now) j no_spot).number }
 {
-    let found = seek(text, kind, j);
-    match found {
-        Sought::At(spot) => spot.number,
-        Sought::Past(_) => 0,
+    match seek(text, kind, j) {
+        Ok(spot) => spot.number,
+        Err(_) => 0,
     }
 }

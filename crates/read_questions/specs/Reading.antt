@@ -1,8 +1,10 @@
 -- What reading a text of a house answers (docs/RULES.md, "The order of the questions"): the text's lines, what each line is, the questions in their order,
 -- and the first that is answered no. Definitions only, with no grid and no reading states.
-use Rattle.std.specs.Prelude.{ℕ, suc, Bool, true, false, ◌&&◌, ◌||◌, not, List, [], ◌∷◌, ◌++◌, map, length, leb}
+use Rattle.std.specs.Prelude.{ℕ, suc, Bool, true, false, ◌&&◌, ◌||◌, not, List, [], ◌∷◌, ◌++◌, map, length, leb, Result, Ok, Err}
 use Rattle.lists.specs.Lists.{every, joined}
 use Rattle.questions.specs.Questions.{Question, ask, Verdict, no, all_yes, first_no}
+use Rattle.questions.specs.declared.Refusal.{Refusal}
+use Rattle.sheet.specs.declared.Sheet.{Sheet}
 use Rattle.sheet.specs.Sizes.{max_units, max_rules, max_bytes}
 use Rattle.sheet.specs.Sheet.{Rule, SheetUnit, WrittenSheet}
 use Rattle.sheet.specs.Questions.{is_span, rising, is_stretch, is_count, is_new}
@@ -11,7 +13,6 @@ use Rattle.forms.specs.Form.{printable, plain}
 use Rattle.forms.specs.Lines.{TextLine, lines}
 use Rattle.read_line.specs.Content.{Content, note, sheet, unit, rule, other, content_of, brackets_match, numbers_in}
 use Rattle.read_steps.specs.Steps.{last_place}
-use Rattle.read_questions.specs.declared.Reading.{Reading}
 
 -- ---- what the lines say
 
@@ -187,9 +188,9 @@ pub data Reply : Type 0 where
   read : (span units rules : ℕ) → Reply
 
 -- the number and the values for each case of the reply
-abbrev pub reply_of : Reading → Reply
-reply_of (Reading.Refused f) = refused f.number f.line
-reply_of (Reading.Sheet s) = read s.span s.units s.rules
+abbrev pub reply_of : Result Sheet Refusal → Reply
+reply_of (Err f) = refused f.number f.line
+reply_of (Ok s) = read s.span s.units s.rules
 
 abbrev pub concluded : Verdict → WrittenSheet → Reply
 concluded (no q n) s = refused q n

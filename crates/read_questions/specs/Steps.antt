@@ -1,26 +1,25 @@
 -- What the reader's code answers for a line, and the numbers that it keeps of the lines so far.
-use Rattle.std.specs.Prelude.{ℕ, ◌≤◌, ◌≡◌, List, [], ◌∷◌, map, length}
+use Rattle.std.specs.Prelude.{ℕ, ◌≤◌, ◌≡◌, List, [], ◌∷◌, map, length, Result, Ok, Err}
 use Rattle.std.proofs.lemmas.List.Edits.{sets}
 use Rattle.questions.specs.Questions.{first_no}
+use Rattle.questions.specs.declared.Question.{Question}
+use Rattle.questions.specs.declared.Refusal.{Refusal}
 use Rattle.sheet.specs.Sizes.{max_units, max_rules}
 use Rattle.sheet.specs.Sheet.{SheetUnit, Rule}
 use Rattle.sheet.specs.declared.Sheet.{Sheet}
 use Rattle.forms.specs.declared.House.{House}
 use Rattle.read_line.specs.declared.Line.{Line}
 use Rattle.read_steps.specs.Steps.{sheet_step, rule_step}
-use Rattle.read_steps.specs.declared.Step.{Step}
-use Rattle.read_steps.specs.declared.Step.TheVariants.{No, On}
 use Rattle.read_unit.specs.UnitStep.{unit_step}
 use Rattle.read_questions.specs.Reading.{sheet_in, pass_questions, ListRooms, rooms, Reply, concluded}
-use Rattle.read_questions.specs.declared.Reading.{Reading}
 
 -- a line after those of a sheet so far, whose units have these loader numbers
-unfoldable pub step_of : House → List ℕ → Sheet → Line → Step
-step_of h ks s (Line.Refused q) = No q
-step_of h ks s Line.Note = On s
-step_of h ks s (Line.Sheet p) = sheet_step s p
-step_of h ks s (Line.Unit k f l) = unit_step h ks s k f l
-step_of h ks s (Line.Rule a b lo hi) = rule_step s a b lo hi
+unfoldable pub step_of : House → List ℕ → Sheet → Result Line Question → Result Sheet Question
+step_of h ks s (Err q) = Err q
+step_of h ks s (Ok Line.Note) = Ok s
+step_of h ks s (Ok (Line.Sheet p)) = sheet_step s p
+step_of h ks s (Ok (Line.Unit k f l)) = unit_step h ks s k f l
+step_of h ks s (Ok (Line.Rule a b lo hi)) = rule_step s a b lo hi
 
 -- ---- the numbers of the units and rules so far, an array for each room
 
@@ -47,24 +46,24 @@ set_at m u r xs =
     (sets m.from r xs.from) (sets m.to r xs.to) (sets m.low r xs.low) (sets m.high r xs.high)
 
 -- the unit, or the rule, that a line adds
-abbrev pub line_units : Line → List SheetUnit
-line_units (Line.Refused q) = []
-line_units Line.Note = []
-line_units (Line.Sheet p) = []
-line_units (Line.Unit k f l) = record { loader = k; window = record { first = f; last = l } } ∷ []
-line_units (Line.Rule a b lo hi) = []
+abbrev pub line_units : Result Line Question → List SheetUnit
+line_units (Err q) = []
+line_units (Ok Line.Note) = []
+line_units (Ok (Line.Sheet p)) = []
+line_units (Ok (Line.Unit k f l)) = record { loader = k; window = record { first = f; last = l } } ∷ []
+line_units (Ok (Line.Rule a b lo hi)) = []
 
-abbrev pub line_rules : Line → List Rule
-line_rules (Line.Refused q) = []
-line_rules Line.Note = []
-line_rules (Line.Sheet p) = []
-line_rules (Line.Unit k f l) = []
-line_rules (Line.Rule a b lo hi) = record { from = a; to = b; low = lo; high = hi } ∷ []
+abbrev pub line_rules : Result Line Question → List Rule
+line_rules (Err q) = []
+line_rules (Ok Line.Note) = []
+line_rules (Ok (Line.Sheet p)) = []
+line_rules (Ok (Line.Unit k f l)) = []
+line_rules (Ok (Line.Rule a b lo hi)) = record { from = a; to = b; low = lo; high = hi } ∷ []
 
 -- the arrays after a line that follows a sheet so far; one that is refused adds nothing
-abbrev pub kept_by : Step → ListRooms (List ℕ) → Sheet → Line → ListRooms (List ℕ)
-kept_by (No q) m s line = m
-kept_by (On more) m s line = set_at m s.units s.rules (columns (line_units line) (line_rules line))
+abbrev pub kept_by : Result Sheet Question → ListRooms (List ℕ) → Sheet → Result Line Question → ListRooms (List ℕ)
+kept_by (Err q) m s line = m
+kept_by (Ok more) m s line = set_at m s.units s.rules (columns (line_units line) (line_rules line))
 
 -- ---- the pass over the text: all questions but 1 and 12, and what the arrays then hold
 
@@ -77,6 +76,6 @@ pub record KeptNumbers (h : House) (s : Sheet) (text : List ℕ) (m m' : ListRoo
   pub few_rules : s.rules ≤ max_rules
   pub in_arrays : m' ≡ set_at m 0 0 (columns (sheet_in h text).units (sheet_in h text).rules)
 
-abbrev pub Kept : House → Reading → List ℕ → ListRooms (List ℕ) → ListRooms (List ℕ) → Type 0
-Kept h (Reading.Refused f) text m m' = Unit {0}
-Kept h (Reading.Sheet s) text m m' = KeptNumbers h s text m m'
+abbrev pub Kept : House → Result Sheet Refusal → List ℕ → ListRooms (List ℕ) → ListRooms (List ℕ) → Type 0
+Kept h (Err f) text m m' = Unit {0}
+Kept h (Ok s) text m m' = KeptNumbers h s text m m'

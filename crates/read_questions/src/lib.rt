@@ -1,11 +1,2 @@
-// What reading a text answers is definitions and laws; the code is the answer's type.
+// What reading a text answers: definitions and laws only. The code's answer is the sheet, or the refusal.
 #![tactic(auto)]
-
-use questions::Refusal;
-use sheet::Sheet;
-
-#[derive(Clone, Copy)]
-pub enum Reading {
-    Refused(Refusal),
-    Sheet(Sheet),
-}

@@ -6,14 +6,8 @@ ghost use Rattle.sheet.specs.Questions.{is_stretch, rising, is_count};
 ghost use Rattle.read_steps.specs.Steps.{last_place, sheet_step, rule_step, put_by};
 
 use forms::House;
+use questions::Question;
 use sheet::Sheet;
-
-// The question that a line fails, or the sheet with that line.
-#[derive(Clone, Copy)]
-pub enum Step {
-    No(usize),
-    On(Sheet),
-}
 
 // The last place that a window may end in: ours may be carried over into the next wave, a partner's job may not.
 fn last_place(house: House, span: usize) -> usize
@@ -50,18 +44,18 @@ fn is_count(low: u16, high: u16) -> bool
     sheet::rises(0, most, most, low as usize, high as usize)
 }
 
-// Questions 5 and 6.
-pub fn sheet_step(s: Sheet, span: u16) -> Step
+// Questions 5 and 6: the sheet with its span, or the question that the line fails.
+pub fn sheet_step(s: Sheet, span: u16) -> Result<Sheet, Question>
     ensures { result ≡ sheet_step s span }
 {
     if s.span != 0 {
-        return Step::No(5);
+        return Err(Question::SheetLine);
     }
     let p = span as usize;
     if !sheet::is_span(p) {
-        return Step::No(6);
+        return Err(Question::Span);
     }
-    Step::On(Sheet {
+    Ok(Sheet {
         span: p,
         units: s.units,
         rules: s.rules,
@@ -79,7 +73,7 @@ pub fn rule_step(
     tos: &mut [u16],
     lows: &mut [u16],
     highs: &mut [u16],
-) -> Step
+) -> Result<Sheet, Question>
     requires { (max_rules ≤ length froms.old) × (max_rules ≤ length tos.old) × (max_rules ≤ length lows.old) × (max_rules ≤ length highs.old) }
     ensures value { result ≡ rule_step s from to low high }
     ensures froms_after { froms.new ≡ put_by result froms.old s.rules from }
@@ -89,24 +83,24 @@ pub fn rule_step(
 {
     let n = s.rules;
     if s.span == 0 {
-        return Step::No(5);
+        return Err(Question::SheetLine);
     }
     if !is_stretch(s.span, from, to) {
-        return Step::No(7);
+        return Err(Question::Stretch);
     }
     if !is_count(low, high) {
-        return Step::No(8);
+        return Err(Question::Counts);
     }
     if n < Sheet::MAX_RULES {
         froms[n] = from;
         tos[n] = to;
         lows[n] = low;
         highs[n] = high;
-        return Step::On(Sheet {
+        return Ok(Sheet {
             span: s.span,
             units: s.units,
             rules: n + 1,
         });
     }
-    Step::No(10)
+    Err(Question::Rules)
 }

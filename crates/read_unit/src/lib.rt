@@ -1,19 +1,25 @@
 #![tactic(auto)]
 
 ghost use Rattle.std.specs.Prelude.{◌≡◌, cond, ◌≤◌, eqb, length, take};
+ghost use Rattle.questions.specs.declared.Question.TheVariants.{SheetLine, Stretch};
 ghost use Rattle.sheet.specs.Sizes.{max_units};
 ghost use Rattle.read_steps.specs.Steps.{put_by};
 ghost use Rattle.read_unit.specs.UnitStep.{unit_step, Chained, ChainedBy};
 
 use forms::House;
-use read_steps::{Step, is_window};
+use questions::Question;
+use read_steps::is_window;
 use sheet::Sheet;
 
 // The question that a window of no place fails: 5 before the sheet form, where the span is still 0 and holds none, and else 7.
-fn window_fault(span: usize) -> usize
-    ensures { result ≡ cond (eqb span 0) 5 7 }
+fn window_fault(span: usize) -> Question
+    ensures { result ≡ cond (eqb span 0) SheetLine Stretch }
 {
-    if span == 0 { 5 } else { 7 }
+    if span == 0 {
+        Question::SheetLine
+    } else {
+        Question::Stretch
+    }
 }
 
 // Questions 5, 7, 16 and 9; a unit that passes is kept, and its loader number is found from then on.
@@ -28,7 +34,7 @@ pub fn unit_step(
     lasts: &mut [u16],
     heads: &mut [u16],
     nexts: &mut [u16],
-) -> Step
+) -> Result<Sheet, Question>
     requires { Chained s numbers.old heads.old nexts.old × (max_units ≤ length firsts.old) × (max_units ≤ length lasts.old) }
     ensures value { result ≡ unit_step house (take s.units numbers.old) s loader first last }
     ensures chained_by { ChainedBy result numbers.new heads.new nexts.new }
@@ -38,21 +44,21 @@ pub fn unit_step(
 {
     let n = s.units;
     if !is_window(house, s.span, first, last) {
-        return Step::No(window_fault(s.span));
+        return Err(window_fault(s.span));
     }
     if !loaders::is_new(numbers, n, heads, nexts, loader) {
-        return Step::No(16);
+        return Err(Question::Loader);
     }
     if n < Sheet::MAX_UNITS {
         numbers[n] = loader;
         firsts[n] = first;
         lasts[n] = last;
         loaders::link(loader, n, heads, nexts);
-        return Step::On(Sheet {
+        return Ok(Sheet {
             span: s.span,
             units: n + 1,
             rules: s.rules,
         });
     }
-    Step::No(9)
+    Err(Question::Units)
 }
