@@ -3,6 +3,7 @@ ghost use Rattle.plan_rooms.specs.Rooms.{decide_rooms, decide_lent};
 ghost use Rattle.plan_answers.specs.Planning.{conclusion_in};
 ghost use Rattle.tugrokt.specs.Told.{DecideTold};
 
+use sheet::{Lists, WrittenLists};
 use tugrokt_replies::planning::Planning;
 
 // Decides from lists whether the sheet fits.
@@ -24,6 +25,17 @@ pub extern "C" fn tugrokt_decide(
         let before = decide_rooms table.old ring.old in
         DecideTold (conclusion_in l (decide_lent before)) (given_by l) before result (decide_rooms table.new ring.new) }
 {
-    let decision = plan::decide(span, loader, first, last, from, to, low, high, table, ring);
-    tugrokt_replies::deciding::numbers_of(decision)
+    let lists = WrittenLists {
+        loader,
+        constraints: Lists {
+            span,
+            first,
+            last,
+            from,
+            to,
+            low,
+            high,
+        },
+    };
+    Planning::from(plan::decide(&lists, table, ring))
 }

@@ -3,6 +3,7 @@ ghost use Rattle.plan_rooms.specs.Rooms.{lent};
 ghost use Rattle.plan_answers.specs.Planning.{conclusion};
 ghost use Rattle.tugrokt.specs.Told.{PlanTold};
 
+use sheet::{Lists, WrittenLists};
 use tugrokt_replies::planning::Planning;
 
 // Plans from lists.
@@ -28,8 +29,17 @@ pub extern "C" fn tugrokt_plan(
         PlanTold (conclusion l before) (given_by l) before result
         (lent table.new plan.new earliest.new latest.new ring.new) }
 {
-    let answer = plan::plan(
-        span, loader, first, last, from, to, low, high, table, plan, earliest, latest, ring,
-    );
-    tugrokt_replies::planning::numbers_of(answer)
+    let lists = WrittenLists {
+        loader,
+        constraints: Lists {
+            span,
+            first,
+            last,
+            from,
+            to,
+            low,
+            high,
+        },
+    };
+    Planning::from(plan::plan(&lists, table, plan, earliest, latest, ring))
 }

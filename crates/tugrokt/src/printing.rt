@@ -2,6 +2,7 @@ ghost use Rattle.sheet.specs.Lists.{written_lists};
 ghost use Rattle.plan_rooms.specs.Rooms.{lent};
 ghost use Rattle.tugrokt.specs.Told.{PrintTold};
 
+use sheet::{Lists, WrittenLists};
 use tugrokt_replies::printing::Printing;
 
 // Plans from lists, and prints the answer on the page from the place on.
@@ -28,9 +29,18 @@ pub extern "C" fn tugrokt_print(
         (lent table.old plan.old earliest.old latest.old ring.old) page.old place result
         (lent table.new plan.new earliest.new latest.new ring.new) page.new }
 {
-    let printed = print::print(
-        span, loader, first, last, from, to, low, high, table, plan, earliest, latest, ring, page,
-        place,
-    );
+    let lists = WrittenLists {
+        loader,
+        constraints: Lists {
+            span,
+            first,
+            last,
+            from,
+            to,
+            low,
+            high,
+        },
+    };
+    let printed = print::print(&lists, table, plan, earliest, latest, ring, page, place);
     tugrokt_replies::printing::numbers_of(place, printed)
 }

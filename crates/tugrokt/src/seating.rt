@@ -3,6 +3,7 @@ ghost use Rattle.plan_rooms.specs.Rooms.{seat_rooms, seat_lent};
 ghost use Rattle.plan_answers.specs.Planning.{conclusion_in};
 ghost use Rattle.tugrokt.specs.Told.{SeatTold};
 
+use sheet::{Lists, WrittenLists};
 use tugrokt_replies::seating::Seating;
 
 // Seats the units of a sheet in lists, and narrows their windows.
@@ -27,8 +28,17 @@ pub extern "C" fn tugrokt_seat(
         SeatTold (conclusion_in l (seat_lent before)) (given_by l) before result
         (seat_rooms table.new plan.new earliest.new latest.new) }
 {
-    let answer = plan::seat(
-        span, loader, first, last, from, to, low, high, table, plan, earliest, latest,
-    );
-    tugrokt_replies::seating::numbers_of(answer)
+    let lists = WrittenLists {
+        loader,
+        constraints: Lists {
+            span,
+            first,
+            last,
+            from,
+            to,
+            low,
+            high,
+        },
+    };
+    Seating::from(plan::seat(&lists, table, plan, earliest, latest))
 }

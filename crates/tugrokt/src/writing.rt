@@ -2,6 +2,7 @@ ghost use Rattle.sheet.specs.Lists.{written_lists};
 ghost use Rattle.tugrokt_writing.specs.Told.{WriteTold};
 
 use forms::House;
+use sheet::{Lists, WrittenLists};
 use tugrokt_replies::writing::Writing;
 
 // Writes a sheet in our own format.
@@ -21,19 +22,19 @@ pub extern "C" fn tugrokt_write_sheet(
     ensures { WriteTold House.Ours (written_lists span loader.now first.now last.now
         from.now to.now low.now high.now) page.old place result page.new }
 {
-    tugrokt_writing::write_house(
-        House::Ours,
-        span,
+    let lists = WrittenLists {
         loader,
-        first,
-        last,
-        from,
-        to,
-        low,
-        high,
-        page,
-        place,
-    )
+        constraints: Lists {
+            span,
+            first,
+            last,
+            from,
+            to,
+            low,
+            high,
+        },
+    };
+    tugrokt_writing::write_house(House::Ours, &lists, page, place)
 }
 
 // Writes a sheet in the format of the partner house, which has no unit that may be carried over and no low.
@@ -53,17 +54,17 @@ pub extern "C" fn tugrokt_write_partner(
     ensures { WriteTold House.Partner (written_lists span loader.now first.now last.now
         from.now to.now low.now high.now) page.old place result page.new }
 {
-    tugrokt_writing::write_house(
-        House::Partner,
-        span,
+    let lists = WrittenLists {
         loader,
-        first,
-        last,
-        from,
-        to,
-        low,
-        high,
-        page,
-        place,
-    )
+        constraints: Lists {
+            span,
+            first,
+            last,
+            from,
+            to,
+            low,
+            high,
+        },
+    };
+    tugrokt_writing::write_house(House::Partner, &lists, page, place)
 }

@@ -6,6 +6,7 @@ ghost use Rattle.tugrokt_answering.specs.Told.{AnswerTold};
 
 use forms::House;
 use print_page::MAX_PAGE;
+use questions::Question;
 use tugrokt_replies::writing::Writing;
 use wave_words::Query;
 
@@ -22,18 +23,10 @@ pub fn answer_house(
 {
     let mut bytes = [0u8; MAX_PAGE];
     let length = answer::answer(house, query, text, &mut bytes);
-    if print_writer::holds(page.len(), place, length) {
-        let next = print_writer::write(page, place, &bytes[..length]);
-        Writing {
-            number: 0,
-            line: 0,
-            place: next,
-        }
+    let written = if print_writer::holds(page.len(), place, length) {
+        Ok(print_writer::write(page, place, &bytes[..length]))
     } else {
-        Writing {
-            number: 15,
-            line: 0,
-            place,
-        }
-    }
+        Err(Question::Page.refused())
+    };
+    tugrokt_replies::writing::numbers_of(place, written)
 }

@@ -26,7 +26,7 @@ pub fn merge(
         MergeTold one.now two.now before result after }
 {
     let reply = merge::merge(one, two, loader, first, last, from, to, low, high);
-    tugrokt_replies::reading::numbers_of(reply)
+    Reading::from(reply)
 }
 
 // Where the line of the unit with a loader number stands, in whichever of two texts has it.

@@ -26,5 +26,5 @@ pub fn read_house(
         ReadTold house text.now before result after }
 {
     let reply = read::read(house, text, loader, first, last, from, to, low, high);
-    tugrokt_replies::reading::numbers_of(reply)
+    Reading::from(reply)
 }

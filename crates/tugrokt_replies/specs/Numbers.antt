@@ -1,11 +1,12 @@
 -- Replies as numbers, for callers in other languages: 0 for what a reply does not have. Definitions only.
-use Rattle.std.specs.Prelude.{ℕ, ◌-◌, ◌≤◌}
+use Rattle.std.specs.Prelude.{ℕ, ◌-◌, ◌≤◌, Result, Ok, Err}
 use Rattle.read_questions.specs.Reading as reading
 use Rattle.plan_answers.specs.Reply as planning
 use Rattle.print_answer.specs.Reply as printing
 use Rattle.write.specs.Writing as writing
-use Rattle.merge_lines.specs.declared.LineFound.{LineFound}
-use Rattle.merge_lines.specs.declared.LineFound.TheVariants as found
+use Rattle.merge_questions.specs.declared.Blamed.{Blamed}
+use Rattle.merge_lines.specs.declared.LinePlace.{LinePlace}
+use Rattle.merge_lines.specs.declared.LinePlace.TheVariants.{First, Second}
 use Rattle.tugrokt_replies.specs.declared.line.Line.{Line}
 use Rattle.tugrokt_replies.specs.declared.reading.Reading.{Reading}
 use Rattle.tugrokt_replies.specs.declared.planning.Planning.{Planning}
@@ -40,13 +41,13 @@ writing_of at (writing.refused q n) = record { number = q; line = n; place = at 
 writing_of at (writing.text next) = record { number = 0; line = 0; place = next }
 
 -- the line of a unit, by where it starts and how long it is; which sheet a refusal is of is not told
-abbrev pub line_of : LineFound → Line
-line_of (found.Refused f s) = record { number = f.number; line = f.line; sheet = 0; start = 0; length = 0 }
-line_of (found.First a e) = record { number = 0; line = 0; sheet = 1; start = a; length = e - a }
-line_of (found.Second a e) = record { number = 0; line = 0; sheet = 2; start = a; length = e - a }
+abbrev pub line_of : Result LinePlace Blamed → Line
+line_of (Err b) = record { number = b.refusal.number; line = b.refusal.line; sheet = 0; start = 0; length = 0 }
+line_of (Ok (First a e)) = record { number = 0; line = 0; sheet = 1; start = a; length = e - a }
+line_of (Ok (Second a e)) = record { number = 0; line = 0; sheet = 2; start = a; length = e - a }
 
 -- a line does not end before it starts
-abbrev pub Rises : LineFound → Type 0
-Rises (found.Refused f s) = Unit {0}
-Rises (found.First a e) = a ≤ e
-Rises (found.Second a e) = a ≤ e
+abbrev pub Rises : Result LinePlace Blamed → Type 0
+Rises (Err b) = Unit {0}
+Rises (Ok (First a e)) = a ≤ e
+Rises (Ok (Second a e)) = a ≤ e

@@ -4,7 +4,6 @@
 // 0. A new field stands at the end, so that the fields before it keep their places.
 #![tactic(auto)]
 
-pub mod deciding;
 pub mod line;
 pub mod planning;
 pub mod printing;

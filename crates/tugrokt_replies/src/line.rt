@@ -1,11 +1,12 @@
 ghost use Rattle.std.specs.Prelude.{◌≡◌};
 ghost use Rattle.tugrokt_replies.specs.Numbers.{line_of, Rises};
 
-use merge_lines::LineFound;
+use merge_lines::LinePlace;
+use merge_questions::Blamed;
 
 // What asking for a unit's line replies: which text it stands in, 1 or 2, its first byte and how many there are, less the line feed.
 #[repr(C)]
-#[derive(Clone, Copy)]
+#[derive(Clone, Copy, Default)]
 pub struct Line {
     pub number: usize,
     pub line: usize,
@@ -15,31 +16,28 @@ pub struct Line {
 }
 
 // The reply as numbers.
-pub fn numbers_of(found: LineFound) -> Line
+// stays: a function; it asks that the line does not end before it starts, and a `From` can ask nothing.
+pub fn numbers_of(found: Result<LinePlace, Blamed>) -> Line
     requires { Rises found }
     ensures { result ≡ line_of found }
 {
     match found {
-        LineFound::Refused(refusal, _) => Line {
-            number: refusal.number,
-            line: refusal.line,
-            sheet: 0,
-            start: 0,
-            length: 0,
+        Err(blamed) => Line {
+            number: blamed.refusal.number,
+            line: blamed.refusal.line,
+            ..Line::default()
         },
-        LineFound::First(start, end) => Line {
-            number: 0,
-            line: 0,
+        Ok(LinePlace::First(start, end)) => Line {
             sheet: 1,
-            start: start,
+            start,
             length: end - start,
+            ..Line::default()
         },
-        LineFound::Second(start, end) => Line {
-            number: 0,
-            line: 0,
+        Ok(LinePlace::Second(start, end)) => Line {
             sheet: 2,
-            start: start,
+            start,
             length: end - start,
+            ..Line::default()
         },
     }
 }

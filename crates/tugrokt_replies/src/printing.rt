@@ -3,10 +3,11 @@ ghost use Rattle.print_answer.specs.Reply.{reply_of};
 ghost use Rattle.tugrokt_replies.specs.Numbers.{printing_of};
 
 use print_answer::Printed;
+use questions::Refusal;
 
 // What printing replies: the length of the ring, and the place just past the answer, or the place that was given where the call was refused.
 #[repr(C)]
-#[derive(Clone, Copy)]
+#[derive(Clone, Copy, Default)]
 pub struct Printing {
     pub number: usize,
     pub line: usize,
@@ -15,27 +16,24 @@ pub struct Printing {
 }
 
 // The reply as numbers, to a call that was given this place.
-pub fn numbers_of(at: usize, printed: Printed) -> Printing
-    ensures { result ≡ printing_of at (reply_of printed) }
+// stays: a function; the place stands beside the answer.
+pub fn numbers_of(at: usize, answer: Result<Printed, Refusal>) -> Printing
+    ensures { result ≡ printing_of at (reply_of answer) }
 {
-    match printed {
-        Printed::Refused(refusal) => Printing {
+    match answer {
+        Err(refusal) => Printing {
             number: refusal.number,
             line: refusal.line,
-            length: 0,
             place: at,
+            ..Printing::default()
         },
-        Printed::Plan(next) => Printing {
-            number: 0,
-            line: 0,
-            length: 0,
-            place: next,
-        },
-        Printed::None(k, next) => Printing {
-            number: 0,
-            line: 0,
-            length: k,
-            place: next,
+        Ok(printed) => Printing {
+            length: match printed.fit {
+                Ok(()) => 0,
+                Err(ring) => ring.length,
+            },
+            place: printed.place,
+            ..Printing::default()
         },
     }
 }

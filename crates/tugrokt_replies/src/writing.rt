@@ -2,9 +2,11 @@ ghost use Rattle.std.specs.Prelude.{◌≡◌};
 ghost use Rattle.write.specs.Writing.{reply_of};
 ghost use Rattle.tugrokt_replies.specs.Numbers.{writing_of};
 
+use questions::Refusal;
+
 // What writing a sheet and answering a text reply: the place just past what was put onto the page, or the place that was given where the call was refused.
 #[repr(C)]
-#[derive(Clone, Copy)]
+#[derive(Clone, Copy, Default)]
 pub struct Writing {
     pub number: usize,
     pub line: usize,
@@ -12,19 +14,19 @@ pub struct Writing {
 }
 
 // The reply as numbers, to a call that was given this place.
-pub fn numbers_of(at: usize, written: write::Writing) -> Writing
+// stays: a function; the place stands beside the answer.
+pub fn numbers_of(at: usize, written: Result<usize, Refusal>) -> Writing
     ensures { result ≡ writing_of at (reply_of written) }
 {
     match written {
-        write::Writing::Refused(refusal) => Writing {
+        Err(refusal) => Writing {
             number: refusal.number,
             line: refusal.line,
             place: at,
         },
-        write::Writing::Text(next) => Writing {
-            number: 0,
-            line: 0,
+        Ok(next) => Writing {
             place: next,
+            ..Writing::default()
         },
     }
 }

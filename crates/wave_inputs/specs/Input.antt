@@ -1,20 +1,18 @@
 -- What is promised of the program's inputs, of which only the front is read. Definitions only.
-use Rattle.std.specs.Prelude.{◌≡◌, List, ℕ, take}
+use Rattle.std.specs.Prelude.{◌≡◌, List, ℕ, take, Option, Some, None}
 use Rattle.forms.specs.declared.House.{House}
 use Rattle.wave_words.specs.declared.Query.{Query}
 use Rattle.answer_conditions.specs.Answer.{AnswerTo, Answered}
 use Rattle.print_bytes.specs.Writing.{with_bytes}
 use Rattle.convert_lists.specs.Converting.{reply_of, converting, converted}
 use Rattle.convert_lists.specs.declared.Converted.{Converted}
-use Rattle.convert_lists.specs.declared.Converted.TheVariants as reply
+use Rattle.questions.specs.declared.Refusal.{Refusal}
 use Rattle.merge_questions.specs.Merging.{blamed_sheet}
 use Rattle.merge_text.specs.MergeText.{blame_of, merging_text, merged_text}
 use Rattle.merge_text.specs.MergeText as merge
 use Rattle.merge_text.specs.declared.Merged.{Merged}
-use Rattle.merge_text.specs.declared.Merged.TheVariants as merged
 use Rattle.wave_line_page.specs.LinePage.{showing, line_page}
 use Rattle.wave_line_page.specs.declared.Shown.{Shown}
-use Rattle.wave_line_page.specs.declared.Shown.TheVariants as shown
 
 -- an answer to what is asked of every input whose front is these bytes: all of it, or as much as so many places hold
 abbrev pub InputAnswered : House → Query → ℕ → List ℕ → List ℕ → List ℕ → ℕ → Type 0
@@ -29,14 +27,13 @@ pub record ConvertedAll (from to : House) (input page left : List ℕ) (r : Conv
 abbrev pub InputConverted : House → House → ℕ → List ℕ → List ℕ → List ℕ → Converted → Type 0
 InputConverted from to places front page left r = (input : List ℕ) → take places input ≡ front → ConvertedAll from to input page left r
 
--- the place just past what was written, and the line that a refusal names
-abbrev pub place_of : Converted → ℕ
-place_of (reply.Sheet next) = next
-place_of (reply.Refused f next) = next
+-- the line that a refusal names
+abbrev pub line_in : Option Refusal → ℕ
+line_in None = 0
+line_in (Some f) = f.line
 
 abbrev pub line_of : Converted → ℕ
-line_of (reply.Sheet next) = 0
-line_of (reply.Refused f next) = f.line
+line_of r = line_in r.refusal
 
 -- ---- of every two inputs whose fronts are these bytes
 
@@ -58,12 +55,3 @@ pub record ShownAll (one two : List ℕ) (k : ℕ) (page left : List ℕ) (r : S
 abbrev pub InputsShown : ℕ → List ℕ → List ℕ → ℕ → List ℕ → List ℕ → Shown → Type 0
 InputsShown places first second k page left r =
     (one two : List ℕ) → take places one ≡ first → take places two ≡ second → ShownAll one two k page left r
-
--- the place just past what was written
-abbrev pub merged_place : Merged → ℕ
-merged_place (merged.Sheet next) = next
-merged_place (merged.Refused f s next) = next
-
-abbrev pub shown_place : Shown → ℕ
-shown_place (shown.Line next) = next
-shown_place (shown.Refused s next) = next

@@ -1,10 +1,9 @@
 // What is promised of the program's inputs, of which only the front is read: the result is that for the whole.
 #![tactic(auto)]
 
-ghost use Rattle.std.specs.Prelude.{◌≤◌, length, take};
+ghost use Rattle.std.specs.Prelude.{◌≤◌, length};
 ghost use Rattle.sheet.specs.Sizes.{max_bytes};
-ghost use Rattle.wave_inputs.specs.Input.{InputAnswered, InputConverted, place_of, line_of};
-ghost use Rattle.wave_inputs.specs.Input.{InputsMerged, merged_place, InputsShown, shown_place};
+ghost use Rattle.wave_inputs.specs.Input.{InputAnswered, InputConverted, line_of, InputsMerged, InputsShown};
 
 use convert_lists::Converted;
 use forms::House;
@@ -18,73 +17,35 @@ use write_lines::MAX_TEXT;
 // One byte more than the longest text that is read, so that a longer text is known for one without its rest.
 pub const TEXT_BYTES: usize = Sheet::MAX_BYTES + 1;
 
-// The answer to what is asked of the whole input, by the n bytes that the buffer took of it.
-pub fn answer_input(
-    house: House,
-    query: Query,
-    buffer: &[u8; TEXT_BYTES],
-    n: usize,
-    page: &mut [u8; MAX_PAGE],
-) -> usize
-    requires { n ≤ length buffer.now }
-    ensures fact { let text = buffer.now in
-        InputAnswered house query (length text) (take n text) page.old page.new result }
+// The answer to what is asked of every input of which this is the front.
+pub fn answer_input(house: House, query: Query, front: &[u8], page: &mut [u8; MAX_PAGE]) -> usize
+    ensures fact { InputAnswered house query TEXT_BYTES front.now page.old page.new result }
     ensures upper_bound { result ≤ length page.new }
 {
-    let text: &[u8] = buffer;
-    answer::answer(house, query, &text[..n], page)
+    answer::answer(house, query, front, page)
 }
 
-// The whole input in the form of the other house, by the n bytes that the buffer took of it.
-pub fn convert_input(
-    from: House,
-    to: House,
-    buffer: &[u8; TEXT_BYTES],
-    n: usize,
-    page: &mut [u8; MAX_TEXT],
-) -> Converted
-    requires { n ≤ length buffer.now }
-    ensures fact { let text = buffer.now in
-        InputConverted from to (length text) (take n text) page.old page.new result }
-    ensures result_in_bounds { (place_of result ≤ length page.new) × (line_of result ≤ max_bytes) }
+// Every input of which this is the front, in the form of the other house.
+pub fn convert_input(from: House, to: House, front: &[u8], page: &mut [u8; MAX_TEXT]) -> Converted
+    ensures fact { InputConverted from to TEXT_BYTES front.now page.old page.new result }
+    ensures result_in_bounds { (result.place ≤ length page.new) × (line_of result ≤ max_bytes) }
 {
-    let text: &[u8] = buffer;
-    convert::convert(from, to, &text[..n], page)
+    convert::convert(from, to, front, page)
 }
 
-// Two whole inputs as one sheet, by the n bytes and the m bytes that the buffers took of them.
-pub fn merge_inputs(
-    one: &[u8; TEXT_BYTES],
-    n: usize,
-    two: &[u8; TEXT_BYTES],
-    m: usize,
-    page: &mut [u8; MAX_TEXT],
-) -> Merged
-    requires { (n ≤ length one.now) × (m ≤ length two.now) }
-    ensures fact { let first = one.now in let second = two.now in
-        InputsMerged (length first) (take n first) (take m second) page.old page.new result }
-    ensures result_in_bounds { merged_place result ≤ length page.new }
+// Every two inputs of which these are the fronts, as one sheet.
+pub fn merge_inputs(one: &[u8], two: &[u8], page: &mut [u8; MAX_TEXT]) -> Merged
+    ensures fact { InputsMerged TEXT_BYTES one.now two.now page.old page.new result }
+    ensures result_in_bounds { result.place ≤ length page.new }
 {
-    let first: &[u8] = one;
-    let second: &[u8] = two;
-    merge_text::merge_text(&first[..n], &second[..m], page)
+    merge_text::merge_text(one, two, page)
 }
 
-// The line of a unit of two whole inputs, likewise.
-pub fn line_inputs(
-    one: &[u8; TEXT_BYTES],
-    n: usize,
-    two: &[u8; TEXT_BYTES],
-    m: usize,
-    loader: u16,
-    page: &mut [u8; MAX_LINE],
-) -> Shown
-    requires { (n ≤ length one.now) × (m ≤ length two.now) }
-    ensures fact { let first = one.now in let second = two.now in
-        InputsShown (length first) (take n first) (take m second) loader page.old page.new result }
-    ensures result_in_bounds { shown_place result ≤ length page.new }
+// The line of a unit of two inputs, likewise.
+pub fn line_inputs(one: &[u8], two: &[u8], loader: u16, page: &mut [u8; MAX_LINE]) -> Shown
+    requires { (length one.now ≤ TEXT_BYTES) × (length two.now ≤ TEXT_BYTES) }
+    ensures fact { InputsShown TEXT_BYTES one.now two.now loader page.old page.new result }
+    ensures result_in_bounds { result.place ≤ length page.new }
 {
-    let first: &[u8] = one;
-    let second: &[u8] = two;
-    wave_line_page::line_page(&first[..n], &second[..m], loader, page)
+    wave_line_page::line_page(one, two, loader, page)
 }

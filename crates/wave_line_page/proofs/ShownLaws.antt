@@ -8,11 +8,13 @@ use lib.ListN.{length}
 use Rattle.print_bytes.specs.Writing.{with_bytes, Written}
 use Rattle.merge_lines.specs.Lines.{found_line}
 use Rattle.merge_lines.specs.LinesLaws.{Inside, found_inside}
-use Rattle.merge_lines.specs.declared.LineFound.{LineFound}
+use Rattle.std.specs.Prelude.{Result}
+use Rattle.merge_questions.specs.declared.Blamed.{Blamed}
+use Rattle.merge_lines.specs.declared.LinePlace.{LinePlace}
 use Rattle.wave_line_page.specs.LinePage.{bytes_of, line_page, shown_by, showing}
 use Rattle.wave_line_page.specs.LinePageLaws.{Known, found_known}
 
-module _ (one two : List ℕ) (k : ℕ) (r : LineFound) (q : r ≡ found_line one two k) where
+module _ (one two : List ℕ) (k : ℕ) (r : Result LinePlace Blamed) (q : r ≡ found_line one two k) where
   pub known : Known r
   known = subst Known (sym q) (found_known one two k)
 

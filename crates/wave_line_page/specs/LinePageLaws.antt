@@ -2,7 +2,7 @@
 -- that was capped is taken for no other.
 -- Key idea: where the merge is refused, its verdict alone counts, which the first bytes decide; else both texts are short, so they are their first bytes, and
 -- their loader numbers are none past the greatest.
-use Rattle.std.specs.Prelude.{◌≡◌, Bool, true, false, ◌&&◌, ◌||◌, cond, List, [], ◌∷◌, ℕ, suc, ◌-◌, ◌≤◌, ◌<◌, leb, length, take, drop}
+use Rattle.std.specs.Prelude.{◌≡◌, Bool, true, false, ◌&&◌, ◌||◌, cond, List, [], ◌∷◌, ℕ, suc, ◌-◌, ◌≤◌, ◌<◌, leb, length, take, drop, Result, Ok, Err}
 use Rattle.std.proofs.Math.Path.{refl, ap, ap₂}
 use Rattle.std.proofs.Common.{sym, subst, ◌∙◌, ⊎_elim, arith, leb→le, length-append, length-take, leb-true, leb-false}
 use Rattle.std.proofs.Math.Dec.{T, eqb, eqb→eq}
@@ -24,8 +24,9 @@ use Rattle.merge_laws.proofs.Merged.{first_asked, second_asked, merge_refusals, 
 use Rattle.merge_laws.proofs.Merged as merge
 use Rattle.merge_lines.specs.Lines.{has_loader, questions_of_line, found_line, found_by, place_of}
 use Rattle.merge_lines.specs.LinesLaws.{Inside, found_inside}
-use Rattle.merge_lines.specs.declared.LineFound.{LineFound}
-use Rattle.merge_lines.specs.declared.LineFound.TheVariants as found
+use Rattle.merge_questions.specs.declared.Blamed.{Blamed}
+use Rattle.merge_lines.specs.declared.LinePlace.{LinePlace}
+use Rattle.merge_lines.specs.declared.LinePlace.TheVariants.{First, Second}
 use Rattle.wave_loader.specs.Named.{capped}
 use Rattle.wave_line_page.specs.LinePage.{line_as_is, bytes_of, line_page, shown_by, showing}
 
@@ -34,8 +35,11 @@ or_left true y t = t
 or_left false y t = absurd t
 
 -- ---- a refusal of the merge is one of the line, whatever the loader number
+abbrev blamed_by : List ℕ → List ℕ → ℕ → ℕ → Blamed
+blamed_by one two q n = record { refusal = record { number = q; line = n }; sheet = blamed_sheet one two }
+
 refused_line_lem : (one two : List ℕ) (k q n : ℕ) → first_no (merge_questions one two) ≡ no q n
-    → found_line one two k ≡ found.Refused (record { number = q; line = n }) (blamed_sheet one two)
+    → found_line one two k ≡ Err (blamed_by one two q n)
 unfolding found_line questions_of_line
 refused_line_lem one two k q n e =
     let last = ask 27 0 (has_loader one k || has_loader two k) ∷ [] in
@@ -47,10 +51,9 @@ refused_line_lem one two k q n e =
 abbrev pub asks_line : ℕ → Bool
 asks_line q = asks_merge q || eqb q 27
 
-abbrev pub Known : LineFound → Type 0
-Known (found.Refused f s) = T (asks_line f.number) × (f.number < 100) × (f.line ≤ max_bytes)
-Known (found.First a e) = Unit {0}
-Known (found.Second a e) = Unit {0}
+abbrev pub Known : Result LinePlace Blamed → Type 0
+Known (Err b) = T (asks_line b.refusal.number) × (b.refusal.number < 100) × (b.refusal.line ≤ max_bytes)
+Known (Ok p) = Unit {0}
 
 module _ (one two : List ℕ) (k : ℕ) where
   abbrev last : List Question
@@ -72,18 +75,14 @@ module _ (one two : List ℕ) (k : ℕ) where
           ⊎_elim (λ f. let r = refused_small one two q n f in (or_left (asks_merge q) (eqb q 27) (merge_refusals one two q n f).number_known, r.0, r.1))
           (λ f. by_last q n f.1) (no_of_two (merge_questions one two) last q n e)
 
-      place : (b : Bool) (a c : LineFound) → Known a → Known c → Known (cond b a c)
-      place true a c x y = x
-      place false a c x y = y
-
       go : (v : Verdict) → first_no (questions_of_line one two k) ≡ v → Known (found_by v (blamed_sheet one two) (place_of one two k))
       go (no q n) e = refusable q n e
-      go all_yes e = place (has_loader one k) _ _ tt tt
+      go all_yes e = tt
 
-  pub never_12 : (n s : ℕ) → found_line one two k ≡ found.Refused (record { number = 12; line = n }) s → ⊥
+  pub never_12 : (n s : ℕ) → found_line one two k ≡ Err (record { refusal = record { number = 12; line = n }; sheet = s }) → ⊥
   never_12 n s e = (subst Known e found_known).0
 
-  pub never_15 : (n s : ℕ) → found_line one two k ≡ found.Refused (record { number = 15; line = n }) s → ⊥
+  pub never_15 : (n s : ℕ) → found_line one two k ≡ Err (record { refusal = record { number = 15; line = n }; sheet = s }) → ⊥
   never_15 n s e = (subst Known e found_known).0
 
 -- ---- What is written is no longer than the page.
@@ -95,10 +94,10 @@ line_short text a e h short =
 pub page_short : (one two : List ℕ) (k : ℕ) → length one ≤ suc max_bytes → length two ≤ suc max_bytes → length (line_page one two k) ≤ suc (suc max_bytes)
 page_short one two k h₁ h₂ = go (found_line one two k) (found_known one two k) (found_inside one two k)
   where
-    go : (r : LineFound) → Known r → Inside one two k r → length (bytes_of one two r) ≤ suc (suc max_bytes)
-    go (found.Refused f s) w i = omega (arith, refused_short f.number f.line w.1 (omega (arith, w.2)))
-    go (found.First a e) w i = line_short one a e i.1 h₁
-    go (found.Second a e) w i = line_short two a e i.1 h₂
+    go : (r : Result LinePlace Blamed) → Known r → Inside one two k r → length (bytes_of one two r) ≤ suc (suc max_bytes)
+    go (Err b) w i = omega (arith, refused_short b.refusal.number b.refusal.line w.1 (omega (arith, w.2)))
+    go (Ok (First a e)) w i = line_short one a e i.1 h₁
+    go (Ok (Second a e)) w i = line_short two a e i.1 h₂
 
 -- ---- As many bytes of each text as question 1 allows and one more decide, so that the rest need not be read.
 
@@ -115,7 +114,7 @@ first_bytes_decide one two k = let r = go (first_no (merge_questions one two)) r
         let same = merge.first_bytes_decide one two in
         let cut = refused_line_lem (front one) (front two) k q n (same.0 ∙ e) in
         let all = refused_line_lem one two k q n e in (
-          cut ∙ ap (found.Refused (record { number = q; line = n })) same.1 ∙ sym all,
+          cut ∙ ap (λ (s : ℕ). Err (record { refusal = record { number = q; line = n }; sheet = s })) same.1 ∙ sym all,
           ap (bytes_of (front one) (front two)) cut ∙ sym (ap (bytes_of one two) all),
         )
     go all_yes e =
@@ -132,7 +131,7 @@ none_past text asked k h =
 
 module _ (one two : List ℕ) where
   past_line_lem : (k : ℕ) → max_loader < k → first_no (merge_questions one two) ≡ all_yes
-      → found_line one two k ≡ found.Refused (record { number = 27; line = 0 }) (blamed_sheet one two)
+      → found_line one two k ≡ Err (blamed_by one two 27 0)
   unfolding found_line questions_of_line first_no
   past_line_lem k h e =
       let a = none_past one (first_asked one two e) k h in

@@ -6,17 +6,17 @@ ghost use Rattle.sheet.specs.Sizes.{max_bytes};
 ghost use Rattle.print_bytes.specs.Writing.{with_bytes, Written};
 ghost use Rattle.wave_line_page.specs.LinePage.{line_as_is, line_page, showing};
 
-use merge_lines::LineFound;
+use merge_lines::LinePlace;
 use sheet::Sheet;
 
 // As long as the longest text that the program reads, and a line feed.
 pub const MAX_LINE: usize = Sheet::MAX_BYTES + 2;
 
-// The place just past what was written: a line, or a refusal with which sheet it is of, 0 where it is of neither.
+// The place just past what was written; and where that is a refusal, which sheet it is of, 0 where it is of neither.
 #[derive(Clone, Copy)]
-pub enum Shown {
-    Line(usize),
-    Refused(usize, usize),
+pub struct Shown {
+    pub place: usize,
+    pub blamed: Option<usize>,
 }
 
 // The bytes of a text from start to end, and a line feed.
@@ -33,13 +33,27 @@ pub fn line_page(one: &[u8], two: &[u8], loader: u16, page: &mut [u8; MAX_LINE])
     ensures value { result ≡ showing one.now two.now loader }
     ensures page_after { page.new ≡ with_bytes page.old 0 (line_page one.now two.now loader) }
 {
-    let found = merge_lines::find_line(one, two, loader);
-    match found {
-        LineFound::Refused(refusal, sheet) => {
-            let end = print_lines::put_refusal(page, 0, refusal.number as u16, refusal.line as u16);
-            Shown::Refused(sheet, end)
+    match merge_lines::find_line(one, two, loader) {
+        Err(blamed) => {
+            let refusal = blamed.refusal;
+            let place = print_lines::put_refusal(
+                page,
+                0,
+                refusal.number as u16,
+                refusal.line as u16,
+            );
+            Shown {
+                place,
+                blamed: Some(blamed.sheet),
+            }
         }
-        LineFound::First(start, end) => Shown::Line(put_line(page, one, start, end)),
-        LineFound::Second(start, end) => Shown::Line(put_line(page, two, start, end)),
+        Ok(LinePlace::First(start, end)) => Shown {
+            place: put_line(page, one, start, end),
+            blamed: None,
+        },
+        Ok(LinePlace::Second(start, end)) => Shown {
+            place: put_line(page, two, start, end),
+            blamed: None,
+        },
     }
 }

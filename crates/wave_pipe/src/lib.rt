@@ -6,14 +6,12 @@
 ghost use Rattle.std.specs.Prelude.{◌≤◌};
 ghost use Rattle.sheet.specs.Sizes.{max_bytes};
 
-use convert_lists::Converted;
 use forms::House;
-use merge_text::Merged;
 use print_page::MAX_PAGE;
+use questions::Refusal;
 use wave_faults::MAX_FAULT;
 use wave_inputs::TEXT_BYTES;
-use wave_line_page::{MAX_LINE, Shown};
-use wave_loader::Loader;
+use wave_line_page::MAX_LINE;
 use wave_words::{Asked, MAX_WORD, Query};
 use write_lines::MAX_TEXT;
 
@@ -21,11 +19,11 @@ use write_lines::MAX_TEXT;
 const MAX_DIGITS: usize = 131072;
 
 // What the program was started for: a plan where no word is given.
-fn read_words(rt: &HostRuntime) -> Asked {
+fn read_words(rt: &HostRuntime) -> Option<Asked> {
     let count = wave_files::count_words(rt);
     // The first is the program's own name.
     if count < 2 {
-        return Asked::Answer(House::Ours, Query::Plan);
+        return Some(Asked::Answer(House::Ours, Query::Plan));
     }
     // A longer word comes as none, which asks for nothing.
     let mut word = [0u8; MAX_WORD];
@@ -40,39 +38,32 @@ fn write_page(rt: &HostRuntime, page: &[u8]) {
 }
 
 // Which unit or rule a refusal by 17 or 18 is of, on standard error.
-fn show_fault(rt: &HostRuntime, number: usize, line: usize)
-    requires { line ≤ max_bytes }
+fn show_fault(rt: &HostRuntime, refusal: Refusal)
+    requires { refusal.line ≤ max_bytes }
 {
     let mut words = [0u8; MAX_FAULT];
-    let end = wave_faults::put_fault(&mut words, number, line);
+    let end = wave_faults::put_fault(&mut words, refusal);
     wave_files::say(rt, &words[..end]);
 }
 
 // From standard input to standard output.
 fn answer_pipe(rt: &HostRuntime, house: House, query: Query) {
     let mut text = [0u8; TEXT_BYTES];
-    let input = wave_files::read_stdin(rt, &mut text);
-    if input.failed {
-        return;
+    if let Some(n) = wave_files::read_stdin(rt, &mut text) {
+        let mut page = [0u8; MAX_PAGE];
+        let end = wave_inputs::answer_input(house, query, &text[..n], &mut page);
+        write_page(rt, &page[..end]);
     }
-    let mut page = [0u8; MAX_PAGE];
-    let end = wave_inputs::answer_input(house, query, &text, input.length, &mut page);
-    write_page(rt, &page[..end]);
 }
 
 fn convert_pipe(rt: &HostRuntime, from: House, to: House) {
     let mut text = [0u8; TEXT_BYTES];
-    let input = wave_files::read_stdin(rt, &mut text);
-    if input.failed {
-        return;
-    }
-    let mut page = [0u8; MAX_TEXT];
-    let converted = wave_inputs::convert_input(from, to, &text, input.length, &mut page);
-    match converted {
-        Converted::Sheet(end) => write_page(rt, &page[..end]),
-        Converted::Refused(refusal, end) => {
-            write_page(rt, &page[..end]);
-            show_fault(rt, refusal.number, refusal.line);
+    if let Some(n) = wave_files::read_stdin(rt, &mut text) {
+        let mut page = [0u8; MAX_TEXT];
+        let converted = wave_inputs::convert_input(from, to, &text[..n], &mut page);
+        write_page(rt, &page[..converted.place]);
+        if let Some(refusal) = converted.refusal {
+            show_fault(rt, refusal);
         }
     }
 }
@@ -95,17 +86,12 @@ fn show_blamed(rt: &HostRuntime, sheet: usize, first: usize, second: usize) {
 fn merge_files(rt: &HostRuntime) {
     let mut one = [0u8; TEXT_BYTES];
     let mut two = [0u8; TEXT_BYTES];
-    let inputs = wave_files::read_two(rt, 2, &mut one, 3, &mut two);
-    if inputs.failed {
-        return;
-    }
-    let mut page = [0u8; MAX_TEXT];
-    let merged = wave_inputs::merge_inputs(&one, inputs.first, &two, inputs.second, &mut page);
-    match merged {
-        Merged::Sheet(end) => write_page(rt, &page[..end]),
-        Merged::Refused(_, sheet, end) => {
-            write_page(rt, &page[..end]);
-            show_blamed(rt, sheet, 2, 3);
+    if let Some((n, m)) = wave_files::read_two(rt, 2, &mut one, 3, &mut two) {
+        let mut page = [0u8; MAX_TEXT];
+        let merged = wave_inputs::merge_inputs(&one[..n], &two[..m], &mut page);
+        write_page(rt, &page[..merged.place]);
+        if let Some(blamed) = merged.blamed {
+            show_blamed(rt, blamed.sheet, 2, 3);
         }
     }
 }
@@ -114,23 +100,11 @@ fn merge_files(rt: &HostRuntime) {
 fn find_line(rt: &HostRuntime, loader: u16) {
     let mut one = [0u8; TEXT_BYTES];
     let mut two = [0u8; TEXT_BYTES];
-    let inputs = wave_files::read_two(rt, 3, &mut one, 4, &mut two);
-    if inputs.failed {
-        return;
-    }
-    let mut page = [0u8; MAX_LINE];
-    let shown = wave_inputs::line_inputs(
-        &one,
-        inputs.first,
-        &two,
-        inputs.second,
-        loader,
-        &mut page,
-    );
-    match shown {
-        Shown::Line(end) => write_page(rt, &page[..end]),
-        Shown::Refused(sheet, end) => {
-            write_page(rt, &page[..end]);
+    if let Some((n, m)) = wave_files::read_two(rt, 3, &mut one, 4, &mut two) {
+        let mut page = [0u8; MAX_LINE];
+        let shown = wave_inputs::line_inputs(&one[..n], &two[..m], loader, &mut page);
+        write_page(rt, &page[..shown.place]);
+        if let Some(sheet) = shown.blamed {
             show_blamed(rt, sheet, 3, 4);
         }
     }
@@ -139,14 +113,9 @@ fn find_line(rt: &HostRuntime, loader: u16) {
 fn line_files(rt: &HostRuntime) {
     let mut word = [0u8; MAX_DIGITS];
     let n = wave_files::put_word(rt, 2, &mut word);
-    let named = wave_loader::loader_of(&word[..n]);
-    match named {
-        Loader::Number(loader) => find_line(rt, loader),
-        Loader::NoNumber => wave_files::say_name(
-            rt,
-            b"wave: LOADER must be one or more digits, not ",
-            2,
-        ),
+    match wave_loader::loader_of(&word[..n]) {
+        Some(loader) => find_line(rt, loader),
+        None => wave_files::say_name(rt, b"wave: LOADER must be one or more digits, not ", 2),
     }
 }
 
@@ -161,12 +130,11 @@ fn show_usage(rt: &HostRuntime) {
 }
 
 pub fn run(rt: &HostRuntime) {
-    let asked = read_words(rt);
-    match asked {
-        Asked::Answer(house, query) => answer_pipe(rt, house, query),
-        Asked::Convert(from, to) => convert_pipe(rt, from, to),
-        Asked::Merge => merge_files(rt),
-        Asked::Line => line_files(rt),
-        Asked::Unknown => show_usage(rt),
+    match read_words(rt) {
+        Some(Asked::Answer(house, query)) => answer_pipe(rt, house, query),
+        Some(Asked::Convert(from, to)) => convert_pipe(rt, from, to),
+        Some(Asked::Merge) => merge_files(rt),
+        Some(Asked::Line) => line_files(rt),
+        None => show_usage(rt),
     }
 }
