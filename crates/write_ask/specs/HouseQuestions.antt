@@ -1,6 +1,6 @@
 -- What a house asks of a sheet that goes out as its text: the partner knows no carried unit and no low (docs/RULES.md, "Questions", 17 and 18).
 -- Definitions only.
-use Rattle.std.specs.Prelude.{Bool, cond, List, [], ◌∷◌, map, ℕ, zero, suc, leb, eqb, Option, Some, None}
+use Rattle.std.specs.Prelude.{Bool, cond, List, [], ◌∷◌, map, ℕ, suc, leb, eqb}
 use Rattle.lists.specs.Lists.{every}
 use Rattle.questions.specs.Questions.{Question, ask}
 use Rattle.slots.specs.Slots.{Slot}
@@ -15,11 +15,6 @@ fault_from t i (x ∷ xs) = cond (t x) (fault_from t (suc i) xs) i
 
 abbrev pub first_at_fault : {A : Type 0} → (A → Bool) → List A → ℕ
 first_at_fault t xs = fault_from t 1 xs
-
--- a place, as the line that a question blames: none where it is 0
-abbrev pub line_found : ℕ → Option ℕ
-line_found zero = None
-line_found (suc j) = Some (suc j)
 
 -- a question that is asked of each entry of a list: its line is the first place at fault
 abbrev pub ask_each : {A : Type 0} → ℕ → (A → Bool) → List A → Question

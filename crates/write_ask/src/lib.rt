@@ -1,9 +1,10 @@
 #![tactic(auto)]
 
-ghost use Rattle.std.specs.Prelude.{◌≡◌, [], ◌∷◌, leb};
+ghost use Rattle.std.specs.Prelude.{◌≡◌, [], ◌∷◌, leb, nat_lt};
+ghost use Rattle.std.specs.List.{position};
 ghost use Rattle.questions.specs.Questions.{first_no, verdict_of};
 ghost use Rattle.questions.specs.Numbers.{number_of};
-ghost use Rattle.write_ask.specs.HouseQuestions.{first_at_fault, line_found, ask_each, end_questions};
+ghost use Rattle.write_ask.specs.HouseQuestions.{end_questions};
 ghost use Rattle.write_ask.specs.HouseQuestions as asks;
 
 use forms::House;
@@ -11,24 +12,19 @@ use questions::{Question, Refusal};
 
 // What is asked of a sheet before it goes out as a text of a house.
 
-// The line, counted from 1, of the first number of a list that is past the most allowed, or none.
+// The place of the first number of a list that is past the most allowed, or none.
 fn first_past(xs: &[u16], most: usize) -> Option<usize>
-    ensures { result ≡ line_found (first_at_fault (λ x. leb x most) xs.now) }
+    ensures { result ≡ position (λ x. nat_lt most x) xs.now }
 {
-    for (j, x) in xs.iter().enumerate() {
-        if *x as usize > most {
-            return Some(j + 1);
-        }
-    }
-    None
+    xs.iter().position(|x| most < *x as usize)
 }
 
-// A question that is asked of each number of a list: is it at most so much? The line of the first that is not is to blame.
+// A question that is asked of each number of a list: is it at most so much? The line of the first that is not is to blame; lines are counted from 1.
 fn ask_each(question: Question, xs: &[u16], most: usize) -> Result<(), Refusal>
     ensures { verdict_of result ≡ first_no (asks.ask_each (number_of question) (λ x. leb x most) xs.now ∷ []) }
 {
     match first_past(xs, most) {
-        Some(line) => Err(question.at(line)),
+        Some(place) => Err(question.at(place + 1)),
         None => Ok(()),
     }
 }
