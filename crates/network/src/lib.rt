@@ -16,15 +16,15 @@ pub fn load_row(t: &[i16], m: usize, w: usize, out: &mut [i16])
     ensures { out.new ≡ take w (drop (m * w) t.now) ++ drop w out.old }
 {
     let first = m * w;
-    let last = first + w;
-    lists::copy_list(&t[first..last], out);
+    lists::copy_list(&t[first..first + w], out);
 }
 
-// How many stretches a row has. Two are enough, and the count is a test and no division: so the compiler sees that a second stretch is not empty.
+// How many stretches a row has: two are enough.
 pub fn stretches(w: usize) -> usize
     requires { (0 < w) × (w ≤ max_boundaries) }
     ensures { (w ≤ result * stretch) × (result * stretch < w + stretch) }
 {
+    // stays: by a test, and no `div_ceil`, the compiler sees that a second stretch is not empty.
     if STRETCH < w { 2 } else { 1 }
 }
 
@@ -33,7 +33,7 @@ pub fn stretch_end(b: usize, w: usize) -> usize
     requires { b < w }
     ensures { result ≡ min (b + stretch) w }
 {
-    if w - b < STRETCH { w } else { b + STRETCH }
+    b + STRETCH.min(w - b)
 }
 
 // The row step: each entry becomes the smaller of itself and the sum over the middle boundary. Every entry is stored, so that no branch is left.
@@ -41,6 +41,7 @@ pub fn relax_row(row: &mut [i16], mid: &[i16], am: i16)
     requires { (length row.old ≤ length mid.now) × SumsFit am mid.now }
     ensures { row.new ≡ relaxed am mid.now row.old }
 {
+    // stays: of what is written through a zip's `iter_mut` a proof knows the length alone.
     for b in 0..row.len() {
         row[b] = row[b].min(am + mid[b]);
     }
