@@ -2,94 +2,55 @@
 
 ghost use Rattle.std.specs.Prelude.{◌≡◌};
 ghost use Rattle.questions.specs.Questions.{first_no, verdict_of};
-ghost use Rattle.sheet.specs.Lists.{written_lists, given_by};
+ghost use Rattle.sheet.specs.Lists.{given_by};
 ghost use Rattle.plan_rooms.specs.Rooms.{rooms_fit};
 ghost use Rattle.plan_ask.specs.Questions.{list_questions, refusal_by};
 
 use plan_rooms::Lengths;
-use questions::{Checked, Refusal};
+use questions::{Question, Refusal};
+use sheet::{Sheet, WrittenLists};
 
 // What is asked of the lists, in its order: the first no, or none. No line is to blame. Every call asks this, and then for rooms of its own.
-pub fn ask_lists(
-    span: usize,
-    loader: &[u16],
-    first: &[u16],
-    last: &[u16],
-    from: &[u16],
-    to: &[u16],
-    low: &[u16],
-    high: &[u16],
-) -> Checked
-    ensures { verdict_of result ≡ first_no (list_questions (written_lists span loader.now first.now last.now
-        from.now to.now low.now high.now)) }
+pub fn ask_lists(lists: &WrittenLists<'_>) -> Result<(), Refusal>
+    ensures { verdict_of result ≡ first_no (list_questions lists.now) }
 {
-    if plan_lists::all_agree(loader, first, last, from, to, low, high) {} else {
-        return Checked::No(Refusal {
-            number: 13,
-            line: 0,
-        });
+    if !plan_lists::all_agree(lists) {
+        return Err(Question::ListLengths.refused());
     }
-    if sheet::is_span(span) {} else {
-        return Checked::No(Refusal { number: 6, line: 0 });
+    let l = &lists.constraints;
+    if !sheet::is_span(l.span) {
+        return Err(Question::Span.refused());
     }
-    if sheet::Sheet::MAX_UNITS < first.len() {
-        return Checked::No(Refusal { number: 9, line: 0 });
+    if l.first.len() > Sheet::MAX_UNITS {
+        return Err(Question::Units.refused());
     }
-    if sheet::Sheet::MAX_RULES < from.len() {
-        return Checked::No(Refusal {
-            number: 10,
-            line: 0,
-        });
+    if l.from.len() > Sheet::MAX_RULES {
+        return Err(Question::Rules.refused());
     }
-    let carried = sheet::carried_place(span);
-    if plan_lists::all_rise(1, span, carried, first, last) {} else {
-        return Checked::No(Refusal { number: 7, line: 0 });
+    if !plan_lists::all_rise(1, l.span, sheet::carried_place(l.span), l.first, l.last) {
+        return Err(Question::Stretch.refused());
     }
-    if plan_lists::all_rise(1, span, span, from, to) {} else {
-        return Checked::No(Refusal { number: 7, line: 0 });
+    if !plan_lists::all_rise(1, l.span, l.span, l.from, l.to) {
+        return Err(Question::Stretch.refused());
     }
-    if loaders::all_new(loader) {} else {
-        return Checked::No(Refusal {
-            number: 16,
-            line: 0,
-        });
+    if !loaders::all_new(lists.loader) {
+        return Err(Question::Loader.refused());
     }
-    let most = sheet::Sheet::MAX_COUNT;
-    if plan_lists::all_rise(0, most, most, low, high) {
-        Checked::Yes
-    } else {
-        Checked::No(Refusal { number: 8, line: 0 })
+    if !plan_lists::all_rise(0, Sheet::MAX_COUNT, Sheet::MAX_COUNT, l.low, l.high) {
+        return Err(Question::Counts.refused());
     }
+    Ok(())
 }
 
 // What a call asks: the lists first, and then for the rooms that it lends.
-pub fn ask(
-    span: usize,
-    loader: &[u16],
-    first: &[u16],
-    last: &[u16],
-    from: &[u16],
-    to: &[u16],
-    low: &[u16],
-    high: &[u16],
-    rooms: Lengths,
-) -> Checked
-    ensures { let l = written_lists span loader.now first.now last.now
-        from.now to.now low.now high.now in
-        verdict_of result ≡ refusal_by l (rooms_fit (given_by l) rooms) }
+pub fn ask(lists: &WrittenLists<'_>, rooms: Lengths) -> Result<(), Refusal>
+    ensures { verdict_of result ≡ refusal_by lists.now (rooms_fit (given_by lists.now) rooms) }
 {
-    let asked = ask_lists(span, loader, first, last, from, to, low, high);
-    match asked {
-        Checked::No(refusal) => Checked::No(refusal),
-        Checked::Yes => {
-            if plan_rooms::rooms_fit(sheet::boundaries(span), first.len(), rooms) {
-                Checked::Yes
-            } else {
-                Checked::No(Refusal {
-                    number: 12,
-                    line: 0,
-                })
-            }
-        }
+    ask_lists(lists)?;
+    let l = &lists.constraints;
+    if plan_rooms::rooms_fit(sheet::boundaries(l.span), l.first.len(), rooms) {
+        Ok(())
+    } else {
+        Err(Question::Rooms.refused())
     }
 }

@@ -1,107 +1,71 @@
 #![tactic(auto)]
 
 ghost use Rattle.std.specs.Prelude.{◌≡◌};
-ghost use Rattle.sheet.specs.Questions.{sheet_of};
-ghost use Rattle.sheet.specs.Lists.{listed, given};
+ghost use Rattle.sheet.specs.Lists.{given};
 ghost use Rattle.plan_rooms.specs.Rooms.{lent, decide_rooms, seat_rooms, plan_lent, decide_lent, seat_lent, rooms_fit};
 ghost use Rattle.plan_ask.specs.Asking.{Solvable};
 ghost use Rattle.plan_steps.specs.Closing.{passed};
 ghost use Rattle.plan_answers.specs.Planning.{by_pass, looked_by, Settled, DecideSettled, SeatSettled};
 ghost use Rattle.plan_answers.specs.Reply.{fit_reply, seated_reply, seated_looks};
 
-use plan_answers::{Fit, SeatOutcome};
+use network_pass::NegativeCycle;
+use plan_answers::{Fit, Ring};
+use sheet::Lists;
 
 // Whether a sheet of which every question is answered yes fits: the finished table, or none and a ring.
-pub fn decide(
-    span: usize,
-    first: &[u16],
-    last: &[u16],
-    from: &[u16],
-    to: &[u16],
-    low: &[u16],
-    high: &[u16],
-    table: &mut [i16],
-    ring: &mut [u16],
-) -> Fit
-    requires { let l = listed span first.now last.now from.now to.now low.now high.now in
-        Solvable l (rooms_fit (given l) (decide_lent (decide_rooms table.old ring.old))) }
-    ensures { let s = sheet_of span first.now last.now from.now to.now low.now high.now in
+pub fn decide(lists: &Lists<'_>, table: &mut [i16], ring: &mut [u16]) -> Fit
+    requires { Solvable lists.now (rooms_fit (given lists.now) (decide_lent (decide_rooms table.old ring.old))) }
+    ensures { let s = given lists.now in
         DecideSettled (by_pass (passed s)) s (decide_rooms table.old ring.old) (fit_reply result)
         (decide_rooms table.new ring.new) }
 {
-    let outcome = plan_steps::close_limits(span, first, last, from, to, low, high, table);
-    match outcome {
-        network_pass::Outcome::Stopped => {
-            let n = plan_steps::find_ring(span, first, last, from, to, low, high, table, ring);
-            Fit::None(n)
-        }
-        network_pass::Outcome::Finished => Fit::Fits,
+    match plan_steps::close_limits(lists, table) {
+        Ok(()) => Ok(()),
+        Err(NegativeCycle) => Err(Ring {
+            length: plan_steps::find_ring(lists, table, ring),
+        }),
     }
 }
 
-// The seats of a sheet of which every question is answered yes, and its narrowed windows, or none. The table is worked out from the lists, whatever its room
-// held.
+// The seats of a sheet of which every question is answered yes, and its narrowed windows, and how many units were looked at, or none. The table is worked
+// out from the lists, whatever its room held.
 pub fn seat(
-    span: usize,
-    first: &[u16],
-    last: &[u16],
-    from: &[u16],
-    to: &[u16],
-    low: &[u16],
-    high: &[u16],
+    lists: &Lists<'_>,
     table: &mut [i16],
     plan: &mut [u16],
     earliest: &mut [u16],
     latest: &mut [u16],
-) -> SeatOutcome
-    requires { let l = listed span first.now last.now from.now to.now low.now high.now in
-        Solvable l (rooms_fit (given l) (seat_lent (seat_rooms table.old plan.old earliest.old latest.old))) }
-    ensures settled { let s = sheet_of span first.now last.now from.now to.now low.now high.now in
+) -> Option<usize>
+    requires { Solvable lists.now (rooms_fit (given lists.now) (seat_lent (seat_rooms table.old plan.old earliest.old latest.old))) }
+    ensures settled { let s = given lists.now in
         SeatSettled (by_pass (passed s)) s (seat_rooms table.old plan.old earliest.old latest.old) (seated_reply result)
         (seat_rooms table.new plan.new earliest.new latest.new) }
-    ensures looked { let s = sheet_of span first.now last.now from.now to.now low.now high.now in
+    ensures looked { let s = given lists.now in
         seated_looks result ≡ looked_by (by_pass (passed s)) s }
 {
-    let outcome = plan_steps::close_limits(span, first, last, from, to, low, high, table);
-    match outcome {
-        network_pass::Outcome::Stopped => SeatOutcome::None,
-        network_pass::Outcome::Finished => {
-            let w = sheet::boundaries(span);
-            let looked = plan_steps::fill_plan(w, first, last, table, plan, earliest, latest);
-            SeatOutcome::Plan(looked)
-        }
-    }
+    plan_steps::close_limits(lists, table).ok()?;
+    let w = sheet::boundaries(lists.span);
+    let looked = plan_steps::fill_plan(w, lists.first, lists.last, table, plan, earliest, latest);
+    Some(looked)
 }
 
 // A plan in the rooms for a sheet of which every question is answered yes, or none and a ring.
 pub fn solve(
-    span: usize,
-    first: &[u16],
-    last: &[u16],
-    from: &[u16],
-    to: &[u16],
-    low: &[u16],
-    high: &[u16],
+    lists: &Lists<'_>,
     table: &mut [i16],
     plan: &mut [u16],
     earliest: &mut [u16],
     latest: &mut [u16],
     ring: &mut [u16],
 ) -> Fit
-    requires { let l = listed span first.now last.now from.now to.now low.now high.now in
-        Solvable l (rooms_fit (given l) (plan_lent (lent table.old plan.old earliest.old latest.old ring.old))) }
-    ensures { let s = sheet_of span first.now last.now from.now to.now low.now high.now in
+    requires { Solvable lists.now (rooms_fit (given lists.now) (plan_lent (lent table.old plan.old earliest.old latest.old ring.old))) }
+    ensures { let s = given lists.now in
         Settled (by_pass (passed s)) s
         (lent table.old plan.old earliest.old latest.old ring.old) (fit_reply result)
         (lent table.new plan.new earliest.new latest.new ring.new) }
 {
-    let fit = decide(span, first, last, from, to, low, high, table, ring);
-    match fit {
-        Fit::None(n) => Fit::None(n),
-        Fit::Fits => {
-            let w = sheet::boundaries(span);
-            plan_steps::fill_plan(w, first, last, table, plan, earliest, latest);
-            Fit::Fits
-        }
-    }
+    decide(lists, table, ring)?;
+    let w = sheet::boundaries(lists.span);
+    plan_steps::fill_plan(w, lists.first, lists.last, table, plan, earliest, latest);
+    Ok(())
 }

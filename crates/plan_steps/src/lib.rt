@@ -3,28 +3,21 @@
 ghost use Rattle.std.specs.Prelude.{◌≡◌, ◌++◌, ◌≤◌, length, drop};
 ghost use Rattle.network_pass.specs.Pass.{stopped};
 ghost use Rattle.sheet.specs.Sheet.{Sheet, printed_plan, looked, boundaries};
-ghost use Rattle.sheet.specs.Questions.{sheet_of};
-ghost use Rattle.limits.specs.LimitTable.{Fillable};
+ghost use Rattle.sheet.specs.Lists.{given};
+ghost use Rattle.limits.specs.LimitTable.{CanFill};
 ghost use Rattle.plan_steps.specs.Closing.{passed, Closed, RingFound};
 ghost use Rattle.plan_steps.specs.Filling.{Ready, PlanFilled};
 
+use network_pass::NegativeCycle;
+use sheet::Lists;
+
 // The limits of all steps, and the pass over them.
-pub fn close_limits(
-    span: usize,
-    first: &[u16],
-    last: &[u16],
-    from: &[u16],
-    to: &[u16],
-    low: &[u16],
-    high: &[u16],
-    table: &mut [i16],
-) -> network_pass::Outcome
-    requires { Fillable span first.now last.now from.now to.now low.now high.now (length table.old) }
-    ensures { let s = sheet_of span first.now last.now from.now to.now low.now high.now in
-        Closed s table.old result table.new }
+pub fn close_limits(lists: &Lists<'_>, table: &mut [i16]) -> Result<(), NegativeCycle>
+    requires { CanFill lists.now (length table.old) }
+    ensures { Closed (given lists.now) table.old result table.new }
 {
-    limits::fill::fill_limits(span, first, last, from, to, low, high, table);
-    network_passes::pass(table, sheet::boundaries(span))
+    limits::fill::fill_limits(lists, table);
+    network_passes::pass(table, sheet::boundaries(lists.span))
 }
 
 // The printed plan, from row 0 of the finished table. Answers how many units were looked at.
@@ -37,25 +30,13 @@ fn seat_units(w: usize, first: &[u16], last: &[u16], table: &[i16], plan: &mut [
 }
 
 // A ring of the sheet's own limits, where the pass has stopped: its length. The table's places are 0 again after it.
-pub fn find_ring(
-    span: usize,
-    first: &[u16],
-    last: &[u16],
-    from: &[u16],
-    to: &[u16],
-    low: &[u16],
-    high: &[u16],
-    table: &mut [i16],
-    ring: &mut [u16],
-) -> usize
-    requires { let s = sheet_of span first.now last.now from.now to.now low.now high.now in
-        Fillable span first.now last.now from.now to.now low.now high.now (length table.old)
-        × (boundaries s ≤ length ring.old) × (passed s ≡ stopped) }
-    ensures { let s = sheet_of span first.now last.now from.now to.now low.now high.now in
-        RingFound s table.old ring.old result table.new ring.new }
+pub fn find_ring(lists: &Lists<'_>, table: &mut [i16], ring: &mut [u16]) -> usize
+    requires { let s = given lists.now in
+        CanFill lists.now (length table.old) × (boundaries s ≤ length ring.old) × (passed s ≡ stopped) }
+    ensures { RingFound (given lists.now) table.old ring.old result table.new ring.new }
 {
-    let w = sheet::boundaries(span);
-    limits::fill::fill_limits(span, first, last, from, to, low, high, table);
+    let w = sheet::boundaries(lists.span);
+    limits::fill::fill_limits(lists, table);
     let n = network_cycles::negative_cycle(table, w, ring);
     network::clear(w * w, table);
     n
