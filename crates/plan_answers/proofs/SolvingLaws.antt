@@ -1,17 +1,15 @@
 -- From the pass's outcome to what a call leaves: none, with a ring or without, or a plan.
 -- Key idea: the outcome says which pass it was, and so which conclusion the rooms are left by; deciding comes first, and what it leaves is all that seats
 -- are filled in by.
-use Rattle.std.specs.Prelude.{◌≡◌, Bool, List, ◌++◌, ℕ, ◌*◌, ◌≤◌, length, drop, replicate, ℤ, pos}
+use Rattle.std.specs.Prelude.{◌≡◌, Bool, List, ◌++◌, ℕ, ◌*◌, ◌≤◌, length, drop, replicate, ℤ, pos, Ok, Err}
 use Rattle.std.proofs.Math.Path.{refl}
 use Rattle.std.proofs.Common.{sym, ap, ap₂, ◌∙◌, subst, arith, length-append, length-drop, drop_at}
 use Rattle.std.proofs.lemmas.List.{length-replicate}
 use Rattle.network.specs.Table.{entry, cleared}
-use Rattle.network_pass.specs.Pass.{Passed, finished, stopped, outcome_of}
-use Rattle.network_pass.specs.declared.Outcome.{Outcome}
-use Rattle.network_pass.specs.declared.Outcome.TheVariants.{Finished, Stopped}
+use Rattle.network_pass.specs.Pass.{Passed, finished, stopped, Outcome, outcome_of}
 use Rattle.sheet.specs.Sizes.{boundaries_of}
 use Rattle.sheet.specs.Sheet.{Sheet, boundaries}
-use Rattle.limits.specs.LimitTable.{Fillable}
+use Rattle.limits.specs.LimitTable.{CanFill}
 use Rattle.limit_places.specs.LentTableLaws.{cleared_length}
 use Rattle.sheet.specs.Questions.{windows_of, sheet_of}
 use Rattle.sheet.proofs.QuestionLaws.{Agree, windows_of_length, accepted_valid}
@@ -31,11 +29,11 @@ use Rattle.plan_answers.specs.Reply as says
 use Rattle.sheet.specs.Solved.{Solved}
 
 -- ---- which pass had the outcome
-is_finished : (p : Passed) → Finished ≡ outcome_of p → (t : List ℤ) × (p ≡ finished t)
+is_finished : (p : Passed) → Ok tt ≡ outcome_of p → (t : List ℤ) × (p ≡ finished t)
 is_finished (finished t) e = (t, refl)
 is_finished stopped e = let z : ◌≡◌ {A = ℕ} 0 1 = cc in absurd (omega arith)
 
-is_stopped : (p : Passed) → Stopped ≡ outcome_of p → p ≡ stopped
+is_stopped : (p : Passed) → Err (record {}) ≡ outcome_of p → p ≡ stopped
 is_stopped (finished t) e = let z : ◌≡◌ {A = ℕ} 0 1 = cc in absurd (omega arith)
 is_stopped stopped e = refl
 
@@ -57,7 +55,7 @@ module _ (l : Lists) (fit : Bool) (S : Solvable l fit) (room : List ℤ) (big : 
   units_length : length s.units ≡ length l.first
   units_length = ap length units_are ∙ windows_of_length l.first l.last lists.windows
 
-  pub limits_asked : Fillable l.span l.first l.last l.from l.to l.low l.high (length room)
+  pub limits_asked : CanFill l (length room)
   limits_asked = record { agree = S.lists; ok = S.sheet; fits = big }
 
   -- rooms for seats, by the units' list
@@ -99,14 +97,14 @@ module _ (l : Lists) (fit : Bool) (S : Solvable l fit) (room : List ℤ) (big : 
 
   -- ---- the pass, closed
   module _ (r : Outcome) (table : List ℤ) (d : Closed s room r table) where
-    module _ (e : r ≡ Stopped) where
+    module _ (e : r ≡ Err (record {})) where
       pub halted : passed s ≡ stopped
       halted = is_stopped (passed s) (sym e ∙ d.outcome)
 
       table_cleared : table ≡ cleared (places s) room
       table_cleared = d.table ∙ ap (λ (p : Passed). table_left s p room) halted
 
-      pub ring_asked : (n : ℕ) → boundaries s ≤ n → Fillable l.span l.first l.last l.from l.to l.low l.high (length table)
+      pub ring_asked : (n : ℕ) → boundaries s ≤ n → CanFill l (length table)
           × (boundaries s ≤ n) × (passed s ≡ stopped)
       ring_asked n long =
           let k = cleared_length (places s) room big in
@@ -129,7 +127,7 @@ module _ (l : Lists) (fit : Bool) (S : Solvable l fit) (room : List ℤ) (big : 
       pub none_looked : 0 ≡ looked_by (by_pass (passed s)) s
       none_looked = ap (λ (p : Passed). looked_by (by_pass p) s) (sym halted)
 
-    module _ (e : r ≡ Finished) where
+    module _ (e : r ≡ Ok tt) where
       pub closed_table : (t : List ℤ) × (passed s ≡ finished t) × (table ≡ table_in s t room)
       closed_table =
           let f = is_finished (passed s) (sym e ∙ d.outcome) in

@@ -1,8 +1,7 @@
 -- The pass over a sheet's limits, and the table that it leaves in the room lent for it. Definitions only.
-use Rattle.std.specs.Prelude.{◌≡◌, List, ◌++◌, ℕ, T, length, drop, ℤ, Result}
-use Rattle.network_pass.specs.Pass.{Passed, finished, stopped, pass_of, outcome_of}
+use Rattle.std.specs.Prelude.{◌≡◌, List, ◌++◌, ℕ, T, length, drop, ℤ}
+use Rattle.network_pass.specs.Pass.{Passed, finished, stopped, pass_of, Outcome, outcome_of}
 use Rattle.network.specs.Table.{table_of, cleared}
-use Rattle.network_pass.specs.declared.NegativeCycle.{NegativeCycle}
 use Rattle.sheet.specs.Sheet.{Sheet, boundaries, limit, is_ring}
 use Rattle.plan_rooms.specs.Rooms.{places}
 
@@ -15,7 +14,7 @@ table_left s (finished t) room = t ++ drop (places s) room
 table_left s stopped room = cleared (places s) room
 
 -- the pass over the limits of s, in a room lent
-pub record Closed (s : Sheet) (before : List ℤ) (r : Result (Unit {0}) NegativeCycle) (after : List ℤ) : Type 0 where
+pub record Closed (s : Sheet) (before : List ℤ) (r : Outcome) (after : List ℤ) : Type 0 where
   pub outcome : r ≡ outcome_of (passed s)
   pub table : after ≡ table_left s (passed s) before
 

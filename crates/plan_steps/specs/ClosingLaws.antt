@@ -2,11 +2,10 @@
 use Rattle.std.specs.Prelude.{◌≡◌, refl, List, ◌++◌, ℕ, ◌*◌, ◌≤◌, T, length, drop, replicate, ℤ, pos}
 use Rattle.std.proofs.Common.{sym, ap, ◌∙◌, subst, arith, drop_at}
 use Rattle.network.specs.Table.{max_boundaries, table_of, cleared}
-use Rattle.network_pass.specs.Pass.{Passed, finished, stopped, pass_of, outcome_of, table_after, After}
+use Rattle.network_pass.specs.Pass.{Passed, finished, stopped, pass_of, Outcome, outcome_of, table_after, After}
 use Rattle.network.proofs.TableLaws.{length_table_of}
 use Rattle.network_pass.specs.PassFront.{with_rest, pass_front}
 use Rattle.network_pass.specs.PassBounds.{Limited}
-use Rattle.network_pass.specs.declared.Outcome.{Outcome}
 use Rattle.sheet.specs.Sizes.{boundaries_of}
 use Rattle.sheet.specs.Sheet.{Sheet, limit, boundaries}
 use Rattle.sheet.specs.Questions.{accepted}
