@@ -1,14 +1,14 @@
 -- The levels, row by row, and what is read from them.
--- Key idea: row k + 1 is made from a copy of row k by the steps from each boundary, and the rows above it stay. A search among the rows finds what the laws of
+-- Key idea: row k + 1 is made from row k by the steps from each boundary, and the rows above it stay. A search among the rows finds what the laws of
 -- levels say is there: a boundary that fell, and one from which a level came.
 use Prim.Native.Nat.{ℕ, zero, suc, ◌+◌, ◌-◌, ◌*◌, ◌≤◌, ◌<◌}
 use native.Mathlib.Omega.{arith}
-use Rattle.std.proofs.Common.{mul-le-mul_right, subst, ◌∙◌, length-take, drop_of_length-le, get_or-take, SFits}
+use Rattle.std.proofs.Common.{mul-le-mul_right, subst, ◌∙◌, length-take, get_or-take, SFits}
 use Rattle.std.proofs.Math.Decide.{dec_le}
 use Rattle.std.specs.Prelude.{◌≡◌, refl, Bool, true, false, take, drop, replicate, pos, ◌+ℤ◌}
 use Rattle.std.proofs.Math.Path.{sym, ap}
-use mathlib.Core.List.{List, ◌++◌, append-nil}
-use Rattle.std.proofs.Math.ListN.{length, get_or, get_or-append}
+use mathlib.Core.List.{List}
+use Rattle.std.proofs.Math.ListN.{length, get_or}
 use Rattle.std.proofs.Math.IntN.{ℤ}
 use Rattle.std.specs.Int.Signed.{lt_z}
 use Rattle.std.specs.Int.{w16}
@@ -23,32 +23,27 @@ use Rattle.network_levels.specs.LevelLaws.{least_same, level_step, level_source,
 use Rattle.network_levels.specs.Finder.{StepsFit, LevelsUpTo, Weighed, Leveled, Fallen, Source}
 use Rattle.network_levels.specs.LevelRange.{level_sum_fits}
 
-pub copied_whole : (xs ys : List ℤ) → length ys ≤ length xs → xs ++ drop (length xs) ys ≡ xs
-copied_whole xs ys h = ap (λ (l : List ℤ). xs ++ l) (drop_of_length-le ys h) ∙ append-nil xs
-
 -- a place in a row above row k
 above_row : (w i k v : ℕ) → i < k → v < w → i * w + v < k * w
 above_row w i k v h l = let q : (i + 1) * w ≤ k * w = mul-le-mul_right w (omega arith) in omega arith
 
--- ---- row k, copied
-pub record Copied (w k : ℕ) (d xs : List ℤ) : Type 0 where
-  pub long : length xs ≡ w
-  pub at : (j : ℕ) → j < w → get_or xs j (pos 0) ≡ level w (entry w d) k j
+-- ---- row k, as the list prev
+pub record RowOf (w k : ℕ) (d prev : List ℤ) : Type 0 where
+  pub long : length prev ≡ w
+  pub at : (j : ℕ) → j < w → get_or prev j (pos 0) ≡ level w (entry w d) k j
 
-pub row_copied : (w k n : ℕ) (d levels copy old : List ℤ) → n ≡ w → k * w + n ≤ length levels → w ≤ length copy
-    → copy ≡ take n (drop (k * w) levels) ++ drop (length (take n (drop (k * w) levels))) old → LevelsUpTo w d levels k → Copied w k d (take w copy)
-row_copied w k n d levels copy old size fits room made v = record {
-  long = omega (arith, length-take w copy);
-  at = λ j h.
-      let xs = take n (drop (k * w) levels) in
-      get_or-take w copy j (pos 0) h ∙ ap (λ (x : List ℤ). get_or x j (pos 0)) made
-      ∙ get_or-append xs (drop (length xs) old) (pos 0) j (omega (arith, part_length (k * w) n levels fits))
-      ∙ part_at (k * w) n levels (pos 0) j (omega arith) ∙ v k j (omega arith) h;
+-- the last row of the levels that are made
+pub last_row : (w k n : ℕ) (d levels made : List ℤ) → made ≡ take (k * w + w) levels → n ≡ w → k * w + w ≤ length levels → LevelsUpTo w d levels k
+    → RowOf w k d (take n (drop (k * w) made))
+last_row w k n d levels made e size fits v = record {
+  long = omega (arith, part_length (k * w) n made (omega (arith, ap length e, length-take (k * w + w) levels)));
+  at = λ j h. part_at (k * w) n made (pos 0) j (omega arith) ∙ ap (λ (x : List ℤ). get_or x (k * w + j) (pos 0)) e
+      ∙ get_or-take (k * w + w) levels (k * w + j) (pos 0) (omega arith) ∙ v k j (omega arith) h;
 }
 
-module _ {w k : ℕ} {d prev : List ℤ} (c : Copied w k d prev) where
-  pub copied_sums : Weighed w d → k < w → StepsFit w d prev
-  copied_sums q h a b ha hb =
+module _ {w k : ℕ} {d prev : List ℤ} (c : RowOf w k d prev) where
+  pub row_sums_fit : Weighed w d → k < w → StepsFit w d prev
+  row_sums_fit q h a b ha hb =
       subst (λ (x : ℤ). SFits w16 (x +ℤ entry w d a b)) (sym (c.at a ha)) (level_sum_fits w d q.small k a b (omega (arith, q.few)) ha hb)
 
   -- row k + 1 is made
