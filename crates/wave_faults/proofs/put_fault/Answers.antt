@@ -37,26 +37,27 @@ pub put_one_number-requires : goal.put_one_number-requires
 unfolding text
 put_one_number-requires c = room (text "unit ") _ _ refl c.requires c.told-words
 
-pub put_one_number-requires-in-18 : goal.put_one_number-requires-in-18
+pub put_one_number-requires-then-refusal-number-2 : goal.put_one_number-requires-then-refusal-number-2
 unfolding text
-put_one_number-requires-in-18 c = room (text "rule ") _ _ refl c.requires c.told-words
+put_one_number-requires-then-refusal-number-2 c = room (text "rule ") _ _ refl c.requires c.told-words
 
-pub returns-in-17-clause-written : goal.returns-in-17-clause-written
+pub returns-then-refusal-number-clause-written : goal.returns-then-refusal-number-clause-written
 unfolding text
-returns-in-17-clause-written c = as_unit _ _ _ _ _ c.in-17.is c.put_one_number.ensures
+returns-then-refusal-number-clause-written c = as_unit _ _ _ _ _ (omega arith) c.put_one_number.ensures
 
-pub returns-in-17-clause-upper_bound : goal.returns-in-17-clause-upper_bound
+pub returns-then-refusal-number-clause-upper_bound : goal.returns-then-refusal-number-clause-upper_bound
 unfolding text
-returns-in-17-clause-upper_bound c = inside _ _ _ _ (room (text "unit ") c.args.line c.args.words.now refl c.requires c.told-words) c.put_one_number.ensures
+returns-then-refusal-number-clause-upper_bound c =
+    inside _ _ _ _ (room (text "unit ") c.args.refusal.line c.args.words.now refl c.requires c.told-words) c.put_one_number.ensures
 
-pub returns-in-18-clause-written : goal.returns-in-18-clause-written
+pub returns-then-refusal-number-2-clause-written : goal.returns-then-refusal-number-2-clause-written
 unfolding text
-returns-in-18-clause-written c = as_rule _ _ _ _ _ c.in-18.is c.put_one_number-in-18.ensures
+returns-then-refusal-number-2-clause-written c = as_rule _ _ _ _ _ (omega arith) c.put_one_number-then-refusal-number-2.ensures
 
-pub returns-in-18-clause-upper_bound : goal.returns-in-18-clause-upper_bound
+pub returns-then-refusal-number-2-clause-upper_bound : goal.returns-then-refusal-number-2-clause-upper_bound
 unfolding text
-returns-in-18-clause-upper_bound c =
-    inside _ _ _ _ (room (text "rule ") c.args.line c.args.words.now refl c.requires c.told-words) c.put_one_number-in-18.ensures
+returns-then-refusal-number-2-clause-upper_bound c =
+    inside _ _ _ _ (room (text "rule ") c.args.refusal.line c.args.words.now refl c.requires c.told-words) c.put_one_number-then-refusal-number-2.ensures
 
-pub returns-in_default-clause-written : goal.returns-in_default-clause-written
-returns-in_default-clause-written c = as_none _ _ _ (λ e. omega arith) (λ e. omega arith)
+pub returns-else-refusal-number-2-clause-written : goal.returns-else-refusal-number-2-clause-written
+returns-else-refusal-number-2-clause-written c = as_none _ _ _ (λ e. omega arith) (λ e. omega arith)

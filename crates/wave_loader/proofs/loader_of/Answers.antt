@@ -1,18 +1,21 @@
-use Rattle.std.proofs.Common.{arith, sym, ◌∙◌}
+-- A byte that is no digit ends the word's naming of a number; each digit is one step of the number so far.
+use Rattle.std.proofs.Common.{◌≡◌, arith, rules, sym, ◌∙◌, true, get_or}
+use Rattle.forms.specs.Form.{is_digit}
 use Rattle.wave_loader.proofs.LoaderLaws.{some_named, none_named, digit_here, all_named}
 use Rattle.wave_loader.proofs.loader_of.Goals as goal
 
-pub returns-then-word-eq0 : goal.returns-then-word-eq0
-returns-then-word-eq0 c = sym (none_named _ c.if-word-eq0.true)
+pub returns-then-is_empty : goal.returns-then-is_empty
+returns-then-is_empty c = sym (none_named _ (search rules))
 
-pub loop-i-init : goal.loop-i-init
-loop-i-init c = (omega arith, some_named _ c.if-word-eq0.false)
+pub loop-b-init : goal.loop-b-init
+loop-b-init c = (omega arith, some_named _ (search rules))
 
-pub loop-i-preserved : goal.loop-i-preserved
-loop-i-preserved c =
-    let l = c.loop-i in
+pub loop-b-preserved : goal.loop-b-preserved
+loop-b-preserved c =
+    let l = c.loop-b in
     let e = c.with_digit-number.ensures in
-    (omega (arith, e), l.invariant.1 ∙ digit_here _ l.number l.i (omega arith) _ (sym c.is_digit.ensures ∙ c.if-not-is_digit.false) e)
+    let digit : is_digit (get_or c.args.word.now l.b-index 0) ≡ true = search rules in
+    (omega (arith, e), l.invariant.1 ∙ digit_here _ l.number l.b-index (omega arith) _ digit e)
 
 pub returns : goal.returns
-returns c = let l = c.loop-i in sym (l.invariant.1 ∙ all_named _ l.number l.i (omega arith) l.invariant.0)
+returns c = let l = c.loop-b in sym (l.invariant.1 ∙ all_named _ l.number l.b-index (omega arith) l.invariant.0)
