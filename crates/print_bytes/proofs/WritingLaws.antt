@@ -1,17 +1,17 @@
 -- Laws of writing in order.
 -- Key idea: while something is written piece by piece, what is left to write, written from the present place on, gives the whole page. `Pending` says
--- so, and one law takes it over each piece: the same for a byte, a word, a number, a line and all lines of a page. What is written by two calls has the
--- laws `first_room`, `second_room` and `both_written`.
-use Rattle.std.specs.Prelude.{◌≡◌, refl, List, [], ◌∷◌, ◌++◌, map, ℕ, suc, ◌+◌, ◌-◌, ◌/◌, ◌%◌, ◌≤◌, ◌<◌, length, set, take, drop, replicate}
-use Rattle.std.proofs.Common.{sym, ap, ap₂, ◌∙◌, subst, append_assoc, append-nil, arith, add-one, length-append, length-set, length-take-le, take_at, drop_at}
+-- so, and one law takes it over each piece: the same for a word, a number, a line and all lines of a page. What is written by two calls has the
+-- laws `first_room`, `second_room` and `both_written`, and a line that is written pair by pair those of `LineLeft`.
+use Rattle.std.specs.Prelude.{◌≡◌, refl, List, [], ◌∷◌, ◌++◌, map, ℕ, suc, ◌+◌, ◌-◌, ◌≤◌, ◌<◌, length, take, drop, replicate}
+use Rattle.std.proofs.Common.{sym, ap, ap₂, ◌∙◌, subst, append_assoc, append-nil, arith, add-one, length-append, length-take-le, take_at, drop_at}
 use Rattle.std.proofs.lemmas.List.{length-replicate}
 use Rattle.std.proofs.lemmas.List.Edits.{sets, sets-eq}
 use Rattle.std.proofs.Math.Seq.{length-sets}
 use Rattle.lists.specs.Lists.{run, joined}
 use Rattle.lists.specs.Slices.{sets_append}
 use Rattle.forms.specs.Form.{Piece, word, number, written}
-use Rattle.forms.specs.Decimal.{digits, form_line}
-use Rattle.forms.specs.DecimalLaws.{digits_last, line_short}
+use Rattle.forms.specs.Decimal.{form_line}
+use Rattle.forms.specs.DecimalLaws.{line_short}
 use Rattle.forms.specs.Forms.{refused_form}
 use Rattle.forms.specs.Words.{line_feed, text}
 use Rattle.print_bytes.specs.Writing.{with_bytes, Room, Written, refused_line, max_refusal}
@@ -53,14 +53,6 @@ module _ {page₀ : List ℕ} {at₀ : ℕ} {whole page : List ℕ} {at : ℕ} w
         fits = l.fits;
       }
 
-  -- one byte is stored
-  pub pending_byte : {b : ℕ} {bytes : List ℕ} {rest : List (List ℕ)} → Pending page₀ at₀ whole page at ((b ∷ bytes) ∷ rest)
-      → Pending page₀ at₀ whole (set page at b) (suc at) (bytes ∷ rest)
-  pending_byte {b} l = record { same = l.same; place = omega (arith, l.place); kept = length-set page at b ∙ l.kept; fits = l.fits }
-
-  pub pending_empty : {rest : List (List ℕ)} → Pending page₀ at₀ whole page at ([] ∷ rest) → Pending page₀ at₀ whole page at rest
-  pending_empty l = record { same = l.same; place = l.place; kept = l.kept; fits = l.fits }
-
   -- nothing is left
   pub pending_nothing : Pending page₀ at₀ whole page at [] → Written page₀ at₀ whole page at
   pending_nothing l = record { filled = l.same ∙ sym (bytes_set page₀ at₀ whole l.fits); moved = omega (arith, l.place) }
@@ -83,37 +75,45 @@ module _ {page : List ℕ} {at : ℕ} {whole first second : List ℕ} (parts : P
     pub both_written : {page'' : List ℕ} {at'' : ℕ} → Written page' at' second page'' at'' → Written page at whole page'' at''
     both_written last = pending_nothing (pending_after (pending_after begun done) last)
 
--- a line is a word and a number, and then the line of the form's rest; or it is its last word and the line feed
-pub pair_line : (w : List ℕ) (n : ℕ) (f : List Piece) (ns : List ℕ) → Parts (form_line (word w ∷ number ∷ f) (n ∷ ns)) (w ++ digits n) (form_line f ns)
-unfolding written
-pair_line w n f ns = record { same = simp append_assoc }
-
+-- a line is its last word and the line feed; or it is a word and a number, and then the line of the form's rest. `ds` are the numbers' digits
 pub word_line : (w : List ℕ) → Parts (form_line (word w ∷ []) []) w (line_feed ∷ [])
 unfolding written
 word_line w = record { same = ap (λ r. r ++ (line_feed ∷ [])) (append-nil w) }
 
--- a line is its words and numbers, each by itself, and then its end
-abbrev pub pairs_form : List (List ℕ × ℕ) → List ℕ → List Piece
-pairs_form [] end = word end ∷ []
-pairs_form (p ∷ ps) end = word p.0 ∷ number ∷ pairs_form ps end
+abbrev line : List Piece → List (List ℕ) → List ℕ
+line f ds = written f ds ++ (line_feed ∷ [])
 
-abbrev pub pairs_numbers : List (List ℕ × ℕ) → List ℕ
-pairs_numbers [] = []
-pairs_numbers (p ∷ ps) = p.1 ∷ pairs_numbers ps
+pair_line : (w d : List ℕ) (f : List Piece) (ds : List (List ℕ)) → line (word w ∷ number ∷ f) (d ∷ ds) ≡ (w ++ d) ++ line f ds
+unfolding written
+pair_line w d f ds = simp append_assoc
 
-abbrev pub words : List (List ℕ × ℕ) → List ℕ → List (List ℕ)
-words [] end = form_line (word end ∷ []) [] ∷ []
-words (p ∷ ps) end = p.0 ∷ digits p.1 ∷ words ps end
+-- ---- a line, pair by pair: what is left of it is the line of the form's rest
+pub record LineLeft (page₀ : List ℕ) (at₀ : ℕ) (whole page : List ℕ) (at : ℕ) (f : List Piece) (ds : List (List ℕ)) : Type 0 where
+  left : Pending page₀ at₀ whole page at (line f ds ∷ [])
 
-pub line_words : (ps : List (List ℕ × ℕ)) (end : List ℕ) → form_line (pairs_form ps end) (pairs_numbers ps) ≡ joined (words ps end)
-line_words [] end = sym (append-nil (form_line (word end ∷ []) []))
-line_words (p ∷ ps) end =
-    (pair_line p.0 p.1 (pairs_form ps end) (pairs_numbers ps)).same ∙ append_assoc p.0 (digits p.1) (form_line (pairs_form ps end) (pairs_numbers ps))
-    ∙ ap (λ r. p.0 ++ (digits p.1 ++ r)) (line_words ps end)
+pub line_begun : {page : List ℕ} {at : ℕ} (f : List Piece) (ds : List (List ℕ)) → Room page at (line f ds) → LineLeft page at (line f ds) page at f ds
+line_begun f ds room = record { left = pending_whole (line f ds ∷ []) (sym (append-nil (line f ds))) room }
 
--- a number is its front digits and its last one
-pub number_parts : (n : ℕ) → 10 ≤ n → Parts (digits n) (digits (n / 10)) (digits (n % 10))
-number_parts n h = record { same = digits_last n h }
+module _ {page₀ : List ℕ} {at₀ : ℕ} {whole page : List ℕ} {at : ℕ} {w : List ℕ} where
+  module _ {d : List ℕ} {f : List Piece} {ds : List (List ℕ)} (l : LineLeft page₀ at₀ whole page at (word w ∷ number ∷ f) (d ∷ ds)) where
+    next_pair : Pending page₀ at₀ whole page at ((w ++ d) ∷ line f ds ∷ [])
+    next_pair =
+        let e : joined ((w ++ d) ∷ line f ds ∷ []) ≡ joined (line (word w ∷ number ∷ f) (d ∷ ds) ∷ []) =
+        ap (λ r. (w ++ d) ++ r) (append-nil (line f ds)) ∙ sym (append-nil _ ∙ pair_line w d f ds) in
+        record { same = ap (sets page at) e ∙ l.left.same; place = ap (λ r. at + length r) e ∙ l.left.place; kept = l.left.kept; fits = l.left.fits }
+
+    pub pair_room : Room page at (w ++ d)
+    pair_room = pending_room next_pair
+
+    pub pair_done : {page' : List ℕ} {at' : ℕ} → Written page at (w ++ d) page' at' → LineLeft page₀ at₀ whole page' at' f ds
+    pair_done done = record { left = pending_after next_pair done }
+
+  module _ (l : LineLeft page₀ at₀ whole page at (word w ∷ []) []) where
+    pub end_room : Room page at (line (word w ∷ []) [])
+    end_room = pending_room l.left
+
+    pub line_done : {page' : List ℕ} {at' : ℕ} → Written page at (line (word w ∷ []) []) page' at' → Written page₀ at₀ whole page' at'
+    line_done done = pending_nothing (pending_after l.left done)
 
 -- ---- lines one after another
 
