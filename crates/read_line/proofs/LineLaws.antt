@@ -2,6 +2,8 @@
 -- Key idea: the numbers that reading meets are those of the line's form, one after the other, and so are their values (`values_are`). The questions in the
 -- code's order are `line_of`, by the line's kind (`line_said_lem`, `line_unended`).
 use Prim.Native.Nat.{ℕ, zero, suc, ◌+◌, ◌-◌, ◌≤◌, ◌<◌}
+use Rattle.std.specs.Prelude.{Some, Result, Ok, Err}
+use Rattle.std.specs.Option.{option_eq}
 use mathlib.Core.Path.{◌≡◌, refl, sym, ap, ap₂, ◌∙◌}
 use mathlib.Core.Bool.{Bool, true, false, ◌&&◌, cond, and-true, and_assoc}
 use mathlib.Core.List.{List, [], ◌∷◌, map}
@@ -25,33 +27,26 @@ use Rattle.read_form.specs.MetLaws.{sheet_met, unit_met, rule_met}
 use Rattle.read_form.specs.declared.Kind.{Kind}
 use Rattle.read_notes.specs.Readers.{Rest, rest, unmatched, after_list, end_of, at_end}
 use Rattle.read_notes.specs.ReaderLaws.{list_matched}
-use Rattle.read_notes.specs.declared.End.TheVariants as End
+use Rattle.questions.specs.declared.Question.{Question}
+use Rattle.questions.specs.declared.Question.TheVariants.{Printable, LineForm, PlainNumbers, NoteBrackets}
 use Rattle.read_number.specs.Number.{max_number, read_value}
 use Rattle.read_scan.specs.Scan.{valued, with_numbers, Small}
 use Rattle.read_line.specs.Content.{note_matched, brackets_match, value_at, unit_said, rule_said, form_content, content_of}
 use Rattle.read_line.specs.Line.{said, line_of}
 use Rattle.read_line.specs.Said.{unit_by, rule_by, line_said, unended_fault}
 use Rattle.read_line.specs.declared.Line.{Line}
-use Rattle.read_line.specs.declared.Line.TheVariants.{Refused, Note, Sheet}
+use Rattle.read_line.specs.declared.Line.TheVariants.{Note, Sheet}
 
 -- ---- a note's end
 
-pub note_closed : (s : List ℕ) (place : ℕ) → 1 ≤ length s → end_of (length s) (after_list (drop 1 s) zero 1) ≡ End.At place → eqb place (length s) ≡ note_matched s
+pub note_ends : (s : List ℕ) → 1 ≤ length s → option_eq eqb (end_of (length s) (after_list (drop 1 s) zero 1)) (Some (length s)) ≡ note_matched s
 unfolding note_matched end_of
-note_closed s place h e = go (after_list (drop 1 s) zero 1) e ∙ list_matched (drop 1 s) zero
+note_ends s h = go (after_list (drop 1 s) zero 1) ∙ list_matched (drop 1 s) zero
   where
-    go : (o : Rest) → end_of (length s) o ≡ End.At place → eqb place (length s) ≡ at_end o
-    go (rest []) e = let k : place ≡ length s - 0 = cc in eq-eqb place (length s) (omega arith)
-    go (rest (b ∷ r)) e = let k : place ≡ length s - suc (length r) = cc in ne_eqb place (length s) (λ m. omega arith)
-    go unmatched e = let z : ◌≡◌ {A = ℕ} 0 1 = cc in absurd (omega arith)
-
-pub note_open : (s : List ℕ) → end_of (length s) (after_list (drop 1 s) zero 1) ≡ End.Unmatched → false ≡ note_matched s
-unfolding note_matched end_of
-note_open s e = go (after_list (drop 1 s) zero 1) e ∙ list_matched (drop 1 s) zero
-  where
-    go : (o : Rest) → end_of (length s) o ≡ End.Unmatched → false ≡ at_end o
-    go (rest r) e = let z : ◌≡◌ {A = ℕ} 0 1 = cc in absurd (omega arith)
-    go unmatched e = refl
+    go : (o : Rest) → option_eq eqb (end_of (length s) o) (Some (length s)) ≡ at_end o
+    go (rest []) = eq-eqb (length s - 0) (length s) (omega arith)
+    go (rest (b ∷ r)) = ne_eqb (length s - suc (length r)) (length s) (λ m. omega arith)
+    go unmatched = refl
 
 -- ---- the values of a line's numbers
 
@@ -99,20 +94,20 @@ module _ (n : ℕ) (ds : List (List ℕ)) (before v : List ℕ) (p : Bool) (fits
       ∙ sets_at (map read_value ds) before n i (omega (arith, length-map ds read_value)) (omega (arith, length-map ds read_value)) ∙ read_at ds i h l
 
   -- what the code says by the values it says by the digits
-  values_are : (x y : Line) → (every plain ds ≡ true → x ≡ y) → cond p x (Refused 4) ≡ cond (every plain ds) y (Refused 4)
-  values_are x y h = ap (λ (b : Bool). cond b x (Refused 4)) plain_is ∙ go (every plain ds) refl
+  values_are : (x y : Line) → (every plain ds ≡ true → x ≡ y) → cond p (Ok x) (Err PlainNumbers) ≡ cond (every plain ds) (Ok y) (Err PlainNumbers)
+  values_are x y h = ap (λ (b : Bool). cond b (Ok x) (Err PlainNumbers)) plain_is ∙ go (every plain ds) refl
     where
-      go : (b : Bool) → every plain ds ≡ b → cond b x (Refused 4) ≡ cond b y (Refused 4)
-      go true k = h k
+      go : (b : Bool) → every plain ds ≡ b → cond b (Ok x) (Err PlainNumbers) ≡ cond b (Ok y) (Err PlainNumbers)
+      go true k = ap Ok (h k)
       go false k = refl
 
-unit_said_lem : (h : House) (ds : List (List ℕ)) → said (unit_said h ds) ≡ cond (every plain ds) (unit_by h (value_at ds 0) (value_at ds 1) (value_at ds 2)) (Refused 4)
+unit_said_lem : (h : House) (ds : List (List ℕ)) → said (unit_said h ds) ≡ cond (every plain ds) (Ok (unit_by h (value_at ds 0) (value_at ds 1) (value_at ds 2))) (Err PlainNumbers)
 unfolding said
 unit_said_lem Ours ds = refl
 unit_said_lem Partner ds = refl
 
 rule_said_lem : (h : House) (ds : List (List ℕ)) →
-    said (rule_said h ds) ≡ cond (every plain ds) (rule_by h (value_at ds 0) (value_at ds 1) (value_at ds 2) (value_at ds 3)) (Refused 4)
+    said (rule_said h ds) ≡ cond (every plain ds) (Ok (rule_by h (value_at ds 0) (value_at ds 1) (value_at ds 2) (value_at ds 3))) (Err PlainNumbers)
 unfolding said
 rule_said_lem Ours ds = refl
 rule_said_lem Partner ds = refl
@@ -120,27 +115,27 @@ rule_said_lem Partner ds = refl
 -- ---- the questions of a line in their order
 
 -- with its line feed, by its kind
-abbrev ended : House → Kind → List ℕ → Line
-ended h Kind.Unprintable l = Refused 2
-ended h Kind.Note l = cond (note_matched l) Note (Refused 11)
+abbrev ended : House → Kind → List ℕ → Result Line Question
+ended h Kind.Unprintable l = Err Printable
+ended h Kind.Note l = cond (note_matched l) (Ok Note) (Err NoteBrackets)
 ended h Kind.Sheet l = said (form_content h Kind.Sheet l)
 ended h Kind.Unit l = said (form_content h Kind.Unit l)
 ended h Kind.Rule l = said (form_content h Kind.Rule l)
-ended h Kind.Other l = Refused 3
+ended h Kind.Other l = Err LineForm
 
 module _ (h : House) (l : List ℕ) where
   by_kind : line_of h l true ≡ ended h (kind_of h l) l
   unfolding line_of content_of kind_of said
   by_kind = go (printable l) (matches note_form l) (matches short_note_form l) (matches (span_form_of h) l) (matches (unit_form_of h) l) (matches (rule_form_of h) l)
     where
-      line : Bool → Kind → Line
-      line p k = cond p (cond (brackets_match (form_content h k l) l) (said (form_content h k l)) (Refused 11)) (Refused 2)
+      line : Bool → Kind → Result Line Question
+      line p k = cond p (cond (brackets_match (form_content h k l) l) (said (form_content h k l)) (Err NoteBrackets)) (Err Printable)
 
-      unit : (h : House) → cond (brackets_match (form_content h Kind.Unit l) l) (said (form_content h Kind.Unit l)) (Refused 11) ≡ ended h Kind.Unit l
+      unit : (h : House) → cond (brackets_match (form_content h Kind.Unit l) l) (said (form_content h Kind.Unit l)) (Err NoteBrackets) ≡ ended h Kind.Unit l
       unit Ours = refl
       unit Partner = refl
 
-      rule : (h : House) → cond (brackets_match (form_content h Kind.Rule l) l) (said (form_content h Kind.Rule l)) (Refused 11) ≡ ended h Kind.Rule l
+      rule : (h : House) → cond (brackets_match (form_content h Kind.Rule l) l) (said (form_content h Kind.Rule l)) (Err NoteBrackets) ≡ ended h Kind.Rule l
       rule Ours = refl
       rule Partner = refl
 
@@ -154,25 +149,28 @@ module _ (h : House) (l : List ℕ) where
       go true false false false false true = rule h
       go true false false false false false = refl
 
-  pub line_unended : Refused (unended_fault (kind_of h l) l) ≡ line_of h l false
+  pub line_unended : ◌≡◌ {A = Result Line Question} (Err (unended_fault (kind_of h l) l)) (line_of h l false)
   unfolding line_of content_of kind_of
   line_unended = go (printable l) (matches note_form l) (matches short_note_form l) (matches (span_form_of h) l) (matches (unit_form_of h) l)
       (matches (rule_form_of h) l)
     where
-      noted : (b : Bool) → Refused (cond b 3 11) ≡ cond b (Refused 3) (Refused 11)
+      noted : (b : Bool) → ◌≡◌ {A = Result Line Question} (Err (cond b LineForm NoteBrackets)) (cond b (Err LineForm) (Err NoteBrackets))
       noted true = refl
       noted false = refl
 
-      unit : (h : House) → Refused 3 ≡ cond (brackets_match (form_content h Kind.Unit l) l) (Refused 3) (Refused 11)
+      unit : (h : House) →
+          ◌≡◌ {A = Result Line Question} (Err LineForm) (cond (brackets_match (form_content h Kind.Unit l) l) (Err LineForm) (Err NoteBrackets))
       unit Ours = refl
       unit Partner = refl
 
-      rule : (h : House) → Refused 3 ≡ cond (brackets_match (form_content h Kind.Rule l) l) (Refused 3) (Refused 11)
+      rule : (h : House) →
+          ◌≡◌ {A = Result Line Question} (Err LineForm) (cond (brackets_match (form_content h Kind.Rule l) l) (Err LineForm) (Err NoteBrackets))
       rule Ours = refl
       rule Partner = refl
 
       go : (p m n s u r : Bool) → let k = cond m Kind.Note (cond n Kind.Note (cond s Kind.Sheet (cond u Kind.Unit (cond r Kind.Rule Kind.Other)))) in
-          Refused (unended_fault (cond p k Kind.Unprintable) l) ≡ cond p (cond (brackets_match (form_content h k l) l) (Refused 3) (Refused 11)) (Refused 2)
+          ◌≡◌ {A = Result Line Question} (Err (unended_fault (cond p k Kind.Unprintable) l))
+          (cond p (cond (brackets_match (form_content h k l) l) (Err LineForm) (Err NoteBrackets)) (Err Printable))
       go false m n s u r = refl
       go true true n s u r = noted (note_matched l)
       go true false true s u r = noted (note_matched l)
@@ -215,7 +213,7 @@ unfolding numbers
 four l = refl
 
 module _ (h : House) (l before v : List ℕ) (p : Bool) (room : length before ≡ 8) (e : valued v p ≡ with_numbers (valued before true) (met h start l)) where
-  sheet_line_lem : kind_of h l ≡ Kind.Sheet → cond p (Sheet (get_or v 0 0)) (Refused 4) ≡ said (form_content h Kind.Sheet l)
+  sheet_line_lem : kind_of h l ≡ Kind.Sheet → cond p (Ok (Sheet (get_or v 0 0))) (Err PlainNumbers) ≡ said (form_content h Kind.Sheet l)
   unfolding said
   sheet_line_lem k =
       let ds = numbers (span_form_of h) l in
@@ -224,7 +222,7 @@ module _ (h : House) (l before v : List ℕ) (p : Bool) (room : length before �
       let fits : 0 + length ds ≤ length before = omega (arith, n) in
       values_are 0 ds before v p fits there _ _ (λ t. ap Sheet (value_is 0 ds before v p fits there t 0 (omega (arith, n))))
 
-  unit_line_lem : kind_of h l ≡ Kind.Unit → cond p (unit_by h (get_or v 1 0) (get_or v 2 0) (get_or v 3 0)) (Refused 4) ≡ said (form_content h Kind.Unit l)
+  unit_line_lem : kind_of h l ≡ Kind.Unit → cond p (Ok (unit_by h (get_or v 1 0) (get_or v 2 0) (get_or v 3 0))) (Err PlainNumbers) ≡ said (form_content h Kind.Unit l)
   unit_line_lem k =
       let ds = numbers (unit_form_of h) l in
       let n = unit_numbers_lem h l in
@@ -234,7 +232,7 @@ module _ (h : House) (l before v : List ℕ) (p : Bool) (room : length before �
       values_are 1 ds before v p fits there _ _ (λ t. ap₂ (λ (a b : ℕ). unit_by h a b (get_or v 3 0)) (at t 0 (omega (arith, n))) (at t 1 (omega (arith, n)))
       ∙ ap (unit_by h (value_at ds 0) (value_at ds 1)) (at t 2 (omega (arith, n)))) ∙ sym (unit_said_lem h ds)
 
-  rule_line_lem : kind_of h l ≡ Kind.Rule → cond p (rule_by h (get_or v 4 0) (get_or v 5 0) (get_or v 6 0) (get_or v 7 0)) (Refused 4) ≡ said (form_content h Kind.Rule l)
+  rule_line_lem : kind_of h l ≡ Kind.Rule → cond p (Ok (rule_by h (get_or v 4 0) (get_or v 5 0) (get_or v 6 0) (get_or v 7 0))) (Err PlainNumbers) ≡ said (form_content h Kind.Rule l)
   rule_line_lem k =
       let ds = numbers (rule_form_of h) l in
       let n = rule_numbers_lem h l in

@@ -36,14 +36,12 @@ pub struct Found {
 pub fn lines_end(text: &[u8]) -> usize
     ensures { result ≡ whole_lines text.now }
 {
-    let mut n = text.len();
-    while 0 < n {
-        if text[n - 1] == b'\n' {
-            break;
+    for n in (0..text.len()).rev() {
+        if text[n] == b'\n' {
+            return n + 1;
         }
-        n -= 1;
     }
-    n
+    0
 }
 
 // The last slot of a stretch by its first and how many slots long it is. One of no slots ends before it starts, which question 7 then finds.
@@ -51,8 +49,7 @@ fn last_of(start: u16, hours: u16) -> u16
     requires { (start ≤ max_number) × (hours ≤ max_number) }
     ensures { result ≡ last_of start hours }
 {
-    let past = start + hours;
-    if past == 0 { 0 } else { past - 1 }
+    (start + hours).saturating_sub(1)
 }
 
 // A unit by its three numbers.
@@ -93,10 +90,7 @@ fn note_matched(s: &[u8]) -> bool
     requires { 1 ≤ length s.now }
     ensures { result ≡ note_matched s.now }
 {
-    match read_notes::list_end(s, 1, 1) {
-        Some(place) => place == s.len(),
-        None => false,
-    }
+    read_notes::list_end(s, 1, 1) == Some(s.len())
 }
 
 // Questions 2, 11, 3 and 4 of a line that has its line feed, and else what it says.
