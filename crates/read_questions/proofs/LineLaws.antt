@@ -1,14 +1,17 @@
 -- One line's questions, and what the code asks of it.
 -- Key idea: what the lines so far are, `before`, is what the code's three numbers stand for (`Matches`). A line more is asked the questions of the
 -- definition; the code's tests of it are the same, by cases on what the line is (`line_verdict`).
-use Rattle.std.specs.Prelude.{ℕ, suc, ◌+◌, ◌≤◌, ◌≡◌, Bool, ◌&&◌, cond, List, [], ◌∷◌, ◌++◌, eqb, leb, ltb}
+use Rattle.std.specs.Prelude.{ℕ, suc, ◌+◌, ◌≤◌, ◌≡◌, Bool, ◌&&◌, cond, List, [], ◌∷◌, ◌++◌, eqb, leb, ltb, Result, Ok, Err}
 use Rattle.std.proofs.Math.Path.{refl, sym, ap}
 use Rattle.std.proofs.Common.{◌∙◌, arith, add-zero}
 use Rattle.std.proofs.Math.Bool.{true, false, not, and-false, or-true, not-not}
 use Rattle.std.proofs.Math.ListN.{length, length-append}
 use borrow.Author.Tests.{ne_eqb, le-leb, leb-true, ltb-true}
 use Rattle.lists.specs.Lists.{every}
+use Rattle.questions.specs.Numbers.{number_of}
 use Rattle.questions.specs.Questions.{Question, Verdict, no, first_no}
+use Rattle.questions.specs.declared.Question.{Question as Asked}
+use Rattle.questions.specs.declared.Question.TheVariants.{Printable, LineForm, PlainNumbers, SheetLine, Span, Stretch, Counts, Units, Rules, NoteBrackets, Loader}
 use Rattle.sheet.specs.Sizes.{max_slots, max_units, max_rules}
 use Rattle.sheet.specs.Questions.{is_span, rising, is_stretch, is_count, is_new}
 use Rattle.sheet.specs.declared.Sheet.{Sheet}
@@ -21,8 +24,6 @@ use Rattle.read_line.specs.Line.{values_of, said, line_of}
 use Rattle.read_line.specs.declared.Line.{Line}
 use Rattle.read_questions.specs.Reading.{is_sheet, has_sheet, span_else, span_in, unit_of, units_in, loaders_in, rule_of, rules_in, is_form}
 use Rattle.read_steps.specs.Steps.{last_place, counted}
-use Rattle.read_steps.specs.declared.Step.{Step}
-use Rattle.read_steps.specs.declared.Step.TheVariants.{No, On}
 use Rattle.read_questions.specs.Reading.{in_order, span_allowed, in_span, loader_fits, count_fits, questions_of}
 use Rattle.read_questions.specs.Steps.{step_of, line_units, line_rules}
 use Rattle.read_questions.proofs.SpanLaws.{joined_append, has_sheet_more, has_sheet_same, span_in_same, span_in_first}
@@ -42,15 +43,15 @@ unfolding span_in has_sheet units_in rules_in
 matches_none = record { span = refl; sheeted = refl; units = refl; rules = refl; few_units = omega arith; few_rules = omega arith }
 
 -- a line that passed: the numbers with it, and what it adds to the arrays
-pub record Added (m : Sheet) (before : List Content) (x : Content) (line : Line) : Type 0 where
+pub record Added (m : Sheet) (before : List Content) (x : Content) (line : Result Line Asked) : Type 0 where
   pub counts : Matches m (before ++ (x ∷ []))
   pub units : line_units line ≡ unit_of x
   pub rules : line_rules line ≡ rule_of x
 
 -- what a step says of the questions, where w is what is left to ask
-abbrev pub Verdicts : Step → Line → List Content → Content → ℕ → Verdict → Verdict → Type 0
-Verdicts (No q) line before x n v w = v ≡ no q n
-Verdicts (On m) line before x n v w = (v ≡ w) × Added m before x line
+abbrev pub Verdicts : Result Sheet Asked → Result Line Asked → List Content → Content → ℕ → Verdict → Verdict → Type 0
+Verdicts (Err q) line before x n v w = v ≡ no (number_of q) n
+Verdicts (Ok m) line before x n v w = (v ≡ w) × Added m before x line
 
 module _ (s : Sheet) (before : List Content) (c : Matches s before) where
   more_units : (x : Content) → length (units_in (before ++ (x ∷ []))) ≡ s.units + length (units_in (x ∷ []))
@@ -107,16 +108,16 @@ module _ (s : Sheet) (before : List Content) (c : Matches s before) where
 
 -- ---- the verdict on a line, by what it is: the code asks questions 5 to 10 and 16 by its own tests, which are those of the definition
 
-module _ (before : List Content) (n : ℕ) (w : Verdict) (m : Sheet) (x : Content) (line : Line) where
+module _ (before : List Content) (n : ℕ) (w : Verdict) (m : Sheet) (x : Content) (line : Result Line Asked) where
   same_verdict : (t₅ t₆ t₇ t₁₆ t₈ t₉ t₁₀ g₅ g₇ g₉ g₁₀ : Bool) → g₅ ≡ t₅ → g₇ ≡ t₇ → g₉ ≡ t₉ → g₁₀ ≡ t₁₀
       → (t₅ ≡ true → t₆ ≡ true → t₉ ≡ true → t₁₀ ≡ true → Added m before x line)
-      → Verdicts (cond t₅ (cond t₆ (cond t₇ (cond t₁₆ (cond t₈ (cond t₉ (cond t₁₀ (On m) (No 10)) (No 9)) (No 8)) (No 16)) (No 7)) (No 6)) (No 5))
+      → Verdicts (cond t₅ (cond t₆ (cond t₇ (cond t₁₆ (cond t₈ (cond t₉ (cond t₁₀ (Ok m) (Err Rules)) (Err Units)) (Err Counts)) (Err Loader)) (Err Stretch)) (Err Span)) (Err SheetLine))
       line before x n
       (cond g₅ (cond t₆ (cond g₇ (cond t₁₆ (cond t₈ (cond g₉ (cond g₁₀ w (no 10 n)) (no 9 n)) (no 8 n)) (no 16 n)) (no 7 n)) (no 6 n)) (no 5 n)) w
   same_verdict t₅ t₆ t₇ t₁₆ t₈ t₉ t₁₀ g₅ g₇ g₉ g₁₀ e₅ e₇ e₉ e₁₀ p = rw (e₅, e₇, e₉, e₁₀) (go t₅ t₆ t₇ t₁₆ t₈ t₉ t₁₀ p)
     where
       go : (t₅ t₆ t₇ t₁₆ t₈ t₉ t₁₀ : Bool) → (t₅ ≡ true → t₆ ≡ true → t₉ ≡ true → t₁₀ ≡ true → Added m before x line)
-          → Verdicts (cond t₅ (cond t₆ (cond t₇ (cond t₁₆ (cond t₈ (cond t₉ (cond t₁₀ (On m) (No 10)) (No 9)) (No 8)) (No 16)) (No 7)) (No 6)) (No 5))
+          → Verdicts (cond t₅ (cond t₆ (cond t₇ (cond t₁₆ (cond t₈ (cond t₉ (cond t₁₀ (Ok m) (Err Rules)) (Err Units)) (Err Counts)) (Err Loader)) (Err Stretch)) (Err Span)) (Err SheetLine))
           line before x n
           (cond t₅ (cond t₆ (cond t₇ (cond t₁₆ (cond t₈ (cond t₉ (cond t₁₀ w (no 10 n)) (no 9 n)) (no 8 n)) (no 16 n)) (no 7 n)) (no 6 n)) (no 5 n)) w
       go false t₆ t₇ t₁₆ t₈ t₉ t₁₀ p = refl
@@ -137,17 +138,17 @@ module _ (h : House) (s : Sheet) (before : List Content) (c : Matches s before) 
       (no 8 n)) (no 16 n)) (no 7 n)) (no 6 n)) (no 5 n)
 
   -- the code's step, after units with the loader numbers of the lines before
-  abbrev stepped : Line → Step
+  abbrev stepped : Result Line Asked → Result Sheet Asked
   stepped line = step_of h (loaders_in before) s line
 
   -- a test of the span of the lines before is one of the sheet so far
   span_same : (test : ℕ → Bool) → test (span_in before) ≡ test s.span
   span_same test = ap test (sym c.span)
 
-  note_later : Verdicts (stepped Line.Note) Line.Note before note n (later note) w
+  note_later : Verdicts (stepped (Ok Line.Note)) (Ok Line.Note) before note n (later note) w
   unfolding step_of units_in rules_in
   note_later =
-      same_verdict before n w s note Line.Note true true true true true true true true true _ _ refl refl
+      same_verdict before n w s note (Ok Line.Note) true true true true true true true true true _ _ refl refl
       (nine s before c note refl) (ten s before c note refl)
       (λ a b d e. record {
         counts = matches_more s before c note s.units s.rules refl (λ p. refl) (sym (add-zero s.units)) (sym (add-zero s.rules)) c.few_units
@@ -197,14 +198,14 @@ module _ (h : House) (s : Sheet) (before : List Content) (c : Matches s before) 
 
   -- question 4 before them
   plain_verdict : (t : Bool) (x : Content) (v : Verdict) → Verdicts (stepped (values_of x)) (values_of x) before x n v w
-      → Verdicts (stepped (cond t (values_of x) (Line.Refused 4))) (cond t (values_of x) (Line.Refused 4)) before x n (cond t v (no 4 n)) w
+      → Verdicts (stepped (cond t (values_of x) (Err PlainNumbers))) (cond t (values_of x) (Err PlainNumbers)) before x n (cond t v (no 4 n)) w
   unfolding step_of
   plain_verdict true x v h = h
   plain_verdict false x v h = refl
 
   -- question 3 before it
   form_verdict : (e : Bool) (x : Content)
-      → Verdicts (stepped (cond e (said x) (Line.Refused 3))) (cond e (said x) (Line.Refused 3)) before x n
+      → Verdicts (stepped (cond e (said x) (Err LineForm))) (cond e (said x) (Err LineForm)) before x n
       (cond (is_form x && e) (cond (every plain (numbers_in x)) (later x) (no 4 n)) (no 3 n)) w
   unfolding step_of said
   form_verdict false x = rw (and-false (is_form x)) refl
@@ -225,8 +226,8 @@ line_verdict h s before c n l rest = go (printable l.bytes) (brackets_match (con
     x : Content
     x = content_of h l.bytes
 
-    line : Bool → Bool → Line
-    line p b = cond p (cond b (cond l.ended (said x) (Line.Refused 3)) (Line.Refused 11)) (Line.Refused 2)
+    line : Bool → Bool → Result Line Asked
+    line p b = cond p (cond b (cond l.ended (said x) (Err LineForm)) (Err NoteBrackets)) (Err Printable)
 
     go : (p b : Bool) → Verdicts (step_of h (loaders_in before) s (line p b)) (line p b) before x n
         (cond p (cond b (cond (is_form x && l.ended) (cond (every plain (numbers_in x)) (later h s before c n (first_no rest) x) (no 4 n)) (no 3 n)) (no 11 n))

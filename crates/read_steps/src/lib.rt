@@ -55,11 +55,7 @@ pub fn sheet_step(s: Sheet, span: u16) -> Result<Sheet, Question>
     if !sheet::is_span(p) {
         return Err(Question::Span);
     }
-    Ok(Sheet {
-        span: p,
-        units: s.units,
-        rules: s.rules,
-    })
+    Ok(Sheet { span: p, ..s })
 }
 
 // Questions 5, 7, 8 and 10; a rule that passes is kept.
@@ -96,11 +92,7 @@ pub fn rule_step(
         tos[n] = to;
         lows[n] = low;
         highs[n] = high;
-        return Ok(Sheet {
-            span: s.span,
-            units: s.units,
-            rules: n + 1,
-        });
+        return Ok(Sheet { rules: n + 1, ..s });
     }
     Err(Question::Rules)
 }

@@ -54,11 +54,7 @@ pub fn unit_step(
         firsts[n] = first;
         lasts[n] = last;
         loaders::link(loader, n, heads, nexts);
-        return Ok(Sheet {
-            span: s.span,
-            units: n + 1,
-            rules: s.rules,
-        });
+        return Ok(Sheet { units: n + 1, ..s });
     }
     Err(Question::Units)
 }
