@@ -8,7 +8,7 @@ ghost use Rattle.print_bytes.specs.Writing.{Room, Written};
 ghost use Rattle.pages.specs.Page.{bound_form, step_line, ring_lines, shortfall_of, none_page, RingFits};
 
 use network::entry_at;
-use print_bytes::{put_no_number, put_one_number, put_three_numbers};
+use print_bytes::{put_no_number, put_one_number, put_pair};
 use print_counts::{above, below};
 use sheet::Sheet;
 use slots::{Boundary, Slot};
@@ -24,17 +24,10 @@ fn put_bound(page: &mut [u8], at: usize, word: &[u8], bound: u16, first: Slot, l
     requires room { Room page.old at (form_line (bound_form word.now) (bound ∷ first.0 ∷ last.0 ∷ [])) }
     ensures { Written page.old at (form_line (bound_form word.now) (bound ∷ first.0 ∷ last.0 ∷ [])) page.new result }
 {
-    put_three_numbers(
-        page,
-        at,
-        word,
-        bound,
-        b" (slots ",
-        first.0 as u16,
-        b" ",
-        last.0 as u16,
-        b"))",
-    )
+    let next = put_pair(page, at, word, bound);
+    let next2 = put_pair(page, next, b" (slots ", first.0 as u16);
+    let next3 = put_pair(page, next2, b" ", last.0 as u16);
+    put_no_number(page, next3, b"))")
 }
 
 // The step from boundary a to boundary b, with the sheet's own limit.
