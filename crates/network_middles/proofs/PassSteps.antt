@@ -10,26 +10,26 @@ use native.Mathlib.Omega.{arith}
 use native.Mathlib.Numerals.{add-one}
 use native.Mathlib.Decide.{dec_le}
 use lib.Dec.{T, leb, ltb, ltb→lt}
-use lib.ListN.{length, get_or, take, drop, length-take, replicate, get_or-append}
+use lib.ListN.{length, get_or, take, drop, length-take, get_or-append}
 use lib.IntN.{ℤ, pos, ◌+ℤ◌}
 use lib.Signed.{lt_z}
 use mir.Syntax.{w16}
 use mir.Val.{SFits}
 use borrow.Author.Tests.{lt-ltb, le-leb}
 use Rattle.integers.specs.Parts.{min_ℤ}
-use Rattle.std.specs.Prelude.{Ok, Err, is_err}
+use Rattle.std.specs.Prelude.{Ok, Err}
 use Rattle.lists.specs.Lists.{run, joined}
 use Rattle.lists.specs.Members.{and_left, and_right}
 use Rattle.lists.specs.Slices.{part_at, part_length, back, back_length}
 use Rattle.lists.specs.Values.{list_of, length_list_of, list_of_at, list_of_is, values_are}
 use Rattle.lists.specs.Values.{Filled, filled_old, filled_new, filled_part, front_rest, front_past, front_part}
 use Rattle.network.specs.Closure.{step}
-use Rattle.network.specs.Table.{max_boundaries, entry, middle, cleared}
+use Rattle.network.specs.Table.{max_boundaries, entry, middle}
 use Rattle.network.proofs.TableLaws.{length_rows, rows_snoc, drop_middle}
 use Rattle.network.specs.RowStep.{relaxed_at, relaxed, falls_in, SumsFit}
 use Rattle.network.specs.Bounds.{Small}
 use Rattle.network.proofs.BoundLaws.{sum_fits}
-use Rattle.network_pass.specs.Pass.{Passed, finished, stopped, after_rows, pass_from, Outcome, outcome_of, After, Ran}
+use Rattle.network_pass.specs.Pass.{Passed, finished, stopped, after_rows, pass_from, outcome_of, Ran}
 use Rattle.network_pass.proofs.PassLaws.{pass_more}
 use Rattle.network_pass.specs.PassBounds.{StaysSmall}
 
@@ -295,13 +295,3 @@ module _ {t₀ t₁ : List ℤ} {w from to : ℕ} {mid₁ : List ℤ} {m : ℕ} 
         long = l ∙ p.long;
         past = q ∙ p.past;
       }
-
--- ---- what the caller finds: the table of a pass that finished, and zeros otherwise
-pub after_finished : {w : ℕ} {t : List ℤ} {p : Passed} {r : Outcome} {u : List ℤ} → Ran w t p r u → is_err r ≡ false → After w t p r u
-after_finished {p = finished x} v e = record { outcome = v.outcome; table = v.table x refl }
-after_finished {p = stopped} v e = let o = v.outcome in let z : is_err (outcome_of stopped) ≡ false = cc in absurd (cc)
-
-pub after_cleared : {w : ℕ} {t : List ℤ} {p : Passed} {r : Outcome} {u x : List ℤ} → Ran w t p r u → is_err r ≡ true
-    → x ≡ cleared (w * w) u → After w t p r x
-after_cleared {p = finished y} v e q = let o = v.outcome in let z : is_err (outcome_of (finished y)) ≡ true = cc in absurd (cc)
-after_cleared {w} {p = stopped} v e q = record { outcome = v.outcome; table = q ∙ ap (λ (l : List ℤ). replicate (w * w) (pos 0) ++ l) v.past }

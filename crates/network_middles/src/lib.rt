@@ -18,11 +18,9 @@ fn run_middles(t: &mut [i16], w: usize, from: usize, to: usize) -> Outcome
         load_row(t, m, w, &mut mid);
         for a in 0..w {
             let start = a * w;
-            let end = start + w;
-            let row = &mut t[start..end];
+            let row = &mut t[start..start + w];
             let am = row[m];
-            let n = stretches(w);
-            for k in 0..n {
+            for k in 0..stretches(w) {
                 let b = k * STRETCH;
                 let e = stretch_end(b, w);
                 relax_row(&mut row[b..e], &mid[b..e], am);
@@ -35,24 +33,14 @@ fn run_middles(t: &mut [i16], w: usize, from: usize, to: usize) -> Outcome
     Ok(())
 }
 
-// The compiler reads no contracts. This tells it how many boundaries there are at most, and so that a row's second stretch is its last.
-fn capped(w: usize) -> usize
-    requires { w ≤ max_boundaries }
-    ensures { result ≡ w }
-{
-    if w < MAX_BOUNDARIES {
-        w
-    } else {
-        MAX_BOUNDARIES
-    }
-}
-
 // The middle boundaries from..to. Where they do not all finish, the table's places become 0; places past the table never change.
 pub fn pass_middles(t: &mut [i16], w: usize, from: usize, to: usize) -> Outcome
     requires { (0 < w) × (w ≤ max_boundaries) × (w * w ≤ length t.old) × (from ≤ to) × (to ≤ w) × StaysSmall w from (to - from) t.old }
     ensures { After w t.old (pass_from (to - from) from w t.old) result t.new }
 {
-    let outcome = run_middles(t, capped(w), from, to);
+    // The compiler reads no contracts. This tells it how many boundaries there are at most, and so that a row's second stretch is its last.
+    let capped = w.min(MAX_BOUNDARIES);
+    let outcome = run_middles(t, capped, from, to);
     if outcome.is_err() {
         clear(w * w, t);
     }

@@ -1,5 +1,5 @@
 -- The whole pass is that of all middle boundaries, and over limits its numbers stay small.
-use Prim.Native.Nat.{ℕ, ◌-◌}
+use Prim.Native.Nat.{ℕ}
 use native.Mathlib.Omega.{arith}
 use native.Mathlib.Nat.{sub-zero}
 use mathlib.Core.Path.{sym, subst}
