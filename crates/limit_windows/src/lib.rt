@@ -13,8 +13,7 @@ pub fn exact_windows(first: &[u16], last: &[u16], w: usize, t: &mut [i16])
     ensures { t.new ≡ table_of w (exact_weights (windows_of first.now last.now)) ++ drop (w * w) t.old }
 {
     network::clear(w * w, t);
-    // From the last unit to the first, as the list of windows is built.
-    for (&first, &last) in first.iter().zip(last).rev() {
+    for (&first, &last) in first.iter().zip(last) {
         t[back_place(first, last, w)] -= 1;
     }
 }

@@ -32,6 +32,7 @@ pub fn is_among(ks: &[u16], n: usize, heads: &[u16], nexts: &[u16], k: u16) -> b
 }
 
 // Question 16 of a number that stands after the first n of a list. The chain is asked first: so the compiler has the remainder at hand for `link`.
+#[tactic(auto, using(std::proofs::lemmas::Bool::Decides::nat_tests), unfolding(sheet::specs::Questions::is_new))]
 pub fn is_new(ks: &[u16], n: usize, heads: &[u16], nexts: &[u16], k: u16) -> bool
     requires { (n ≤ length ks.now) × (n ≤ length nexts.now) × Linked ks.now n heads.now nexts.now }
     ensures { result ≡ is_new (take n ks.now) k }
