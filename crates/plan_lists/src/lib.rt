@@ -7,6 +7,7 @@ ghost use Rattle.plan_lists.specs.Rising.{all_rising};
 use sheet::{Lists, WrittenLists};
 
 // Question 13, of the windows and the rules.
+#[tactic(auto, unfolding(sheet::specs::Questions::lists_agree))]
 fn lists_agree(lists: &Lists<'_>) -> bool
     ensures { result ≡ agree lists.now }
 {
@@ -27,8 +28,5 @@ pub fn all_rise(least: usize, start: usize, most: usize, first: &[u16], last: &[
     requires { length last.now ≡ length first.now }
     ensures { result ≡ all_rising least start most first.now last.now }
 {
-    first
-        .iter()
-        .zip(last)
-        .all(|(f, l)| sheet::rises(least, start, most, *f as usize, *l as usize))
+    first.iter().zip(last).all(|(f, l)| sheet::rises(least, start, most, *f as usize, *l as usize))
 }

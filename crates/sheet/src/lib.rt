@@ -39,7 +39,7 @@ pub fn is_span(span: usize) -> bool
 pub fn rises(least: usize, start: usize, most: usize, first: usize, last: usize) -> bool
     ensures { result ≡ rising least start most first last }
 {
-    least <= first && first <= start && (first <= last && last <= most)
+    least <= first && first <= start && first <= last && last <= most
 }
 
 // A sheet's span and its numbers of units and rules; the lists themselves are lent.
