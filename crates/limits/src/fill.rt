@@ -46,7 +46,12 @@ pub fn fill_limits(lists: &Lists<'_>, t: &mut [i16])
     // stays: a place over four parallel lists.
     for k in (0..lists.from.len()).rev() {
         apply_rule(
-            lists.from[k], lists.to[k], lists.low[k], lists.high[k], w, t,
+            lists.from[k],
+            lists.to[k],
+            lists.low[k],
+            lists.high[k],
+            w,
+            t,
         );
     }
 }
