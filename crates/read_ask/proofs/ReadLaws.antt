@@ -1,5 +1,6 @@
 -- The pass over the text, line by line.
 -- Key idea: a line's verdict is that of its questions (`line_verdict`). So what is left to ask at a line's start decides the whole (`Asking`).
+use Rattle.std.specs.Prelude.{Result, Ok, Err}
 use Prim.Native.Nat.{ℕ, suc, ◌+◌, ◌≤◌, ◌<◌}
 use mathlib.Core.Path.{◌≡◌, refl, sym, ap, ap₂, subst, ◌∙◌}
 use mathlib.Core.Bool.{Bool, true, false, not, cond}
@@ -9,6 +10,8 @@ use native.Mathlib.Numerals.{add-one}
 use lib.ListN.{length, take, drop}
 use lib.Dec.{eqb}
 use borrow.Author.Tests.{eq-eqb, ne_eqb}
+use Rattle.questions.specs.Numbers.{number_of}
+use Rattle.questions.specs.declared.Question.{Question as Asked}
 use Rattle.questions.specs.Questions.{Question, ask, Verdict, no, all_yes, first_no}
 use Rattle.questions.proofs.FirstNoLaws.{first_then}
 use Rattle.sheet.specs.Sizes.{max_units}
@@ -22,8 +25,6 @@ use Rattle.read_line.specs.Line.{line_of}
 use Rattle.read_line.specs.declared.Line.{Line}
 use Rattle.read_questions.specs.Reading.{contents, has_sheet, unit_of, units_in, loaders_in, rule_of, rules_in, sheet_in}
 use Rattle.read_steps.specs.Steps.{counted}
-use Rattle.read_steps.specs.declared.Step.{Step}
-use Rattle.read_steps.specs.declared.Step.TheVariants.{No, On}
 use Rattle.read_questions.specs.Reading.{questions_of, line_questions, pass_questions, ListRooms, refused, read, concluded}
 use Rattle.read_questions.specs.Steps.{step_of, columns, set_at, line_units, line_rules, pass_reply}
 use Rattle.read_questions.proofs.SpanLaws.{units_more, rules_more}
@@ -69,12 +70,12 @@ module _ (h : House) (t : List ℕ) (at n : ℕ) (s : Sheet) (m₀ m : ListRooms
 
   -- the line, which a line feed ends or not, and what the code makes of it
   module _ (room : max_units ≤ length m₀.loader) (next : ℕ) (some : at < length t) (e : next ≡ line_end t at + 1) (ended : Bool)
-      (f : has_feed (drop at t) ≡ ended) (line : Line) (k : line ≡ line_of h (first_line (drop at t)) ended) where
+      (f : has_feed (drop at t) ≡ ended) (line : Result Line Asked) (k : line ≡ line_of h (first_line (drop at t)) ended) where
     here : TextLine
     here = text_line (first_line (drop at t)) ended
 
     -- the code's step
-    abbrev made : Step
+    abbrev made : Result Sheet Asked
     made = step_of h (take s.units m.loader) s line
 
     all_lines : lines (drop at t) ≡ here ∷ lines (drop next t)
@@ -85,26 +86,26 @@ module _ (h : House) (t : List ℕ) (at n : ℕ) (s : Sheet) (m₀ m : ListRooms
     unfolding line_questions here is rest
     all_left = i.left ∙ ap (λ (ls : List TextLine). first_no (line_questions h n i.before ls)) all_lines
 
-    verdict : (r : Step) → made ≡ r → Verdicts r line i.before is n (first_no (questions_of h n i.before here is ++ rest next)) (first_no (rest next))
+    verdict : (r : Result Sheet Asked) → made ≡ r → Verdicts r line i.before is n (first_no (questions_of h n i.before here is ++ rest next)) (first_no (rest next))
     unfolding here is rest
     verdict r q =
-        subst (λ (x : Line). Verdicts r x i.before is n (first_no (questions_of h n i.before here is ++ rest next)) (first_no (rest next))) (sym k)
-        (subst (λ (o : Step). Verdicts o (line_of h here.bytes here.ended) i.before is n
+        subst (λ (x : Result Line Asked). Verdicts r x i.before is n (first_no (questions_of h n i.before here is ++ rest next)) (first_no (rest next))) (sym k)
+        (subst (λ (o : Result Sheet Asked). Verdicts o (line_of h here.bytes here.ended) i.before is n
         (first_no (questions_of h n i.before here is ++ rest next)) (first_no (rest next)))
         (ap₂ (λ ks l. step_of h ks s l) (sym (numbers_are room)) (sym k) ∙ q) (line_verdict h s i.before i.counts n here (rest next)))
 
-    line_no : (q : ℕ) → made ≡ No q → refused q n ≡ pass_reply h t
+    line_no : (q : Asked) → made ≡ Err q → refused (number_of q) n ≡ pass_reply h t
     unfolding pass_reply
     line_no q r =
-        let v : first_no (line_questions h 1 [] (lines t)) ≡ no q n = all_left ∙ verdict (No q) r in
+        let v : first_no (line_questions h 1 [] (lines t)) ≡ no (number_of q) n = all_left ∙ verdict (Err q) r in
         let last = ask 5 0 (has_sheet (contents h (lines t))) ∷ [] in
-        sym (ap (λ (x : Verdict). concluded x (sheet_in h t)) (first_then (line_questions h 1 [] (lines t)) last (no q n) v))
+        sym (ap (λ (x : Verdict). concluded x (sheet_in h t)) (first_then (line_questions h 1 [] (lines t)) last (no (number_of q) n) v))
 
-    line_on : (more : Sheet) (m' : ListRooms (List ℕ)) → next ≤ whole_lines t → made ≡ On more
+    line_on : (more : Sheet) (m' : ListRooms (List ℕ)) → next ≤ whole_lines t → made ≡ Ok more
         → m' ≡ set_at m s.units s.rules (columns (line_units line) (line_rules line)) → Asking h t next (n + 1) more m₀ m'
     unfolding rest is here contents
     line_on more m' w r a =
-        let p = verdict (On more) r in
+        let p = verdict (Ok more) r in
         let c = i.counts in
         record {
           before = i.before ++ (is ∷ []);
@@ -124,22 +125,22 @@ module _ (h : House) (t : List ℕ) (at n : ℕ) (s : Sheet) (m₀ m : ListRooms
         }
 
   -- a line that starts before the last line feed
-  module _ (room : max_units ≤ length m₀.loader) (next : ℕ) (w : at < whole_lines t) (e : next ≡ line_end t at + 1) (line : Line)
+  module _ (room : max_units ≤ length m₀.loader) (next : ℕ) (w : at < whole_lines t) (e : next ≡ line_end t at + 1) (line : Result Line Asked)
       (k : line ≡ line_of h (first_line (drop at t)) true) where
-    pub asking_no : (q : ℕ) → step_of h (take s.units m.loader) s line ≡ No q → refused q n ≡ pass_reply h t
+    pub asking_no : (q : Asked) → step_of h (take s.units m.loader) s line ≡ Err q → refused (number_of q) n ≡ pass_reply h t
     asking_no = line_no room next (omega (arith, whole_within t)) e true (whole_ended t at w) line k
 
-    pub asking_on : (more : Sheet) (m' : ListRooms (List ℕ)) → step_of h (take s.units m.loader) s line ≡ On more
+    pub asking_on : (more : Sheet) (m' : ListRooms (List ℕ)) → step_of h (take s.units m.loader) s line ≡ Ok more
         → m' ≡ set_at m s.units s.rules (columns (line_units line) (line_rules line)) → Asking h t next (n + 1) more m₀ m'
     asking_on more m' =
         line_on room next (omega (arith, whole_within t)) e true (whole_ended t at w) line k more m' (omega (arith, whole_next t at w))
 
   -- the bytes past the last line feed
-  pub asking_last : max_units ≤ length m₀.loader → whole_lines t ≤ at → at < length t → (q : ℕ) → Line.Refused q ≡ line_of h (drop at t) false
-      → refused q n ≡ pass_reply h t
+  pub asking_last : max_units ≤ length m₀.loader → whole_lines t ≤ at → at < length t → (q : Asked) → Err q ≡ line_of h (drop at t) false
+      → refused (number_of q) n ≡ pass_reply h t
   unfolding step_of
   asking_last room w some q k =
-      line_no room (line_end t at + 1) some refl false (rest_unended t at w) (Line.Refused q)
+      line_no room (line_end t at + 1) some refl false (rest_unended t at w) (Err q)
       (k ∙ ap (λ (l : List ℕ). line_of h l false) (sym (rest_line t at w))) q refl
 
   module _ (none : length t ≤ at) where

@@ -14,6 +14,7 @@ use read_line::Line;
 use sheet::Sheet;
 
 // A line after those of a sheet: questions 5 to 10 and 16, and its numbers into the arrays.
+#[tactic(auto, unfolding(read_questions::specs::Steps::step_of))]
 fn line_step(
     house: House,
     s: Sheet,
@@ -86,7 +87,10 @@ fn pass(
         let step = line_step(
             house, s, line, numbers, firsts, lasts, froms, tos, lows, highs, &mut heads, &mut nexts,
         );
-        s = step.map_err(|q| q.at(n))?;
+        s = match step {
+            Ok(more) => more,
+            Err(q) => return Err(q.at(n)),
+        };
         at = found.next;
         n += 1;
     }

@@ -1,6 +1,7 @@
 -- The search over a text, line by line.
 -- Key idea: at a line's start the answer is found among the lines that are left (`Searching`). A line of another kind leaves its place among them; one of this
 -- kind is the answer or lowers that place by one. Past the last line feed no line has its own, so none is looked for.
+use Rattle.std.specs.Prelude.{Ok, Err}
 use Prim.Native.Nat.{ℕ, suc, ◌+◌, ◌-◌, ◌≤◌, ◌<◌}
 use mathlib.Core.Path.{◌≡◌, refl, sym, ap, ap₂, ◌∙◌}
 use mathlib.Core.Logic.{⊎_elim}
@@ -21,7 +22,6 @@ use Rattle.read_form.specs.Grid.{code}
 use Rattle.read_form.specs.declared.Kind.{Kind}
 use Rattle.read_places.specs.Places.{Placed, placed_at, placed_from, is_of, spots_in, spots, sought_in, sought}
 use Rattle.read_places.specs.declared.Spot.{Spot}
-use Rattle.read_places.specs.declared.Sought.TheVariants.{At, Past}
 
 -- at the place `at`, where line n begins: the answer is the one of this place among the lines of the kind that are left
 pub record Searching (k : Kind) (t : List ℕ) (j at n left : ℕ) : Type 0 where
@@ -63,10 +63,10 @@ module _ (k : Kind) (t : List ℕ) (j at n left : ℕ) (i : Searching k t j at n
     unfolding rest
     next_from m q = record { place = omega (arith, e, whole_next t at some); number = omega (arith, i.number, e); among = q }
 
-    pub search_found : eqb state (code k) ≡ true → left ≡ 0 → At (record { number = n; start = at; end = place }) ≡ sought k t j
+    pub search_found : eqb state (code k) ≡ true → left ≡ 0 → Ok (record { number = n; start = at; end = place }) ≡ sought k t j
     unfolding here
     search_found q z =
-        ap (λ (m : ℕ). At (record { number = n; start = at; end = m })) e
+        ap (λ (m : ℕ). Ok (record { number = n; start = at; end = m })) e
         ∙ sym (found_left true q ∙ ap (sought_in (here.spot ∷ spots_in k rest)) z)
 
     pub search_counted : eqb state (code k) ≡ true → (left ≡ 0 → ⊥) → Searching k t j (place + 1) (n + 1) (left - 1)
@@ -78,7 +78,7 @@ module _ (k : Kind) (t : List ℕ) (j at n left : ℕ) (i : Searching k t j at n
     search_passed q = next_from left (found_left false q)
 
   -- the bytes past the last line feed: one line at most, which has none
-  pub search_none : whole_lines t ≤ at → Past left ≡ sought k t j
+  pub search_none : whole_lines t ≤ at → Err left ≡ sought k t j
   unfolding placed_from
   search_none past = sym (i.among ∙ ap (λ (ss : List Spot). sought_in ss left) no_spots)
     where

@@ -19,12 +19,12 @@ loop-at-init c =
       }),
     )
 
-pub returns-in-No-clause-result_value : goal.returns-in-No-clause-result_value
-returns-in-No-clause-result_value c =
+pub returns-in-Err-clause-result_value : goal.returns-in-Err-clause-result_value
+returns-in-Err-clause-result_value c =
     let f = c.line_at-found in
     let inside : c.loop-at.at < whole_lines c.args.text.now = omega (arith, c.lines_end-whole.ensures) in
-    asking_no _ _ _ _ _ _ _ c.loop-at.invariant.0 c.requires.1.in_loader f.result.next inside f.ensures.next_value
-    f.result.line f.ensures.line_value c.in-No.q (sym c.in-No.ensures.value)
+    rw c.at.ensures (asking_no _ _ _ _ _ _ _ c.loop-at.invariant.0 c.requires.1.in_loader f.result.next inside f.ensures.next_value
+    f.result.line f.ensures.line_value c.in-Err.q (sym c.in-Err.ensures.value))
 
 pub overflow_add-n : goal.overflow_add-n
 overflow_add-n c =
@@ -34,20 +34,20 @@ overflow_add-n c =
 pub loop-at-preserved : goal.loop-at-preserved
 loop-at-preserved c =
     let f = c.line_at-found in
-    let e = c.in-On.ensures in
+    let e = c.in-Ok.ensures in
     let inside : c.loop-at.at < whole_lines c.args.text.now = omega (arith, c.lines_end-whole.ensures) in (
       asking_on _ _ _ _ _ _ _ c.loop-at.invariant.0 c.requires.1.in_loader f.result.next inside f.ensures.next_value
-          f.result.line f.ensures.line_value c.in-On.more _ (sym e.value) e.highs_after,
+          f.result.line f.ensures.line_value c.in-Ok.more _ (sym e.value) e.highs_after,
       e.chained_by,
     )
 
 pub returns-then-at-text-clause-result_value : goal.returns-then-at-text-clause-result_value
 returns-then-at-text-clause-result_value c =
     let past : whole_lines c.args.text.now ≤ c.loop-at.at = omega (arith, c.lines_end-whole.ensures) in
-    asking_last _ _ _ _ _ _ _ c.loop-at.invariant.0 c.requires.1.in_loader past c.if-at-text.true c.last_line-q.result c.last_line-q.ensures
+    rw c.at-then-at-text.ensures (asking_last _ _ _ _ _ _ _ c.loop-at.invariant.0 c.requires.1.in_loader past c.if-at-text.true c.last_line-q.result c.last_line-q.ensures)
 
 pub returns-then-s-eq0-clause-result_value : goal.returns-then-s-eq0-clause-result_value
-returns-then-s-eq0-clause-result_value c = asking_none _ _ _ _ _ _ _ c.loop-at.invariant.0 c.if-at-text.false c.if-s-eq0.true
+returns-then-s-eq0-clause-result_value c = rw c.refused.ensures (asking_none _ _ _ _ _ _ _ c.loop-at.invariant.0 c.if-at-text.false c.if-s-eq0.true)
 
 pub returns-clause-result_value : goal.returns-clause-result_value
 returns-clause-result_value c = asking_sheet _ _ _ _ _ _ _ c.loop-at.invariant.0 c.if-at-text.false c.if-s-eq0.false

@@ -9,8 +9,8 @@ number_is : (k : Kind) (text : List ℕ) (j : ℕ) → number_in (sought k text 
 unfolding sought
 number_is k text j = sought_number (spots k text) j
 
-pub returns-in-At : goal.returns-in-At
-returns-in-At c = ap number_in c.in-At.ensures ∙ number_is _ _ _
+pub returns-in-Ok : goal.returns-in-Ok
+returns-in-Ok c = ap number_in c.in-Ok.ensures ∙ number_is _ _ _
 
-pub returns-in-Past : goal.returns-in-Past
-returns-in-Past c = ap number_in c.in-Past.ensures ∙ number_is _ _ _
+pub returns-in-Err : goal.returns-in-Err
+returns-in-Err c = ap number_in c.in-Err.ensures ∙ number_is _ _ _
