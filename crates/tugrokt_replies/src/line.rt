@@ -28,7 +28,7 @@ pub fn numbers_of(found: Result<LinePlace, Blamed>) -> Line
             ..Line::default()
         },
         Ok(LinePlace::First(start, end)) => Line {
-            sheet: 1,
+            sheet: 2,
             start,
             length: end - start,
             ..Line::default()
