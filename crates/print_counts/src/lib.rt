@@ -14,13 +14,11 @@ pub fn count_slots(plan: &[u16], counts: &mut [u16])
     requires { (counts.old ≡ replicate max_boundaries 0) × (length plan.now ≤ max_units) }
     ensures { counts.new ≡ slot_counts plan.now }
 {
-    let mut j = 0;
-    while j < plan.len() {
-        let slot = plan[j] as usize;
+    for slot in plan {
+        let slot = *slot as usize;
         if slot < counts.len() {
             counts[slot] += 1;
         }
-        j += 1;
     }
 }
 
@@ -28,30 +26,33 @@ pub fn count_slots(plan: &[u16], counts: &mut [u16])
 pub fn above(x: i16) -> u16
     ensures { result ≡ up x }
 {
-    if x < 0 { 0 } else { x as u16 }
+    x.max(0).unsigned_abs()
 }
 
 pub fn below(x: i16) -> u16
     ensures { result ≡ dn x }
 {
-    if x < 0 { (-(x as i32)) as u16 } else { 0 }
+    x.min(0).unsigned_abs()
 }
 
-// The least count of a slot over lawful plans, from the finished table, and the greatest.
-pub fn least_of(table: &[i16], span: usize, t: Slot) -> u16
-    requires { (1 ≤ t.0) × (t.0 ≤ span) × (span ≤ max_slots) × (boundaries_of span * boundaries_of span ≤ length table.now) }
-    ensures { result ≡ least_from (boundaries_of span) table.now t.0 }
-{
-    let end = t.end().0;
-    let start = t.start().0;
-    below(entry_at(table, sheet::boundaries(span), end, start))
+// How many units a slot has over lawful plans: at least, and at most.
+#[derive(Clone, Copy)]
+pub struct Range {
+    pub least: u16,
+    pub greatest: u16,
 }
 
-pub fn greatest_of(table: &[i16], span: usize, t: Slot) -> u16
+// The range of a slot, from the finished table.
+pub fn range_of(table: &[i16], span: usize, t: Slot) -> Range
     requires { (1 ≤ t.0) × (t.0 ≤ span) × (span ≤ max_slots) × (boundaries_of span * boundaries_of span ≤ length table.now) }
-    ensures { result ≡ greatest_from (boundaries_of span) table.now t.0 }
+    ensures least { result.least ≡ least_from (boundaries_of span) table.now t.0 }
+    ensures greatest { result.greatest ≡ greatest_from (boundaries_of span) table.now t.0 }
 {
-    let end = t.end().0;
+    let w = sheet::boundaries(span);
     let start = t.start().0;
-    above(entry_at(table, sheet::boundaries(span), start, end))
+    let end = t.end().0;
+    Range {
+        least: below(entry_at(table, w, end, start)),
+        greatest: above(entry_at(table, w, start, end)),
+    }
 }

@@ -6,7 +6,7 @@ ghost use Rattle.sheet.specs.Sizes.{max_slots, boundaries_of};
 ghost use Rattle.print_bytes.specs.Writing.{Room, Written};
 ghost use Rattle.pages.specs.Page.{slot_lines, range_lines, least_from, greatest_from};
 
-use print_counts::{greatest_of, least_of};
+use print_counts::range_of;
 use print_lines::{put_range, put_slot};
 use slots::Slot;
 
@@ -19,17 +19,9 @@ pub fn put_slots(page: &mut [u8], at: usize, span: usize, counts: &[u16], table:
         (greatest_from (boundaries_of span) table.now)) page.new result }
 {
     let mut next = at;
-    let mut t = 1;
-    while t <= span {
-        next = put_slot(
-            page,
-            next,
-            t as u16,
-            counts[t],
-            least_of(table, span, Slot(t)),
-            greatest_of(table, span, Slot(t)),
-        );
-        t += 1;
+    for t in 1..=span {
+        let range = range_of(table, span, Slot(t));
+        next = put_slot(page, next, t as u16, counts[t], range.least, range.greatest);
     }
     next
 }
@@ -42,12 +34,9 @@ pub fn put_ranges(page: &mut [u8], at: usize, span: usize, table: &[i16]) -> usi
         page.new result }
 {
     let mut next = at;
-    let mut slot = 1;
-    while slot <= span {
-        let least = least_of(table, span, Slot(slot));
-        let greatest = greatest_of(table, span, Slot(slot));
-        next = put_range(page, next, slot as u16, least, greatest);
-        slot += 1;
+    for slot in 1..=span {
+        let range = range_of(table, span, Slot(slot));
+        next = put_range(page, next, slot as u16, range.least, range.greatest);
     }
     next
 }
