@@ -1,1 +1,2 @@
 pub mod FirstNoLaws
+pub mod VerdictLaws
