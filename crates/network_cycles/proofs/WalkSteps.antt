@@ -5,12 +5,10 @@ use Prim.Native.Nat.{ℕ, suc, ◌+◌, ◌-◌, ◌≤◌, ◌<◌}
 use native.Mathlib.Omega.{arith}
 use mathlib.Core.Path.{◌≡◌, sym, ap, subst, ◌∙◌}
 use mathlib.Core.List.{List, [], ◌∷◌}
-use borrow.Author.Tests.{eqb-true, eqb-false}
-use lib.Dec.{eqb}
+use Rattle.std.specs.Prelude.{◌≢◌, EachIndex}
 use lib.ListN.{length, get_or, take, drop, set, length-take, length-drop, length-set, drop_of_length-le}
-use lib.Seq.{drop-cons, drop-set-lt, get_or-drop, get_or-set_same}
+use lib.Seq.{drop-cons, drop-set-lt, get_or-set_same}
 use lib.IntN.{ℤ, ◌+ℤ◌}
-use Rattle.lists.specs.First.{first_from, From, first_from_lem}
 use Rattle.lists.specs.Members.{In}
 use Rattle.network.proofs.NetworkLaws.{distinct_length}
 use Rattle.network.specs.Table.{entry}
@@ -47,53 +45,42 @@ walk_start {w} {d} walk {last} q f l =
       apart = subst (λ (xs : List ℕ). Distinct (last ∷ xs)) (sym none) ((λ m. let r = at_in last [] m in omega (arith, r.inside)), tt);
     }
 
-module _ {w : ℕ} {d : List ℤ} {walk : List ℕ} {k v u j : ℕ} (q : Weighed w d) (i : WalkInv w d walk k v) (s : Source w d (k - 1) v u)
-    (ej : j ≡ first_from (length walk - k) k (λ p. eqb (get_or walk p 0) u)) where
+module _ {w : ℕ} {d : List ℤ} {walk : List ℕ} {k v u : ℕ} (q : Weighed w d) (i : WalkInv w d walk k v) (s : Source w d (k - 1) v u) where
   whole : drop k walk ≡ v ∷ drop (suc k) walk
   whole = drop-cons walk k 0 (omega (arith, i.long, i.most)) ∙ ap (λ (x : ℕ). x ∷ drop (suc k) walk) i.at
 
   size : length (v ∷ drop (suc k) walk) ≡ w + 1 - k
   size = ap length (sym whole) ∙ (omega (arith, length-drop k walk, i.long))
 
-  on_walk : (p : ℕ) → get_or (v ∷ drop (suc k) walk) p 0 ≡ get_or walk (k + p) 0
-  on_walk p = ap (λ (xs : List ℕ). get_or xs p 0) (sym whole) ∙ get_or-drop k walk p 0
-
-  found : From (λ p. eqb (get_or walk p 0) u) (length walk - k) k j
-  found = subst (From (λ p. eqb (get_or walk p 0) u) (length walk - k) k) (sym ej) (first_from_lem (λ p. eqb (get_or walk p 0) u) (length walk - k) k)
-
-  -- the boundary stands on the walk already
-  pub walk_found : j ≤ w → Found w d k (j + 1) walk
-  walk_found h =
-      let r = found in
-      let n = j - k in
-      let e : k + n ≡ j = omega (arith, r.least) in
-      let at : get_or (v ∷ drop (suc k) walk) n 0 ≡ u =
-      on_walk n ∙ ap (λ (p : ℕ). get_or walk p 0) e ∙ eqb-true (get_or walk j 0) u (r.at (omega (arith, i.long, i.most))) in
+  -- the boundary stands on the walk already, n places behind its front
+  pub walk_found : (n : ℕ) → n < length (drop k walk) → get_or (drop k walk) n 0 ≡ u → Found w d k (k + n + 1) walk
+  walk_found n h met =
+      let n' = ap length whole in
+      let at : get_or (v ∷ drop (suc k) walk) n 0 ≡ u = ap (λ (xs : List ℕ). get_or xs n 0) (sym whole) ∙ met in
       let z = q.zeros v (omega (arith, i.upto.0, q.some)) in
-      let c = met_again w (entry w d) (w - 1) (k - 1) v (drop (suc k) walk) u n (omega (arith, size)) at i.walked i.upto i.apart z s.gives in
-      let m : j + 1 - k ≡ suc n = omega arith in
-      let t : take (suc n) (v ∷ drop (suc k) walk) ≡ take (j + 1 - k) (drop k walk) =
+      let c = met_again w (entry w d) (w - 1) (k - 1) v (drop (suc k) walk) u n (omega arith) at i.walked i.upto i.apart z s.gives in
+      let m : k + n + 1 - k ≡ suc n = omega arith in
+      let t : take (suc n) (v ∷ drop (suc k) walk) ≡ take (k + n + 1 - k) (drop k walk) =
       ap (take (suc n)) (sym whole) ∙ ap (λ (x : ℕ). take x (drop k walk)) (sym m) in
       let room = distinct_length (w - 1) (take (suc n) (v ∷ drop (suc k) walk)) c.upto c.apart in
       record {
         order = omega arith;
-        inside = omega (arith, i.long);
+        inside = omega (arith, i.long, size);
         short = omega (arith, room, length-take (suc n) (v ∷ drop (suc k) walk), size, q.some);
         cycle = subst (Cycle (w - 1) (entry w d)) t c;
       }
 
   -- it does not, and becomes the walk's first
-  pub walk_next : w < j → WalkInv w d (set walk (k - 1) u) (k - 1) u
+  pub walk_next : EachIndex (drop k walk) (λ n. get_or (drop k walk) n 0 ≢ u) → WalkInv w d (set walk (k - 1) u) (k - 1) u
   unfolding WalkedBack
-  walk_next h =
+  walk_next absent =
       let t = set walk (k - 1) u in
       let e : suc (k - 1) ≡ k = omega (arith, i.low) in
       let after : drop (suc (k - 1)) t ≡ v ∷ drop (suc k) walk =
       drop-set-lt (suc (k - 1)) walk (k - 1) u (omega arith) ∙ ap (λ (x : ℕ). drop x walk) e ∙ whole in
       let fresh : In u (v ∷ drop (suc k) walk) → ⊥ = (λ m.
       let r = at_in u (v ∷ drop (suc k) walk) m in
-      let f = found.before (k + r.place) (omega arith) (omega (arith, r.inside, size)) in
-      eqb-false (get_or walk (k + r.place) 0) u f (sym (on_walk r.place) ∙ r.value)) in
+      absent r.place (omega (arith, r.inside, ap length whole)) (ap (λ (xs : List ℕ). get_or xs r.place 0) whole ∙ r.value)) in
       let below : u ≤ w - 1 = omega (arith, s.inside) in
       let upto : Upto (w - 1) (u ∷ (v ∷ drop (suc k) walk)) = (below, i.upto) in
       let apart : Distinct (u ∷ (v ∷ drop (suc k) walk)) = (fresh, i.apart) in

@@ -1,11 +1,11 @@
 #![tactic(auto)]
 
-ghost use Rattle.std.specs.Prelude.{◌≡◌, ◌++◌, ◌+◌, ◌-◌, ◌*◌, ◌≤◌, ◌<◌, eqb, length, get_or, take, drop, pos, ◌+ℤ◌};
-ghost use Rattle.std.specs.Int.Signed.{lt_z};
-ghost use Rattle.lists.specs.First.{first_place, first_from};
+ghost use Rattle.std.specs.Prelude.{◌≡◌, ◌++◌, ◌+◌, ◌-◌, ◌*◌, ◌≤◌, ◌<◌, ◌≢◌, MatchOption, EachIndex, length, get_or, take, drop, pos, ◌+ℤ◌, ◌≤ℤ◌, ◌<ℤ◌};
 ghost use Rattle.network.specs.Table.{entry};
 ghost use Rattle.network_levels.specs.Levels.{level};
 ghost use Rattle.network_levels.specs.Finder.{Infeasible, Weighed, Leveled, Fallen, Source, Lowest, Found, CycleAt};
+
+use std::ops::Range;
 
 // The levels of all boundaries, one more than there are boundaries, row by row.
 const LEVEL_CELLS: usize = (network::MAX_BOUNDARIES + 1) * network::MAX_BOUNDARIES;
@@ -13,40 +13,20 @@ const LEVEL_CELLS: usize = (network::MAX_BOUNDARIES + 1) * network::MAX_BOUNDARI
 // A walk over all levels.
 const WALK: usize = network::MAX_BOUNDARIES + 1;
 
-// A stretch of a walk: from its first place to behind its last one.
-#[derive(Clone, Copy)]
-struct Stretch(usize, usize);
-
-// The first place where low is below high, or the length.
-fn first_below(low: &[i16], high: &[i16]) -> usize
+// A place where low is below high.
+fn first_below(low: &[i16], high: &[i16]) -> Option<usize>
     requires { length low.now ≡ length high.now }
-    ensures { result ≡ first_place (length low.now) (λ v. lt_z (get_or low.now v (pos 0)) (get_or high.now v (pos 0))) }
+    ensures { MatchOption result (EachIndex low.now (λ v. get_or high.now v (pos 0) ≤ℤ get_or low.now v (pos 0)))
+        (λ v. (v < length low.now) × (get_or low.now v (pos 0) <ℤ get_or high.now v (pos 0))) }
 {
-    let n = low.len();
-    let mut v = 0;
-    while v < n {
-        if low[v] < high[v] {
-            return v;
-        }
-        v += 1;
-    }
-    v
+    low.iter().zip(high).position(|(x, y)| x < y)
 }
 
-// The first place of x that is not before from, or the length.
-fn place_of(c: &[u16], from: usize, x: u16) -> usize
-    requires { from ≤ length c.now }
-    ensures { result ≡ first_from (length c.now - from) from (λ j. eqb (get_or c.now j 0) x) }
+// A place where x stands.
+fn place_of(c: &[u16], x: u16) -> Option<usize>
+    ensures { MatchOption result (EachIndex c.now (λ j. get_or c.now j 0 ≢ x)) (λ j. (j < length c.now) × (get_or c.now j 0 ≡ x)) }
 {
-    let n = c.len();
-    let mut j = from;
-    while j < n {
-        if c[j] == x {
-            return j;
-        }
-        j += 1;
-    }
-    j
+    c.iter().position(|y| *y == x)
 }
 
 // A place of the least boundary.
@@ -54,16 +34,7 @@ fn lowest_place(c: &[u16]) -> usize
     requires { 0 < length c.now }
     ensures { Lowest c.now result }
 {
-    let mut low = 0;
-    let mut j = 1;
-    let n = c.len();
-    while j < n {
-        if c[j] < c[low] {
-            low = j;
-        }
-        j += 1;
-    }
-    low
+    (0..c.len()).min_by_key(|j| c[*j]).unwrap()
 }
 
 // The cycle c at the front of out, from its place low on.
@@ -71,83 +42,84 @@ fn put_turned(c: &[u16], low: usize, out: &mut [u16])
     requires { (low ≤ length c.now) × (length c.now ≤ length out.old) }
     ensures { out.new ≡ (drop low c.now ++ take low c.now) ++ drop (length c.now) out.old }
 {
-    let n = c.len();
-    lists::copy_list(&c[low..n], out);
-    let rest = n - low;
-    lists::copy_list(&c[0..low], &mut out[rest..n]);
+    lists::copy_list(c, out);
+    out[..c.len()].rotate_left(low);
 }
 
-// What the step from u leaves v at level k + 1.
-fn left_by(d: &[i16], w: usize, levels: &[i16], k: usize, u: usize, v: usize) -> i16
-    requires { Leveled w d.now levels.now × (k < w) × (u < w) × (v < w) }
-    ensures { result ≡ level w (entry w d.now) k u +ℤ entry w d.now u v }
-{
-    network::entry_at(levels, w, k, u) + network::entry_at(d, w, u, v)
+// The weights of a network, with the levels of its boundaries row by row.
+#[derive(Clone, Copy)]
+struct Levels<'a> {
+    w: usize,
+    d: &'a [i16],
+    levels: &'a [i16],
+    ghost made: { Leveled w d.now levels.now },
 }
 
-// A boundary from which v has its level k.
-fn source_of(d: &[i16], w: usize, levels: &[i16], k: usize, v: usize) -> usize
-    requires { Leveled w d.now levels.now × (0 < k) × (k ≤ w) × (v < w) }
-    ensures { Source w d.now (k - 1) v result }
-{
-    let above = k - 1;
-    let target = network::entry_at(levels, w, k, v);
-    let mut u = 0;
-    while u < w {
-        let x = left_by(d, w, levels, above, u, v);
-        if x <= target {
-            return u;
-        }
-        u += 1;
+impl Levels<'_> {
+    // What the step from u leaves v at level k + 1.
+    fn left_by(&self, k: usize, u: usize, v: usize) -> i16
+        requires { (k < self.now.w) × (u < self.now.w) × (v < self.now.w) }
+        ensures { result ≡ level self.now.w (entry self.now.w self.now.d.now) k u +ℤ entry self.now.w self.now.d.now u v }
+    {
+        network::entry_at(self.levels, self.w, k, u) + network::entry_at(self.d, self.w, u, v)
     }
-    u
-}
 
-// A boundary that fell at the last level: without a feasible potential there is one.
-fn last_fallen(d: &[i16], w: usize, levels: &[i16]) -> usize
-    requires { Leveled w d.now levels.now × Infeasible w d.now }
-    ensures { Fallen w d.now result }
-{
-    let last = w * w;
-    let end = last + w;
-    let before = last - w;
-    first_below(&levels[last..end], &levels[before..last])
-}
-
-// The walk back from a boundary that fell at the last level, into its room from the end on, until it would meet a boundary again.
-fn walk_back(d: &[i16], w: usize, levels: &[i16], last: usize, walk: &mut [u16]) -> Stretch
-    requires { Leveled w d.now levels.now × Fallen w d.now last × (length walk.old ≡ w + 1) }
-    ensures { Found w d.now result.0 result.1 walk.new }
-{
-    walk[w] = last as u16;
-    let mut k = w;
-    let mut v = last;
-    loop {
-        let u = source_of(d, w, levels, k, v);
-        let x = u as u16;
-        let j = place_of(walk, k, x);
-        if j <= w {
-            let to = j + 1;
-            return Stretch(k, to);
+    // A boundary from which v has its level k.
+    fn source_of(&self, k: usize, v: usize) -> usize
+        requires { (0 < k) × (k ≤ self.now.w) × (v < self.now.w) }
+        ensures { Source self.now.w self.now.d.now (k - 1) v result }
+    {
+        let target = network::entry_at(self.levels, self.w, k, v);
+        for u in 0..self.w {
+            if self.left_by(k - 1, u, v) <= target {
+                return u;
+            }
         }
-        k -= 1;
-        walk[k] = x;
-        v = u;
+        unreachable!()
     }
-}
 
-// The cycle that the walk back finds, turned to its lowest boundary, at the front of out.
-fn find_cycle(d: &[i16], w: usize, levels: &[i16], walk: &mut [u16], out: &mut [u16]) -> usize
-    requires { Leveled w d.now levels.now × Infeasible w d.now × (length walk.old ≡ w + 1) × (w ≤ length out.old) }
-    ensures { CycleAt w d.now out.old result out.new }
-{
-    let last = last_fallen(d, w, levels);
-    let s = walk_back(d, w, levels, last, walk);
-    let from = s.0;
-    let to = s.1;
-    let low = lowest_place(&walk[from..to]);
-    put_turned(&walk[from..to], low, out);
-    to - from
+    // A boundary that fell at the last level: without a feasible potential there is one.
+    fn last_fallen(&self) -> usize
+        requires { Infeasible self.now.w self.now.d.now }
+        ensures { Fallen self.now.w self.now.d.now result }
+    {
+        let last = self.w * self.w;
+        first_below(
+            &self.levels[last..last + self.w],
+            &self.levels[last - self.w..last],
+        )
+        .unwrap()
+    }
+
+    // The walk back from a boundary that fell at the last level, into its room from the end on, until it would meet a boundary again.
+    fn walk_back(&self, last: usize, walk: &mut [u16]) -> Range<usize>
+        requires { Fallen self.now.w self.now.d.now last × (length walk.old ≡ self.now.w + 1) }
+        ensures { Found self.now.w self.now.d.now result.start result.end walk.new }
+    {
+        walk[self.w] = last as u16;
+        let mut k = self.w;
+        let mut v = last;
+        loop {
+            let u = self.source_of(k, v);
+            if let Some(steps) = place_of(&walk[k..], u as u16) {
+                return k..k + steps + 1;
+            }
+            k -= 1;
+            walk[k] = u as u16;
+            v = u;
+        }
+    }
+
+    // The cycle that the walk back finds, turned to its lowest boundary, at the front of out.
+    fn find_cycle(&self, walk: &mut [u16], out: &mut [u16]) -> usize
+        requires { Infeasible self.now.w self.now.d.now × (length walk.old ≡ self.now.w + 1) × (self.now.w ≤ length out.old) }
+        ensures { CycleAt self.now.w self.now.d.now out.old result out.new }
+    {
+        let found = self.walk_back(self.last_fallen(), walk);
+        let cycle = &walk[found];
+        put_turned(cycle, lowest_place(cycle), out);
+        cycle.len()
+    }
 }
 
 // A negative cycle, from its lowest boundary on, at the front of out; the answer is its length.
@@ -158,6 +130,10 @@ pub fn negative_cycle(d: &[i16], w: usize, out: &mut [u16]) -> usize
     let mut levels = [0i16; LEVEL_CELLS];
     network_levels::fill_levels(d, w, &mut levels);
     let mut walk = [0u16; WALK];
-    let n = w + 1;
-    find_cycle(d, w, &levels, &mut walk[..n], out)
+    let made = Levels {
+        w,
+        d,
+        levels: &levels,
+    };
+    made.find_cycle(&mut walk[..w + 1], out)
 }

@@ -5,22 +5,20 @@ use Prim.Native.Nat.{ℕ, zero, suc, ◌+◌, ◌-◌, ◌*◌, ◌≤◌, ◌<�
 use native.Mathlib.Omega.{arith}
 use Rattle.std.proofs.Common.{mul-le-mul_right, subst, ◌∙◌, length-take, get_or-take, SFits}
 use Rattle.std.proofs.Math.Decide.{dec_le}
-use Rattle.std.specs.Prelude.{◌≡◌, refl, Bool, true, false, take, drop, replicate, pos, ◌+ℤ◌}
+use Rattle.std.specs.Prelude.{◌≡◌, refl, take, drop, replicate, pos, ◌+ℤ◌, ◌≤ℤ◌, ◌<ℤ◌, EachIndex}
 use Rattle.std.proofs.Math.Path.{sym, ap}
 use mathlib.Core.List.{List}
 use Rattle.std.proofs.Math.ListN.{length, get_or}
 use Rattle.std.proofs.Math.IntN.{ℤ}
-use Rattle.std.specs.Int.Signed.{lt_z}
 use Rattle.std.specs.Int.{w16}
 use Rattle.integers.specs.Parts.{ints}
-use Rattle.lists.specs.First.{first_place, first_before, first_at}
 use Rattle.lists.specs.Slices.{part_at, part_length, back, back_before, back_inside}
 use Rattle.lists.specs.Values.{list_of, length_list_of, list_of_at}
 use Rattle.network.specs.Network.{Potential, Feasible}
 use Rattle.network.specs.Table.{max_boundaries, entry}
 use Rattle.network_levels.specs.Levels.{least_over, lower, level}
 use Rattle.network_levels.specs.LevelLaws.{least_same, level_step, level_source, level_feasible}
-use Rattle.network_levels.specs.Finder.{StepsFit, LevelsUpTo, Weighed, Leveled, Fallen, Source}
+use Rattle.network_levels.specs.Finder.{StepsFit, LevelsUpTo, Weighed, Leveled, Fallen, Source, Infeasible}
 use Rattle.network_levels.specs.LevelRange.{level_sum_fits}
 
 -- a place in a row above row k
@@ -67,25 +65,42 @@ module _ {w k : ℕ} {d prev : List ℤ} (c : RowOf w k d prev) where
             ∙ ap (λ (n : ℕ). level w (entry w d) n x) (sym e)
       ]
 
--- ---- a boundary that fell at the last level
-pub fallen_found : {w : ℕ} {d levels : List ℤ} (low high : List ℤ) (r : ℕ) → Leveled w d levels → ((z : Potential) → Feasible (w - 1) (entry w d) z → ⊥)
-    → length low ≡ w → ((v : ℕ) → v < w → get_or low v (pos 0) ≡ level w (entry w d) w v)
-    → ((v : ℕ) → v < w → get_or high v (pos 0) ≡ level w (entry w d) (w - 1) v)
-    → r ≡ first_place (length low) (λ v. lt_z (get_or low v (pos 0)) (get_or high v (pos 0))) → Fallen w d r
-fallen_found {w} {d} low high r q infeasible long lows highs e =
-    let t : ℕ → Bool = (λ v. lt_z (get_or low v (pos 0)) (get_or high v (pos 0))) in
-    let s : w ≡ suc (w - 1) = omega (arith, q.weights.some) in
-    let last : (v : ℕ) → v < w → get_or low v (pos 0) ≡ level w (entry w d) (suc (w - 1)) v = (λ v h.
-    lows v h ∙ ap (λ (n : ℕ). level w (entry w d) n v) s) in
-    elim (dec_le w r) [
-      | no h ↦
-          let l : r < w = omega arith in
-          let f : t r ≡ true = ap t e ∙ first_at t (length low) (omega (arith, e)) in
-          record { inside = l; fell = omega (ints, f, last r l, highs r l) }
-      | yes h ↦ absurd (infeasible (level w (entry w d) (w - 1)) (level_feasible w (entry w d) (w - 1) (w - 1) s (λ v l.
-          let f : t v ≡ false = first_before t (length low) v (omega (arith, e)) in
-          omega (ints, f, last v l, highs v l))))
-    ]
+-- ---- a boundary that fell at the last level: where the last row is below the one before
+abbrev pub last_level : ℕ → List ℤ → List ℤ
+last_level w levels = take (w * w + w - w * w) (drop (w * w) levels)
+
+abbrev pub level_before : ℕ → List ℤ → List ℤ
+level_before w levels = take (w * w - (w * w - w)) (drop (w * w - w) levels)
+
+module _ {w : ℕ} {d levels : List ℤ} (q : Leveled w d levels) where
+  sizes : (w ≡ suc (w - 1)) × (w ≤ w * w)
+  sizes = let h : 1 * w ≤ w * w = mul-le-mul_right w (omega (arith, q.weights.some)) in (omega (arith, q.weights.some), omega arith)
+
+  last_at : (v : ℕ) → v < w → get_or (last_level w levels) v (pos 0) ≡ level w (entry w d) (suc (w - 1)) v
+  last_at v h = part_at (w * w) (w * w + w - w * w) levels (pos 0) v (omega arith) ∙ q.levels_are w v (omega arith) h
+      ∙ ap (λ (i : ℕ). level w (entry w d) i v) sizes.0
+
+  before_at : (v : ℕ) → v < w → get_or (level_before w levels) v (pos 0) ≡ level w (entry w d) (w - 1) v
+  before_at v h =
+      let e : w * w - w ≡ (w - 1) * w = omega (arith, ap (λ (i : ℕ). i * w) sizes.0) in
+      part_at (w * w - w) (w * w - (w * w - w)) levels (pos 0) v (omega (arith, sizes))
+      ∙ ap (λ (i : ℕ). get_or levels (i + v) (pos 0)) e ∙ q.levels_are (w - 1) v (omega arith) h
+
+  pub last_long : (length (last_level w levels) ≡ w) × (length (level_before w levels) ≡ w)
+  last_long = (
+    omega (arith, part_length (w * w) (w * w + w - w * w) levels (omega (arith, q.long))),
+    omega (arith, sizes, part_length (w * w - w) (w * w - (w * w - w)) levels (omega (arith, q.long, sizes))),
+  )
+
+  pub fallen_at : (v : ℕ) → v < length (last_level w levels) → get_or (last_level w levels) v (pos 0) <ℤ get_or (level_before w levels) v (pos 0)
+      → Fallen w d v
+  fallen_at v h l = let i : v < w = omega (arith, last_long) in record { inside = i; fell = rw (last_at v i, before_at v i) at l }
+
+  -- some boundary did
+  pub fallen_there : Infeasible w d
+      → EachIndex (last_level w levels) (λ v. get_or (level_before w levels) v (pos 0) ≤ℤ get_or (last_level w levels) v (pos 0)) → ⊥
+  fallen_there infeasible f = infeasible (level w (entry w d) (w - 1)) (level_feasible w (entry w d) (w - 1) (w - 1) sizes.0 (λ v h.
+      let l = f v (omega (arith, last_long)) in rw (last_at v h, before_at v h) at l))
 
 -- ---- a level read from its row
 module _ {w : ℕ} {d levels : List ℤ} (q : Leveled w d levels) where
@@ -101,19 +116,15 @@ module _ {w : ℕ} {d levels : List ℤ} (q : Leveled w d levels) where
       subst (SFits w16) (sym (left_is k u v hk hu)) (level_sum_fits w d q.weights.small k u v (omega (arith, q.weights.few)) hu hv)
 
 -- ---- the boundary from which v has its level
--- the step from u leaves v more than its level k
-abbrev pub leaves_more : ℕ → List ℤ → List ℤ → ℕ → ℕ → ℕ → Bool
-leaves_more w d levels k v u = lt_z (entry w levels k v) (level w (entry w d) (k - 1) u +ℤ entry w d u v)
-
 module _ {w : ℕ} {d levels : List ℤ} (q : Leveled w d levels) (k v : ℕ) (pk : 0 < k) (hk : k ≤ w) (hv : v < w) where
   target_is : entry w levels k v ≡ level w (entry w d) (suc (k - 1)) v
   target_is = let e : k ≡ suc (k - 1) = omega arith in q.levels_are k v hk hv ∙ ap (λ (n : ℕ). level w (entry w d) n v) e
 
-  pub source_found : (u : ℕ) → u < w → leaves_more w d levels k v u ≡ false → Source w d (k - 1) v u
-  source_found u h f = record { inside = h; gives = omega (ints, f, target_is, level_step w (entry w d) (k - 1) u v h) }
+  pub source_at : (u : ℕ) → u < w → (level w (entry w d) (k - 1) u +ℤ entry w d u v) ≤ℤ entry w levels k v → Source w d (k - 1) v u
+  source_at u h f = record { inside = h; gives = omega (ints, f, target_is, level_step w (entry w d) (k - 1) u v h) }
 
   -- some boundary is one
-  pub source_there : ((u : ℕ) → u < w → leaves_more w d levels k v u ≡ true) → ⊥
+  pub source_there : ((u : ℕ) → u < w → entry w levels k v <ℤ (level w (entry w d) (k - 1) u +ℤ entry w d u v)) → ⊥
   source_there f =
       let s = level_source w (entry w d) (k - 1) v hv (q.weights.zeros v hv) in
       omega (ints, f s.place s.inside, target_is, s.value)
