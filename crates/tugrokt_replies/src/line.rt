@@ -28,7 +28,7 @@ pub fn numbers_of(found: Result<LinePlace, Blamed>) -> Line
             ..Line::default()
         },
         Ok(LinePlace::First(start, end)) => Line {
-            sheet: 2,
+            sheet: 1,
             start,
             length: end - start,
             ..Line::default()

@@ -6,4 +6,4 @@ use Rattle.tugrokt_reading.proofs.read_house.Goals as goal
 pub returns : goal.returns
 returns c =
     let called = c.read-reply in
-    record { told = c.numbers_of.ensures ∙ ap reading_of called.ensures.result_value; left = called.ensures.high_after }
+    record { told = c.from.ensures ∙ ap reading_of called.ensures.result_value; left = called.ensures.high_after }
