@@ -9,6 +9,7 @@ use lib.ListN.{length, take, drop, length-map, length-drop, drop_of_length-le}
 use lib.Seq.{sets, sets-eq, take_all, drop-drop}
 use borrow.Author.Tests.{le-leb, lt-leb}
 use Rattle.questions.specs.Questions.{Verdict, first_no}
+use Rattle.questions.specs.declared.Refusal.{Refusal}
 use Rattle.questions.proofs.FirstNoLaws.{no_here, yes_here}
 use Rattle.sheet.specs.Sizes.{max_units, max_rules, max_bytes}
 use Rattle.forms.specs.declared.House.{House}
@@ -17,8 +18,8 @@ use Rattle.read_questions.specs.Reading.{sheet_in, pass_questions, ListRooms, ro
 use Rattle.read_questions.specs.Steps.{Holds, pass_reply, Kept}
 use Rattle.read_questions.proofs.ArrayLaws.{rooms_same}
 use Rattle.read_questions.proofs.ConcludedLaws.{concluded_read}
-use Rattle.read_questions.specs.declared.Reading.{Reading}
-use Rattle.read_questions.specs.declared.Reading.TheVariants as Reading
+use Rattle.sheet.specs.declared.Sheet.{Sheet}
+use Rattle.std.specs.Prelude.{Result, Ok, Err}
 use Rattle.merge_read.specs.Behind.{text_reply, KeptBehind}
 
 -- ---- question 1
@@ -87,11 +88,11 @@ module _ (u r : ℕ) (m : ListRooms (List ℕ)) (h : Holds (u + max_units) (r + 
       → put_from i array (sets (part_from i array) 0 (map f xs)) ≡ sets array i (map f xs)
   set_column f xs i most array few long = set_from i array (map f xs) (omega (arith, length-map xs f))
 
-  pub kept_behind : (a : Reading) (p : ListRooms (List ℕ)) → reply_of a ≡ pass_reply Ours text → Kept Ours a text (parts_from u r m) p
+  pub kept_behind : (a : Result Sheet Refusal) (p : ListRooms (List ℕ)) → reply_of a ≡ pass_reply Ours text → Kept Ours a text (parts_from u r m) p
       → KeptBehind a text u r m (put_all_from u r m p)
   unfolding pass_reply
-  kept_behind (Reading.Refused f) p e k = tt
-  kept_behind (Reading.Sheet s) p e k =
+  kept_behind (Err f) p e k = tt
+  kept_behind (Ok s) p e k =
       let w = sheet_in Ours text in
       let c = concluded_read (first_no (pass_questions Ours text)) w s.span s.units s.rules e in
       let us : length w.units ≤ max_units = omega (arith, c.units, k.few_units) in
