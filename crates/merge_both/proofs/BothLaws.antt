@@ -21,8 +21,9 @@ use Rattle.merge_sheets.specs.Merge.{merged_rules, merged}
 use Rattle.merge_rules.specs.Columns.{Columns, AtFront}
 use Rattle.sheet.proofs.WrittenLaws.{rules_back}
 use Rattle.merge_questions.specs.Merging.{unit_questions, rule_questions, join_questions, blamed}
-use Rattle.merge_questions.specs.declared.Joined.TheVariants as Joined
-use Rattle.merge_both.specs.Both.{BothRead, AsksBoth}
+use Rattle.std.specs.Prelude.{Ok, Err}
+use Rattle.merge_questions.specs.declared.Blamed.{Blamed}
+use Rattle.merge_both.specs.Both.{BothRead, AsksBoth, blamed_by}
 use Rattle.merge_both.proofs.PartLaws.{both_fit, first_part, second_part}
 
 module _ (wa wb : WrittenSheet) (a b : Sheet) (numbers : List ℕ) (given room : Columns) (h : BothRead wa wb a b numbers given room) where
@@ -96,25 +97,22 @@ module _ (wa wb : WrittenSheet) (a b : Sheet) (numbers : List ℕ) (given room :
     rules_ask = first_no (rule_questions two wa.rules wb.rules)
 
     module _ (before now : Columns) where
-      refused_as : (f : Refusal) (k : ℕ) → first_no (join_questions two wa wb) ≡ no f.number f.line
-          → k ≡ cond (eqb f.number 21 && eqb f.line 0) 1 2 → AsksBoth (Joined.Refused f k) wa wb two before now
-      refused_as f k e b =
-          record { reply = ap (λ v. concluded v (merged wa wb)) (sym e); blames = b ∙ ap (blamed all_yes) (sym e); left = tt }
+      refused_as : (f : Refusal) → first_no (join_questions two wa wb) ≡ no f.number f.line → AsksBoth (Err (blamed_by f)) wa wb two before now
+      refused_as f e =
+          record { reply = ap (λ v. concluded v (merged wa wb)) (sym e); blames = ap (blamed all_yes) (sym e); left = tt }
 
-      pub refused_units : (f : Refusal) (k : ℕ) → units_ask ≡ no f.number f.line → k ≡ cond (eqb f.number 21 && eqb f.line 0) 1 2
-          → AsksBoth (Joined.Refused f k) wa wb two before now
-      refused_units f k e b = refused_as f k (first_then (unit_questions two wa.span wb.span (loaders wa) (loaders wb)) _ (no f.number f.line) e) b
+      pub refused_units : (f : Refusal) → units_ask ≡ no f.number f.line → AsksBoth (Err (blamed_by f)) wa wb two before now
+      refused_units f e = refused_as f (first_then (unit_questions two wa.span wb.span (loaders wa) (loaders wb)) _ (no f.number f.line) e)
 
       module _ (passed : units_ask ≡ all_yes) where
         asked_rules : first_no (join_questions two wa wb) ≡ rules_ask
         asked_rules = first_then (unit_questions two wa.span wb.span (loaders wa) (loaders wb)) (rule_questions two wa.rules wb.rules) all_yes passed
 
-        pub refused_rules : (f : Refusal) (k : ℕ) → rules_ask ≡ no f.number f.line → k ≡ cond (eqb f.number 21 && eqb f.line 0) 1 2
-            → AsksBoth (Joined.Refused f k) wa wb two before now
-        refused_rules f k e b = refused_as f k (asked_rules ∙ e) b
+        pub refused_rules : (f : Refusal) → rules_ask ≡ no f.number f.line → AsksBoth (Err (blamed_by f)) wa wb two before now
+        refused_rules f e = refused_as f (asked_rules ∙ e)
 
         pub merged_as : (s : Sheet) → s.span ≡ a.span → s.units ≡ a.units + b.units → rules_ask ≡ all_yes
-            → AtFront (merged_rules all) s.rules before now → AsksBoth (Joined.Sheet s) wa wb two before now
+            → AtFront (merged_rules all) s.rules before now → AsksBoth (Ok s) wa wb two before now
         unfolding merged
         merged_as s p u e m =
             let n : s.units ≡ length (wa.units ++ wb.units) = omega (arith, length-append wa.units wb.units, h.first.units, h.second.units) in

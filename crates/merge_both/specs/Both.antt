@@ -1,6 +1,7 @@
 -- Two sheets in one set of lists, the first's numbers in front, and what asking about both comes to. Definitions only.
 use Rattle.std.specs.Prelude.{ℕ, ◌+◌, ◌≤◌, ◌≡◌, List, ◌++◌, map, length, take, Result, IfOk}
-use Rattle.questions.specs.Questions.{all_yes, first_no}
+use Rattle.questions.specs.Questions.{no, all_yes, first_no}
+use Rattle.questions.specs.declared.Refusal.{Refusal}
 use Rattle.sheet.specs.Sizes.{max_units, max_rules}
 use Rattle.sheet.specs.Sheet.{Rule, WrittenSheet, loaders}
 use Rattle.sheet.specs.declared.Sheet.{Sheet}
@@ -9,6 +10,10 @@ use Rattle.merge_sheets.specs.Merge.{merged}
 use Rattle.merge_rules.specs.Columns.{Columns, AtFront}
 use Rattle.merge_questions.specs.Merging.{join_questions, blamed, joined_reply, joined_blame}
 use Rattle.merge_questions.specs.declared.Blamed.{Blamed}
+
+-- a refusal with the sheet that it is of, once the first has passed its own questions
+abbrev pub blamed_by : Refusal → Blamed
+blamed_by f = record { refusal = f; sheet = blamed all_yes (no f.number f.line) }
 
 -- the numbers of a sheet that was read
 pub record Counted (s : Sheet) (w : WrittenSheet) : Type 0 where

@@ -1,10 +1,10 @@
 // The questions of two sheets that were read, one behind the other.
 #![tactic(auto)]
 
-ghost use Rattle.std.specs.Prelude.{◌≡◌, ◌&&◌, cond, eqb};
+ghost use Rattle.std.specs.Prelude.{◌≡◌};
 ghost use Rattle.sheet.specs.Sheet.{WrittenSheet};
 ghost use Rattle.merge_rules.specs.Columns.{columns};
-ghost use Rattle.merge_both.specs.Both.{BothRead, AsksBoth};
+ghost use Rattle.merge_both.specs.Both.{BothRead, AsksBoth, blamed_by};
 
 use merge_questions::Blamed;
 use questions::{Question, Refusal};
@@ -12,7 +12,7 @@ use sheet::Sheet;
 
 // A refusal with the sheet that it is of, once the first has passed its own questions: rules that cross where the second has none are the first's.
 pub fn blamed(refusal: Refusal) -> Blamed
-    ensures { result ≡ record { refusal = refusal; sheet = cond (eqb refusal.number 21 && eqb refusal.line 0) 1 2 } }
+    ensures { result ≡ blamed_by refusal }
 {
     let crossed = refusal.number == Question::CrossedRules.number();
     let sheet = if crossed && refusal.line == 0 { 1 } else { 2 };

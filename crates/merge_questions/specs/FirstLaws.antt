@@ -1,12 +1,12 @@
 -- A search for the first entry of a list that passes a test: as a test of all entries, and as the front of those that pass.
 -- Key idea: each is an induction on the list; past an entry that fails, the search is that of the entries behind it, one place further on.
 use Rattle.std.specs.Prelude.{ℕ, zero, suc, ◌+◌, ◌≤◌, ◌<◌, ◌≡◌, refl, Bool, true, false, ◌&&◌, not, cond, List, [], ◌∷◌, ltb, length, get_or}
-use Rattle.std.specs.Prelude.{Some, None}
+use Rattle.std.specs.Prelude.{Option, Some, None, IfSome, MatchOption}
 use Rattle.std.specs.Option.{unwrap_or}
 use Rattle.std.specs.List.{position_or_len, position}
 use Rattle.std.proofs.lemmas.List.Recursion.{is_position_or_len}
 use Rattle.std.proofs.lemmas.List.Sums.{prefix_len-le-length}
-use Rattle.std.proofs.Common.{sym, ap, ap₂, ◌∙◌, arith, lt-ltb, ltb-false, one-add}
+use Rattle.std.proofs.Common.{sym, ap, ap₂, ◌∙◌, arith, lt-ltb, ltb-true, ltb-false, one-add}
 use Rattle.std.proofs.Math.Dec.{leb-suc-suc}
 use Rattle.lists.specs.Lists.{every, keep, cons_if}
 use Rattle.lists.specs.First.{first_from, first_place}
@@ -56,16 +56,32 @@ module _ {A : Type 0} (t : A → Bool) (d : A) where
       go true e = refl
       go false e = e
 
-  -- the search of std's lists
+  -- ---- the search of std's lists
+
   pub first_is : (xs : List A) → first_in xs ≡ position_or_len t xs
   first_is = is_position_or_len first_in t refl (λ x xs. first_cons x xs ∙ ap (cond (t x) 0) (sym (one-add (first_in xs))))
 
-  -- and the end of the list where that finds none
+  pub position_is : (xs : List A) → position t xs ≡ cond (ltb (first_in xs) (length xs)) (Some (first_in xs)) None
+  position_is xs = ap (λ (p : ℕ). cond (ltb p (length xs)) (Some p) None) (sym (first_is xs))
+
+  -- the end of the list where nothing is found
   pub first_or_end : (xs : List A) → unwrap_or (position t xs) (length xs) ≡ first_in xs
-  first_or_end xs =
-      let e = first_is xs in
-      go (ltb (position_or_len t xs) (length xs)) refl ∙ sym e
+  first_or_end xs = ap (λ (o : Option ℕ). unwrap_or o (length xs)) (position_is xs) ∙ go (ltb (first_in xs) (length xs)) refl
     where
-      go : (b : Bool) → ltb (position_or_len t xs) (length xs) ≡ b → unwrap_or (cond b (Some (position_or_len t xs)) None) (length xs) ≡ position_or_len t xs
+      go : (b : Bool) → ltb (first_in xs) (length xs) ≡ b → unwrap_or (cond b (Some (first_in xs)) None) (length xs) ≡ first_in xs
       go true e = refl
-      go false e = omega (arith, ltb-false _ _ e, prefix_len-le-length (λ x. not (t x)) xs)
+      go false e = omega (arith, ltb-false _ _ e, first_is xs, prefix_len-le-length (λ x. not (t x)) xs)
+
+  pub found_first : (xs : List A) (j : ℕ) → Some j ≡ position t xs → (j ≡ first_in xs) × (first_in xs < length xs)
+  found_first xs j is = go (ltb (first_in xs) (length xs)) refl (is ∙ position_is xs)
+    where
+      go : (b : Bool) → ltb (first_in xs) (length xs) ≡ b → Some j ≡ cond b (Some (first_in xs)) None → (j ≡ first_in xs) × (first_in xs < length xs)
+      go true e is = (cc, ltb-true _ _ e)
+      go false e is = absurd cc
+
+  pub none_found : (xs : List A) → ((j : ℕ) → position t xs ≡ Some j → ⊥) → length xs ≤ first_in xs
+  none_found xs not_some = go (ltb (first_in xs) (length xs)) refl (position_is xs)
+    where
+      go : (b : Bool) → ltb (first_in xs) (length xs) ≡ b → position t xs ≡ cond b (Some (first_in xs)) None → length xs ≤ first_in xs
+      go true e is = absurd (not_some (first_in xs) is)
+      go false e is = ltb-false _ _ e

@@ -1,2 +1,3 @@
 pub mod Merging
 pub mod FirstLaws
+pub mod RefusalLaws

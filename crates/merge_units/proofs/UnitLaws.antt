@@ -1,11 +1,12 @@
 -- The first no of the questions about units, by the code's tests.
 -- Key idea: past each yes the questions that are left decide; no number is shared exactly where the search comes to the end.
 use Prim.Native.Nat.{ℕ, ◌-◌, ◌≤◌, ◌<◌}
-use mathlib.Core.Path.{◌≡◌, ap, ◌∙◌}
+use mathlib.Core.Path.{◌≡◌, sym, ap, ◌∙◌}
 use mathlib.Core.Bool.{not}
 use mathlib.Core.List.{List, [], ◌∷◌, ◌++◌}
 use native.Mathlib.Omega.{arith}
 use lib.Dec.{leb}
+use Rattle.std.specs.Prelude.{Option, Some, position}
 use lib.ListN.{length, length-append}
 use borrow.Author.Tests.{eq-eqb, ne_eqb, lt-ltb, le-ltb, le-leb, lt-leb}
 use Rattle.lists.specs.Lists.{member}
@@ -15,11 +16,14 @@ use Rattle.questions.proofs.FirstNoLaws.{no_here, yes_here}
 use Rattle.sheet.specs.Sizes.{max_units}
 use Rattle.read_form.specs.declared.Kind.TheVariants as Kind
 use Rattle.merge_questions.specs.Merging.{line_number, shared_at, unit_questions}
-use Rattle.merge_questions.specs.FirstLaws.{none_first}
+use Rattle.merge_questions.specs.FirstLaws.{none_first, found_first, none_found}
 
 module _ (two : List ℕ) (p q : ℕ) (ones twos : List ℕ) where
   abbrev place : ℕ
   place = first_place (length twos) (shared_at ones twos)
+
+  abbrev found : Option ℕ
+  found = position (λ k. member k ones) twos
 
   abbrev asked : Verdict
   asked = first_no (unit_questions two p q ones twos)
@@ -28,10 +32,16 @@ module _ (two : List ℕ) (p q : ℕ) (ones twos : List ℕ) where
   no_19 ne = no_here _ 19 _ _ (ne_eqb p q ne)
 
   module _ (e : p ≡ q) where
-    pub no_20 : place < length twos → asked ≡ no 20 (line_number two Kind.Unit place)
-    no_20 h = yes_here _ 19 _ _ (eq-eqb p q e) ∙ no_here _ 20 _ _ (none_first (λ k. member k ones) 0 twos ∙ ap not (lt-ltb place (length twos) h))
+    pub no_20 : (j : ℕ) → Some j ≡ found → asked ≡ no 20 (line_number two Kind.Unit j)
+    no_20 j is =
+        let f = found_first (λ k. member k ones) 0 twos j is in
+        yes_here _ 19 _ _ (eq-eqb p q e) ∙ no_here _ 20 _ _ (none_first (λ k. member k ones) 0 twos ∙ ap not (lt-ltb place (length twos) f.1))
+        ∙ ap (λ (i : ℕ). no 20 (line_number two Kind.Unit i)) (sym f.0)
 
-    module _ (none : length twos ≤ place) where
+    module _ (not_found : (j : ℕ) → found ≡ Some j → ⊥) where
+      none : length twos ≤ place
+      none = none_found (λ k. member k ones) 0 twos not_found
+
       -- 9 decides
       last_asked : asked ≡ first_no (ask 9 (line_number two Kind.Unit (max_units - length ones)) (leb (length (ones ++ twos)) max_units) ∷ [])
       last_asked =

@@ -1,13 +1,14 @@
 -- The parts of the arrays behind what stands there are long enough for a sheet, and come back with its numbers at their fronts.
-use Rattle.std.proofs.Common.{ℕ, List, ◌∙◌}
+use Rattle.std.proofs.Common.{ℕ, List, ap, ◌∙◌}
 use Rattle.forms.specs.declared.House.TheVariants.{Ours}
-use Rattle.read_questions.specs.Reading.{ListRooms, rooms}
+use Rattle.questions.specs.declared.Refusal.{Refusal}
+use Rattle.read_questions.specs.Reading.{ListRooms, rooms, refused}
 use Rattle.merge_read.proofs.BehindLaws.{answer_long, answer_short, parts_hold, kept_behind}
 use Rattle.merge_read.proofs.read_behind.Goals as goal
 
 pub returns-then-text-gt-MAX_BYTES : goal.returns-then-text-gt-MAX_BYTES
 returns-then-text-gt-MAX_BYTES c = record {
-  result_value = answer_long Ours c.args.text.now c.if-text-gt-MAX_BYTES.true;
+  result_value = ap (λ (f : Refusal). refused f.number f.line) c.refused.ensures ∙ answer_long Ours c.args.text.now c.if-text-gt-MAX_BYTES.true;
   kept_behind = tt;
 }
 

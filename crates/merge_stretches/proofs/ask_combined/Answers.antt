@@ -6,6 +6,7 @@ use Rattle.sheet.specs.Sheet.{Rule}
 use Rattle.lists.specs.Last.{last_passing}
 use Rattle.merge_rules.specs.Columns.{stretch_at}
 use Rattle.merge_questions.specs.Merging.{line_number}
+use Rattle.merge_questions.specs.RefusalLaws.{no_at}
 use Rattle.merge_stretches.specs.Stretches.{last_at}
 use Rattle.merge_stretches.proofs.StretchLaws.{no_21, no_10, all_yes_lem}
 use Rattle.merge_stretches.proofs.ask_combined.Goals as goal
@@ -24,7 +25,7 @@ returns-then-p-froms c =
     let a = c.args in
     let z = c.requires in
     let e = c.first_crossed-p.ensures in
-    ap (no 21) c.line_number.ensures
+    no_at _ _ _ _ c.at.ensures c.line_number.ensures
     ∙ ap (λ (j : ℕ). no 21 (line_number a.two.now Kind.Rule j)) (c.last_on-last.ensures
     ∙ ap (λ (p : ℕ). last_passing (length a.from.now) (stretch_at a.from.now a.to.now (get_or a.froms.now p 0) (get_or a.tos.now p 0))) e)
     ∙ sym (no_21 a.two.now a.froms.now a.tos.now a.lows.now a.highs.now z.1 z.2 z.3 (last_at a.from.now a.to.now) a.past
@@ -34,7 +35,7 @@ pub returns-then-froms-gt-MAX_RULES : goal.returns-then-froms-gt-MAX_RULES
 returns-then-froms-gt-MAX_RULES c =
     let a = c.args in
     let z = c.requires in
-    ap (no 10) c.line_number-then-froms-gt-MAX_RULES.ensures
+    no_at _ _ _ _ c.at-then-froms-gt-MAX_RULES.ensures c.line_number-then-froms-gt-MAX_RULES.ensures
     ∙ sym (no_10 a.two.now a.froms.now a.tos.now a.lows.now a.highs.now z.1 z.2 z.3 (last_at a.from.now a.to.now) a.past
     (omega (arith, c.first_crossed-p.ensures, c.if-p-froms.false)) c.if-froms-gt-MAX_RULES.true)
 

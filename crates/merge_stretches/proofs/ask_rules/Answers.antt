@@ -1,6 +1,7 @@
 -- The combined rules stand at the fronts of the arrays, and the questions are asked of these.
 use Rattle.std.proofs.Common.{ℕ, ◌-◌, ◌≤◌, ◌≡◌, List, length, take, drop, ap, sym, ◌∙◌, arith}
 use lib.Seq.{length-take-le}
+use Rattle.std.proofs.lemmas.Result.{err_from_is_err_and}
 use Rattle.questions.specs.Questions.{Verdict, verdict_of, first_no}
 use Rattle.sheet.specs.Sheet.{Rule}
 use Rattle.sheet.specs.Questions.{rules_of}
@@ -76,9 +77,9 @@ slice_bounds-ask_combined-end-9 c = highs_hold (goal.at.slice_bounds-ask_combine
 pub slice_bounds-ask_combined-end-10 : goal.slice_bounds-ask_combined-end-10
 slice_bounds-ask_combined-end-10 c = so_many _ _ (highs_hold (goal.at.slice_bounds-ask_combined-end-10 c).After-combine-all)
 
-pub ask_combined-asked-requires : goal.ask_combined-asked-requires
-ask_combined-asked-requires c =
-    let k = (goal.at.ask_combined-asked-requires c).After-combine-all in
+pub ask_combined-requires : goal.ask_combined-requires
+ask_combined-requires c =
+    let k = (goal.at.ask_combined-requires c).After-combine-all in
     let a = c.args in
     let n = c.combine-all.result.count in (
       part_long a.to.now a.n ∙ ap (λ (m : ℕ). m - a.n) c.requires.agree.0 ∙ sym (part_long a.from.now a.n),
@@ -106,8 +107,10 @@ asked_both k v h =
     (fronts_are (merged k) k.combine-all.result.count e.count _ _ _ _ _ _ _ _ e.froms e.tos e.lows e.highs)
     e.past (few k)
 
-pub returns-in-No-clause-verdict : goal.returns-in-No-clause-verdict
-returns-in-No-clause-verdict c = asked_both (goal.at.returns-in-No-clause-verdict c).After-combine-all _ c.in-No.ensures
+pub returns-in_err-ask_combined-clause-verdict : goal.returns-in_err-ask_combined-clause-verdict
+returns-in_err-ask_combined-clause-verdict c =
+    let p = err_from_is_err_and c.from_residual.result c.from_residual.ensures.1 in
+    rw (p.1, p.2) (asked_both (goal.at.returns-in_err-ask_combined-clause-verdict c).After-combine-all _ c.in_err-ask_combined.ensures)
 
-pub returns-in-Yes-clause-verdict : goal.returns-in-Yes-clause-verdict
-returns-in-Yes-clause-verdict c = asked_both (goal.at.returns-in-Yes-clause-verdict c).After-combine-all _ c.in-Yes.ensures
+pub returns-clause-verdict : goal.returns-clause-verdict
+returns-clause-verdict c = asked_both (goal.at.returns-clause-verdict c).After-combine-all _ c.in_ok-ask_combined.ensures
