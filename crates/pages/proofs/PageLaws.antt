@@ -7,9 +7,12 @@ use Rattle.std.proofs.Math.Bool.{cond}
 use mathlib.Core.List.{List, [], ◌∷◌}
 use Rattle.std.proofs.Math.ListN.{length}
 use Rattle.std.proofs.Math.Seq.{drop-cons}
+use Rattle.std.proofs.Math.IntN.{+ℤ_idr}
+use Rattle.std.proofs.Math.Nat.{mod-eq_of_lt, mod_self}
+use Rattle.std.specs.Prelude.{map, zero, ◌%◌, pos}
 use Rattle.std.proofs.lemmas.Bool.{lt-leb}
 use Rattle.integers.specs.Parts.{up, dn, sum, neg, apart}
-use Rattle.lists.specs.Lists.{joined}
+use Rattle.lists.specs.Lists.{joined, run}
 use Rattle.lists.specs.Values.{values_same, length_list_of, list_of_at}
 use Rattle.network.specs.Network.{Weights, via, around}
 use Rattle.network.proofs.NetworkLaws.{via_same}
@@ -103,60 +106,89 @@ module _ (d : Weights) (a b : ℕ) where
   unfolding step_line
   step_backward h = rw (le-ltb a b h) (ap (λ k. at_least_line k (suc b) a) (neg (d a b)).0)
 
+-- the place behind place i of a ring of n: behind the last one the first
+abbrev pub place_after : ℕ → ℕ → ℕ
+place_after n i = (i + 1) % n
+
+after_inside : (n i : ℕ) → i + 1 < n → place_after n i ≡ suc i
+after_inside n i h = mod-eq_of_lt h ∙ add-one i
+
+after_last : (n i : ℕ) → i + 1 ≡ n → place_after n i ≡ 0
+after_last n i e = ap (λ k. k % n) e ∙ mod_self n
+
 module _ (d : Weights) (ring : List ℕ) where
-  -- all lines, from the first boundary on
-  pub ring_start : 1 ≤ length ring → ring_lines d ring ≡ step_lines d (get_or ring 0 0) (drop 1 ring) (get_or ring 0 0)
+  -- the line of the step from place i on
+  abbrev pub step_at : ℕ → List ℕ
+  step_at i = step_line d (get_or ring i 0) (get_or ring (place_after (length ring) i) 0)
+
+  -- the limit of that step
+  abbrev pub limit_at : ℕ → ℤ
+  limit_at i = d (get_or ring i 0) (get_or ring (place_after (length ring) i) 0)
+
+  -- the lines of the k + 1 last steps
+  steps_from : (k i : ℕ) → i + suc k ≡ length ring
+      → step_lines d (get_or ring i 0) (drop (suc i) ring) (get_or ring 0 0) ≡ map step_at (run i (suc k))
+  unfolding step_lines
+  steps_from zero i e =
+      let h : length ring ≤ suc i = omega arith in
+      rw (drop_of_length-le ring h, after_last (length ring) i e) refl
+  steps_from (suc k) i e =
+      let h : suc i < length ring = omega arith in
+      rw (drop-cons ring (suc i) 0 h, after_inside (length ring) i (omega arith)) (ap (λ r. step_line d (get_or ring i 0) (get_or ring (suc i) 0) ∷ r) (steps_from k (suc i) (omega arith)))
+
+  -- the sum of the limits of k steps from place i on
+  abbrev limits_from : ℕ → ℕ → ℤ
+  limits_from zero i = pos 0
+  limits_from (suc k) i = limit_at i +ℤ limits_from k (suc i)
+
+  sum_from : (k i : ℕ) → i + suc k ≡ length ring → via d (get_or ring i 0) (drop (suc i) ring) (get_or ring 0 0) ≡ limits_from (suc k) i
+  sum_from zero i e =
+      let h : length ring ≤ suc i = omega arith in
+      rw (drop_of_length-le ring h, after_last (length ring) i e) (sym (+ℤ_idr (d (get_or ring i 0) (get_or ring 0 0))))
+  sum_from (suc k) i e =
+      let h : suc i < length ring = omega arith in
+      rw (drop-cons ring (suc i) 0 h, after_inside (length ring) i (omega arith)) (ap (λ r. d (get_or ring i 0) (get_or ring (suc i) 0) +ℤ r) (sum_from k (suc i) (omega arith)))
+
+module _ (d : Weights) where
+  -- all lines, step by step
+  pub ring_steps : (ring : List ℕ) → 1 ≤ length ring → ring_lines d ring ≡ map (step_at d ring) (run 0 (length ring))
   unfolding ring_lines
-  ring_start h = go ring h
-    where
-      go : (r : List ℕ) → 1 ≤ length r → ring_lines d r ≡ step_lines d (get_or r 0 0) (drop 1 r) (get_or r 0 0)
-      go [] h = absurd (omega arith)
-      go (x ∷ xs) h = refl
+  ring_steps [] h = absurd (omega arith)
+  ring_steps (a ∷ bs) h = steps_from d (a ∷ bs) (length bs) 0 (omega arith)
 
-  -- the line of the step from place i to place i + 1 stands in front
-  pub ring_next : (i a e : ℕ) → i + 1 < length ring
-      → step_lines d a (drop (i + 1) ring) e ≡ step_line d a (get_or ring (i + 1) 0) ∷ step_lines d (get_or ring (i + 1) 0) (drop (i + 1 + 1) ring) e
-  unfolding step_lines
-  ring_next i a e h = rw (add-one (i + 1), drop-cons ring (i + 1) 0 h)
+  -- the ring's sum, step by step
+  ring_sum : (ring : List ℕ) → 1 ≤ length ring → around d ring ≡ limits_from d ring (length ring) 0
+  ring_sum [] h = absurd (omega arith)
+  ring_sum (a ∷ bs) h = sum_from d (a ∷ bs) (length bs) 0 (omega arith)
 
-  -- the last step goes back to the first boundary
-  pub ring_end : (i a e : ℕ) → length ring ≤ i + 1 → step_lines d a (drop (i + 1) ring) e ≡ step_line d a e ∷ []
-  unfolding step_lines
-  ring_end i a e h = rw (drop_of_length-le ring h)
+  module _ (ring : List ℕ) where
+    -- what the first i steps rise and fall by, and what the others add up to, make up the ring's sum
+    pub record Walked (i rise fall : ℕ) : Type 0 where
+      pub rest : let others = limits_from d ring (length ring - i) i in rise + up others + dn (around d ring) ≡ up (around d ring) + fall + dn others
 
-  -- the weights from place i on, and back to the first boundary
-  abbrev pub weight_from : ℕ → ℤ
-  weight_from i = via d (get_or ring i 0) (drop (i + 1) ring) (get_or ring 0 0)
+    pub walked_none : 1 ≤ length ring → Walked 0 0 0
+    walked_none h =
+        let n : length ring - 0 ≡ length ring = omega arith in
+        let e : around d ring ≡ limits_from d ring (length ring - 0) 0 = ring_sum ring h ∙ ap (λ k. limits_from d ring k 0) (sym n) in
+        record { rest = omega (arith, ap up e, ap dn e) }
 
-  weight_start : 1 ≤ length ring → around d ring ≡ weight_from 0
-  weight_start h = go ring h
-    where
-      go : (r : List ℕ) → 1 ≤ length r → around d r ≡ via d (get_or r 0 0) (drop 1 r) (get_or r 0 0)
-      go [] h = absurd (omega arith)
-      go (x ∷ xs) h = refl
+    pub walked_next : (i rise fall : ℕ) → i < length ring → Walked i rise fall
+        → Walked (i + 1) (rise + up (limit_at d ring i)) (fall + dn (limit_at d ring i))
+    walked_next i rise fall h w =
+        let n : length ring - i ≡ suc (length ring - (i + 1)) = omega arith in
+        let e : limits_from d ring (length ring - i) i ≡ limit_at d ring i +ℤ limits_from d ring (length ring - (i + 1)) (i + 1) =
+            ap (λ k. limits_from d ring k i) n ∙ ap (λ m. limit_at d ring i +ℤ limits_from d ring (length ring - (i + 1)) m) (sym (add-one i)) in
+        record { rest = omega (arith, w.rest, ap up e, ap dn e, sum (limit_at d ring i) (limits_from d ring (length ring - (i + 1)) (i + 1))) }
 
-  -- what the first i steps rise and fall by, and what the others add up to, make up the ring's sum
-  pub record Walked (i rise fall : ℕ) : Type 0 where
-    pub rest : rise + up (weight_from i) + dn (around d ring) ≡ up (around d ring) + fall + dn (weight_from i)
-
-  pub walked_none : 1 ≤ length ring → Walked 0 0 0
-  walked_none h = record { rest = omega (arith, ap up (weight_start h), ap dn (weight_start h)) }
-
-  pub walked_next : (i rise fall : ℕ) → i + 1 < length ring → Walked i rise fall
-      → Walked (i + 1) (rise + up (d (get_or ring i 0) (get_or ring (i + 1) 0))) (fall + dn (d (get_or ring i 0) (get_or ring (i + 1) 0)))
-  walked_next i rise fall h w =
-      let e : weight_from i ≡ d (get_or ring i 0) (get_or ring (i + 1) 0) +ℤ weight_from (i + 1) = rw (add-one (i + 1), drop-cons ring (i + 1) 0 h) refl in
-      record { rest = omega (arith, w.rest, ap up e, ap dn e, sum (d (get_or ring i 0) (get_or ring (i + 1) 0)) (weight_from (i + 1))) }
-
-  -- with the last step the ring is closed
-  pub walked_all : (i rise fall : ℕ) → length ring ≤ i + 1 → Walked i rise fall
-      → fall + dn (d (get_or ring i 0) (get_or ring 0 0)) - (rise + up (d (get_or ring i 0) (get_or ring 0 0))) ≡ shortfall_of d ring
-  walked_all i rise fall h w =
-      let e : weight_from i ≡ d (get_or ring i 0) (get_or ring 0 0) = rw (drop_of_length-le ring h) refl in
-      ⊎_elim
-      (λ z. omega (arith, w.rest, ap up e, ap dn e, neg (around d ring)))
-      (λ z. omega (arith, w.rest, ap up e, ap dn e, neg (around d ring)))
-      (apart (around d ring))
+    -- with the last step the ring is closed
+    pub walked_all : (i rise fall : ℕ) → length ring ≤ i → Walked i rise fall → fall - rise ≡ shortfall_of d ring
+    walked_all i rise fall h w =
+        let n : length ring - i ≡ 0 = omega arith in
+        let e : limits_from d ring (length ring - i) i ≡ pos 0 = ap (λ k. limits_from d ring k i) n in
+        ⊎_elim
+        (λ z. omega (arith, w.rest, ap up e, ap dn e, neg (around d ring)))
+        (λ z. omega (arith, w.rest, ap up e, ap dn e, neg (around d ring)))
+        (apart (around d ring))
 
 -- ---- the page of a ring depends on the limits of its own steps alone
 module _ (top : ℕ) (d e : Weights) (same : (a b : ℕ) → a ≤ top → b ≤ top → d a b ≡ e a b) where

@@ -1,6 +1,6 @@
 #![tactic(auto)]
 
-ghost use Rattle.std.specs.Prelude.{◌≡◌, ◌∷◌, [], ◌-◌, ◌*◌, ◌^◌, ◌<◌, ◌≤◌, length};
+ghost use Rattle.std.specs.Prelude.{◌≡◌, ◌∷◌, [], ◌+◌, ◌*◌, ◌%◌, ◌^◌, ◌<◌, ◌≤◌, length, get_or};
 ghost use Rattle.lists.specs.Lists.{joined};
 ghost use Rattle.network.specs.Table.{entry, max_boundaries};
 ghost use Rattle.forms.specs.Decimal.{form_line};
@@ -38,23 +38,35 @@ fn put_step(page: &mut [u8], at: usize, limits: &[i16], w: usize, a: Boundary, b
 {
     let limit = entry_at(limits, w, a.0, b.0);
     if a.0 < b.0 {
-        return put_bound(
+        let bound = above(limit);
+        put_bound(
             page,
             at,
             b"(at-most ",
-            above(limit),
+            bound,
             a.slot_after(),
             b.slot_before(),
-        );
+        )
+    } else {
+        let bound = below(limit);
+        put_bound(
+            page,
+            at,
+            b"(at-least ",
+            bound,
+            b.slot_after(),
+            a.slot_before(),
+        )
     }
-    put_bound(
-        page,
-        at,
-        b"(at-least ",
-        below(limit),
-        b.slot_after(),
-        a.slot_before(),
-    )
+}
+
+// The step from place i of a ring: on to the next place's boundary, and from the last place back to the first.
+fn step_at(ring: &[u16], i: usize) -> (Boundary, Boundary)
+    requires { i < length ring.now }
+    ensures { (result.0.0 ≡ get_or ring.now i 0) × (result.1.0 ≡ get_or ring.now ((i + 1) % length ring.now) 0) }
+{
+    let next = (i + 1) % ring.len();
+    (Boundary(ring[i] as usize), Boundary(ring[next] as usize))
 }
 
 fn put_steps(page: &mut [u8], at: usize, limits: &[i16], w: usize, ring: &[u16]) -> usize
@@ -62,35 +74,12 @@ fn put_steps(page: &mut [u8], at: usize, limits: &[i16], w: usize, ring: &[u16])
     requires room { Room page.old at (joined (ring_lines (entry w limits.now) ring.now)) }
     ensures { Written page.old at (joined (ring_lines (entry w limits.now) ring.now)) page.new result }
 {
-    let last = ring.len() - 1;
     let mut next = at;
-    let mut i = 0;
-    while i < last {
-        next = put_step(
-            page,
-            next,
-            limits,
-            w,
-            Boundary(ring[i] as usize),
-            Boundary(ring[i + 1] as usize),
-        );
-        i += 1;
+    for i in 0..ring.len() {
+        let (a, b) = step_at(ring, i);
+        next = put_step(page, next, limits, w, a, b);
     }
-    put_step(
-        page,
-        next,
-        limits,
-        w,
-        Boundary(ring[last] as usize),
-        Boundary(ring[0] as usize),
-    )
-}
-
-// How far one number is above another; 0 where it is not.
-fn excess(a: u16, b: u16) -> u16
-    ensures { result ≡ a - b }
-{
-    if b < a { a - b } else { 0 }
+    next
 }
 
 // Minus the sum of the ring's limits: what its steps fall by, less what they rise by.
@@ -98,18 +87,15 @@ fn shortfall(limits: &[i16], w: usize, ring: &[u16]) -> u16
     requires { RingFits w limits.now ring.now }
     ensures { result ≡ shortfall_of (entry w limits.now) ring.now }
 {
-    let last = ring.len() - 1;
     let mut rise: u16 = 0;
     let mut fall: u16 = 0;
-    let mut i = 0;
-    while i < last {
-        let limit = entry_at(limits, w, ring[i] as usize, ring[i + 1] as usize);
+    for i in 0..ring.len() {
+        let (a, b) = step_at(ring, i);
+        let limit = entry_at(limits, w, a.0, b.0);
         rise += above(limit);
         fall += below(limit);
-        i += 1;
     }
-    let limit = entry_at(limits, w, ring[last] as usize, ring[0] as usize);
-    excess(fall + below(limit), rise + above(limit))
+    fall.saturating_sub(rise)
 }
 
 // The page of a ring: its head, a line for each step and the shortfall.
@@ -120,11 +106,6 @@ pub fn put_none(page: &mut [u8], at: usize, limits: &[i16], w: usize, ring: &[u1
 {
     let next = put_no_number(page, at, b"(answer none)");
     let next2 = put_steps(page, next, limits, w, ring);
-    put_one_number(
-        page,
-        next2,
-        b"(shortfall ",
-        shortfall(limits, w, ring),
-        b")",
-    )
+    let missing = shortfall(limits, w, ring);
+    put_one_number(page, next2, b"(shortfall ", missing, b")")
 }

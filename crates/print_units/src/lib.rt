@@ -20,9 +20,10 @@ fn put_placed(
     ensures { Written page.old at (placed_line span loader slot earliest latest) page.new result }
 {
     if slot as usize <= span {
-        return put_unit(page, at, loader, slot, earliest, latest);
+        put_unit(page, at, loader, slot, earliest, latest)
+    } else {
+        put_carried(page, at, loader, earliest, latest)
     }
-    put_carried(page, at, loader, earliest, latest)
 }
 
 pub fn put_units(
@@ -40,10 +41,9 @@ pub fn put_units(
         (unit_lines span loader.now plan.now earliest.now latest.now) page.new result }
 {
     let mut next = at;
-    let mut j = 0;
-    while j < plan.len() {
+    // stays: a place of four lists side by side
+    for j in 0..plan.len() {
         next = put_placed(page, next, span, loader[j], plan[j], earliest[j], latest[j]);
-        j += 1;
     }
     next
 }
