@@ -88,7 +88,7 @@ module _ (first : ℕ → ℕ) (s : ℕ) (order : List ℕ) where
     }
 
     -- the search ends with no seat left, or at the end of the order
-    abbrev Done : ℕ → List ℕ → Type 0
+    abbrev pub Done : ℕ → List ℕ → Type 0
     Done p plan = (plan ≡ seat_slot first s order count plan₀) × (p ≡ looks first s order count plan₀)
 
     pub slot_full : (p : ℕ) (plan : List ℕ) → Search count plan₀ p 0 plan → Done p plan
