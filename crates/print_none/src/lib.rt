@@ -38,22 +38,20 @@ fn put_step(page: &mut [u8], at: usize, limits: &[i16], w: usize, a: Boundary, b
 {
     let limit = entry_at(limits, w, a.0, b.0);
     if a.0 < b.0 {
-        let bound = above(limit);
         put_bound(
             page,
             at,
             b"(at-most ",
-            bound,
+            above(limit),
             a.slot_after(),
             b.slot_before(),
         )
     } else {
-        let bound = below(limit);
         put_bound(
             page,
             at,
             b"(at-least ",
-            bound,
+            below(limit),
             b.slot_after(),
             a.slot_before(),
         )
@@ -106,6 +104,11 @@ pub fn put_none(page: &mut [u8], at: usize, limits: &[i16], w: usize, ring: &[u1
 {
     let next = put_no_number(page, at, b"(answer none)");
     let next2 = put_steps(page, next, limits, w, ring);
-    let missing = shortfall(limits, w, ring);
-    put_one_number(page, next2, b"(shortfall ", missing, b")")
+    put_one_number(
+        page,
+        next2,
+        b"(shortfall ",
+        shortfall(limits, w, ring),
+        b")",
+    )
 }
