@@ -2,11 +2,10 @@
 -- Key idea: the least sum of z and the arcs into b is what the arcs force z down to at b; carrying it through row b is the step of SinkLaws.
 use mathlib.Core.Path.{◌≡◌, refl, sym, ap, ◌∙◌, subst}
 use mathlib.Core.Logic.{⊎_elim}
-use mathlib.Core.Bool.{Bool, true, false}
+use mathlib.Core.Bool.{true, false}
 use mathlib.Core.List.{List}
 use Prim.Native.Nat.{ℕ, ◌+◌, ◌-◌, ◌*◌, ◌≤◌, ◌<◌}
 use native.Mathlib.Omega.{arith}
-use native.Mathlib.Decide.{ℕ_discrete}
 use lib.ListN.{length, take, drop}
 use lib.IntN.{ℤ, pos, ◌+ℤ◌}
 use lib.Signed.{◌≤ℤ◌, lt_z}
@@ -17,10 +16,11 @@ use Rattle.network.specs.Table.{entry}
 use Rattle.network.proofs.TableLaws.{row_inside}
 use Rattle.network.specs.RowStep.{relaxed_at, relaxed, SumsFit}
 use Rattle.network.specs.Bounds.{max_weight}
-use Rattle.network_cuts.specs.Decider.{value_at, into, Modest, LeastSum, CutNetwork, Cuts, Sinking, AdmitsAt, height_at, Settling, fell}
-use Rattle.network_cuts.specs.declared.Settled.TheVariants.{Still, Lower, Lost}
+use Rattle.network_cuts.specs.Decider.{value_at, into, Modest, LeastSum, CutNetwork, Cuts, Sinking, AdmitsAt, Settling}
+use Rattle.network_cuts.specs.declared.NotAdmitted.{NotAdmitted}
+use Rattle.std.specs.Prelude.{Ok, Err}
 use Rattle.network_cuts.proofs.SumLaws.{sum_fits}
-use Rattle.network_cuts.proofs.SinkLaws.{sunk_row, sunk_small, carried_lost, carried_sunk, carried_falls}
+use Rattle.network_cuts.proofs.SinkLaws.{sunk_small, carried_lost, carried_sunk, carried_falls}
 
 -- the part of a list from s to e
 abbrev pub part : ℕ → ℕ → List ℤ → List ℤ
@@ -38,20 +38,6 @@ part_modest s e xs h k f i l =
     let n = part_length s e xs h k in
     subst (Within 1000) (sym (part_at s e xs i (omega arith))) (f i (omega arith))
 
--- the row before the window is where the decider starts
-pub sunk_first : {w : ℕ} {d m : List ℤ} {f v l : ℕ} (z : List ℤ) → CutNetwork w d m → Cuts w f v l → z ≡ part ((f - 1) * w) ((f - 1) * w + w) d
-    → Sinking w d m f v l z
-sunk_first {w} {d} {f = f} z net cuts e =
-    let i = (f - 1) * w in
-    let inside = row_inside (f - 1) w (omega (arith, cuts)) in
-    record {
-      net = net;
-      cuts = cuts;
-      long = ap length e ∙ part_length i (i + w) d (omega arith) (omega (arith, net.size)) ∙ (omega arith);
-      sunk = sunk_row net.closed (omega (arith, cuts)) (omega (arith, cuts)) (λ c hc.
-          ap (λ (x : List ℤ). value_at x c) e ∙ part_at i (i + w) d c (omega (arith, net.some)));
-    }
-
 module _ {w : ℕ} {d m : List ℤ} {f v l : ℕ} {z : List ℤ} (q : Sinking w d m f v l z) where
   net : CutNetwork w d m
   net = q.net
@@ -62,7 +48,7 @@ module _ {w : ℕ} {d m : List ℤ} {f v l : ℕ} {z : List ℤ} (q : Sinking w 
   small : (c : ℕ) → c ≤ w - 1 → Within max_weight (value_at z c)
   small = sunk_small net.closed (omega (arith, cuts)) (omega (arith, cuts)) q.sunk
 
-  pub still_admits : (z' : List ℤ) → Settling w d m f v l 0 f z z' Still → AdmitsAt w d m f v l
+  pub still_admits : (z' : List ℤ) → Settling w d m f v l 0 f z z' (Ok false) → AdmitsAt w d m f v l
   still_admits z' n = record { potential = value_at z; feasible = q.sunk.feasible; keeps = λ a b hb hv hl. n.1 a b (omega arith) hb hv hl }
 
   module _ (b : ℕ) (hb : b < f) where
@@ -131,7 +117,7 @@ module _ {w : ℕ} {d m : List ℤ} {f v l : ℕ} {z : List ℤ} (q : Sinking w 
             sum_fits k (value_at row i) forced_modest (subst (Within 1000) (sym e) (omega arith)),
       )
 
-      pub settled_still : lt_z k (value_at z b) ≡ false → Settling w d m f v l b (b + 1) z z Still
+      pub settled_still : lt_z k (value_at z b) ≡ false → Settling w d m f v l b (b + 1) z z (Ok false)
       settled_still h = (
         refl,
         λ a b' hl hr ha hb'.
@@ -148,11 +134,11 @@ module _ {w : ℕ} {d m : List ℤ} {f v l : ℕ} {z : List ℤ} (q : Sinking w 
             ap (λ (x : List ℤ). value_at x c) r ∙ list_of_at (relaxed_at k row z) (length z) c (pos 0) (omega (arith, net.some, q.long))
             ∙ ap (λ (x : ℤ). min_ℤ (value_at z c) (k +ℤ x)) (part_at (b * w) (b * w + w) d c (omega (arith, net.some)))
 
-        pub settled_lost : lt_z (value_at z' (f - 1)) (pos 0) ≡ true → Settling w d m f v l b (b + 1) z z' Lost
+        pub settled_lost : lt_z (value_at z' (f - 1)) (pos 0) ≡ true → {e : NotAdmitted} → Settling w d m f v l b (b + 1) z z' (Err e)
         settled_lost h = carried_lost net.closed (omega (arith, cuts)) (omega (arith, cuts)) q.sunk from b k (value_at z')
             from_inside (omega (arith, cuts)) hb forced carried_at (omega ints)
 
-        pub settled_lower : lt_z k (value_at z b) ≡ true → lt_z (value_at z' (f - 1)) (pos 0) ≡ false → Settling w d m f v l b (b + 1) z z' Lower
+        pub settled_lower : lt_z k (value_at z b) ≡ true → lt_z (value_at z' (f - 1)) (pos 0) ≡ false → Settling w d m f v l b (b + 1) z z' (Ok true)
         settled_lower h g = (
           record {
             net = net;
@@ -164,27 +150,3 @@ module _ {w : ℕ} {d m : List ℤ} {f v l : ℕ} {z : List ℤ} (q : Sinking w 
           carried_falls net.closed (omega (arith, cuts)) (omega (arith, cuts)) q.sunk from b k (value_at z')
               from_inside (omega (arith, cuts)) hb forced carried_at (omega ints) (omega ints),
         )
-
--- ---- a sweep, boundary by boundary
-module _ (w f v l : ℕ) (d m : List ℤ) (z : List ℤ) where
-  pub swept_none : Settling w d m f v l 0 0 z z (fell false)
-  swept_none = (refl, λ a b h k. absurd (omega arith))
-
-  pub swept_still : (t : Bool) (b : ℕ) (y z' : List ℤ) → Settling w d m f v l 0 b z y (fell t) → Settling w d m f v l b (b + 1) y z' Still
-      → Settling w d m f v l 0 (b + 1) z z' (fell t)
-  swept_still true b y z' s n = subst (λ (x : List ℤ). Settling w d m f v l 0 (b + 1) z x Lower) (sym n.0) s
-  swept_still false b y z' s n = (
-    n.0 ∙ s.0,
-    λ a b' h k ha hl. elim (ℕ_discrete b' b) [
-      | yes e ↦ subst (λ (x : List ℤ). value_at x b' ≤ℤ (value_at x a +ℤ into w m a b')) s.0 (n.1 a b' (omega arith) k ha hl)
-      | no ne ↦ s.1 a b' h (omega arith) ha hl
-    ],
-  )
-
-  pub swept_lower : (t : Bool) (b : ℕ) (y z' : List ℤ) → Settling w d m f v l 0 b z y (fell t) → Settling w d m f v l b (b + 1) y z' Lower
-      → Settling w d m f v l 0 (b + 1) z z' Lower
-  swept_lower true b y z' s n = (n.0, omega (arith, n.1, s.1))
-  swept_lower false b y z' s n = (n.0, subst (λ (x : List ℤ). height_at w d f z' < height_at w d f x) s.0 n.1)
-
-  pub swept_end : (t : Bool) (b : ℕ) (z' : List ℤ) → b ≡ f → Settling w d m f v l 0 b z z' (fell t) → Settling w d m f v l 0 f z z' (fell t)
-  swept_end t b z' e s = subst (λ (i : ℕ). Settling w d m f v l 0 i z z' (fell t)) e s

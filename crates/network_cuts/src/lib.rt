@@ -1,17 +1,24 @@
 #![tactic(auto)]
 
-ghost use Rattle.std.specs.Prelude.{◌+◌, ◌<◌, ◌≤◌, length};
+ghost use Rattle.std.specs.Prelude.{◌+◌, ◌<◌, ◌≤◌, MatchResult, length};
 ghost use Rattle.slots.specs.Slots.{slot_end};
-ghost use Rattle.network_cuts.specs.Decider.{Modest, LeastSum, CutNetwork, Cuts, Sinking, AdmitsAt, Settling, Decides, Barred, LeastCutAt};
+ghost use Rattle.network_cuts.specs.Decider.{Modest, LeastSum, CutNetwork, Cuts, Sinks, AdmitsAt, Settles, Decides, Barred, LeastCutAt};
 
 use slots::{Boundary, Slot};
 
-// What lowering a potential to the arcs of a cut comes to: it keeps them, it fell, or no potential keeps them.
+// No potential keeps the arcs of the cut.
 #[derive(Clone, Copy)]
-enum Settled {
-    Still,
-    Lower,
-    Lost,
+struct NotAdmitted;
+
+// The window f..l cut at v, in the network of the table d with the arcs m that cuts add.
+#[derive(Clone, Copy)]
+struct CutWindow<'a> {
+    d: &'a [i16],
+    m: &'a [i16],
+    w: usize,
+    f: Slot,
+    v: Slot,
+    l: Slot,
 }
 
 // The least sum of two numbers at one place.
@@ -19,88 +26,54 @@ fn least_sum(xs: &[i16], ys: &[i16]) -> i16
     requires { (0 < length xs.now) × (length xs.now ≤ length ys.now) × Modest xs.now × Modest ys.now }
     ensures { LeastSum (length xs.now) xs.now ys.now result }
 {
-    let mut r = xs[0] + ys[0];
-    for i in 0..xs.len() {
-        r = r.min(xs[i] + ys[i]);
+    let mut least = xs[0] + ys[0];
+    for (x, y) in xs.iter().zip(ys) {
+        least = least.min(x + y);
     }
-    r
+    least
 }
 
-// Lowers z to what the arcs of the cut ask at boundary b, and carries that through row b of the table.
-fn settle(
-    d: &[i16],
-    m: &[i16],
-    w: usize,
-    f: Slot,
-    v: Slot,
-    l: Slot,
-    b: Boundary,
-    z: &mut [i16],
-) -> Settled
-    requires { Sinking w d.now m.now f.0 v.0 l.0 z.old × (b.0 < slot_end f.0) }
-    ensures { Settling w d.now m.now f.0 v.0 l.0 b.0 (b.0 + 1) z.old z.new result }
-{
-    let into = b.0;
-    let row = into * w;
-    let end = row + w;
-    let from = v.end().0;
-    let to = l.end().0;
-    let arcs = row + from;
-    let arcs_end = row + to;
-    let k = least_sum(&z[from..to], &m[arcs..arcs_end]);
-    if k < z[into] {
-        network::relax_row(z, &d[row..end], k);
-        let before = f.start().0;
-        if z[before] < 0 {
-            return Settled::Lost;
+impl CutWindow<'_> {
+    // Lowers z to what the arcs of the cut ask at boundary b, and carries that through row b of the table. The answer is whether z fell.
+    fn settle(&self, b: Boundary, z: &mut [i16]) -> Result<bool, NotAdmitted>
+        requires { Sinks self.now z.old × (b.0 < slot_end self.now.f.0) }
+        ensures { Settles self.now b.0 (b.0 + 1) z.old z.new result }
+    {
+        let row = b.0 * self.w;
+        let from = self.v.end().0;
+        let to = self.l.end().0;
+        let asked = least_sum(&z[from..to], &self.m[row + from..row + to]);
+        if asked >= z[b.0] {
+            return Ok(false);
         }
-        return Settled::Lower;
+        network::relax_row(z, &self.d[row..row + self.w], asked);
+        let lost = z[self.f.start().0] < 0;
+        if lost {
+            return Err(NotAdmitted);
+        }
+        Ok(true)
     }
-    Settled::Still
-}
 
-// Settles every boundary before the window once.
-fn sweep(d: &[i16], m: &[i16], w: usize, f: Slot, v: Slot, l: Slot, z: &mut [i16]) -> Settled
-    requires { Sinking w d.now m.now f.0 v.0 l.0 z.old }
-    ensures { Settling w d.now m.now f.0 v.0 l.0 0 (slot_end f.0) z.old z.new result }
-{
-    let mut lower = false;
-    let end = f.end().0;
-    for b in 0..end {
-        let s = settle(d, m, w, f, v, l, Boundary(b), z);
-        match s {
-            Settled::Still => {}
-            Settled::Lower => {
-                lower = true;
-            }
-            Settled::Lost => {
-                return Settled::Lost;
-            }
+    // Settles every boundary before the window once.
+    fn sweep(&self, z: &mut [i16]) -> Result<bool, NotAdmitted>
+        requires { Sinks self.now z.old }
+        ensures { Settles self.now 0 (slot_end self.now.f.0) z.old z.new result }
+    {
+        let mut fell = false;
+        for b in 0..self.f.end().0 {
+            fell |= self.settle(Boundary(b), z)?;
         }
+        Ok(fell)
     }
-    if lower {
-        Settled::Lower
-    } else {
-        Settled::Still
-    }
-}
 
-// Lowers z until it keeps the arcs of the cut, or until no potential does.
-fn sink(d: &[i16], m: &[i16], w: usize, f: Slot, v: Slot, l: Slot, z: &mut [i16]) -> bool
-    requires { Sinking w d.now m.now f.0 v.0 l.0 z.old }
-    ensures { Decides result (AdmitsAt w d.now m.now f.0 v.0 l.0) }
-{
-    loop {
-        let s = sweep(d, m, w, f, v, l, z);
-        match s {
-            Settled::Still => {
-                return true;
-            }
-            Settled::Lost => {
-                return false;
-            }
-            Settled::Lower => {}
-        }
+    // Lowers z until it keeps the arcs of the cut, or until no potential does.
+    fn sink(&self, z: &mut [i16]) -> Result<(), NotAdmitted>
+        requires { Sinks self.now z.old }
+        ensures { let c = self.now in
+            MatchResult result (λ _. AdmitsAt c.w c.d.now c.m.now c.f.0 c.v.0 c.l.0) (λ _. AdmitsAt c.w c.d.now c.m.now c.f.0 c.v.0 c.l.0 → ⊥) }
+    {
+        while self.sweep(z)? {}
+        Ok(())
     }
 }
 
@@ -110,11 +83,10 @@ pub fn admits(d: &[i16], m: &[i16], w: usize, f: Slot, v: Slot, l: Slot) -> bool
     ensures { Decides result (AdmitsAt w d.now m.now f.0 v.0 l.0) }
 {
     let mut z = [0i16; network::MAX_BOUNDARIES];
-    let before = f.start().0;
-    let row = before * w;
-    let end = row + w;
-    lists::copy_list(&d[row..end], &mut z);
-    sink(d, m, w, f, v, l, &mut z[..w])
+    let row = f.start().0 * w;
+    lists::copy_list(&d[row..row + w], &mut z);
+    let cut = CutWindow { d, m, w, f, v, l };
+    cut.sink(&mut z[..w]).is_ok()
 }
 
 // The least admitted cut of the window f..l: `known` is an admitted one, and none below `low` is. Mostly `low` is the one, so it is tried
