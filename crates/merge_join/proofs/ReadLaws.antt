@@ -21,8 +21,8 @@ use Rattle.merge_rules.specs.Columns as Rules
 use Rattle.lists.specs.FrontLaws.{front_is, front_holds}
 use Rattle.merge_read.specs.Behind.{text_questions, text_reply, NumbersBehind}
 use Rattle.merge_both.specs.Both.{Counted, BothRead, RulesLeft, LeavesRules}
-use Rattle.merge_questions.specs.declared.Joined.{Joined}
-use Rattle.merge_questions.specs.declared.Joined.TheVariants as Joined
+use Rattle.std.specs.Prelude.{Result, Ok, Err}
+use Rattle.merge_questions.specs.declared.Blamed.{Blamed}
 use Rattle.merge_join.specs.Join.{MergedAtFront, LeavesMerged}
 
 -- ---- one text
@@ -188,7 +188,7 @@ module _ (one : List ℕ) (a : Sheet) (m₀ m₁ : ListRooms (List ℕ)) (long :
                 (front_is (λ q. q.high) qs s.rules before.high now.high m.count m.highs);
           }
 
-    pub joined_left : (j : Joined) (before now : Rules.Columns) → LeavesRules j wa wb before now
+    pub joined_left : (j : Result Sheet Blamed) (before now : Rules.Columns) → LeavesRules j wa wb before now
         → LeavesMerged j one two (rooms m₂.loader m₂.first m₂.last now.from now.to now.low now.high)
-    joined_left (Joined.Refused f k) before now h = tt
-    joined_left (Joined.Sheet s) before now h = merged_left s before now h
+    joined_left (Err b) before now h = tt
+    joined_left (Ok s) before now h = merged_left s before now h
