@@ -6,7 +6,7 @@ use Rattle.network_pass.specs.Pass.{Passed, finished, stopped, pass_of, Outcome,
 use Rattle.network.proofs.TableLaws.{length_table_of}
 use Rattle.network_pass.specs.PassFront.{with_rest, pass_front}
 use Rattle.network_pass.specs.PassBounds.{Limited}
-use Rattle.sheet.specs.Sizes.{boundaries_of}
+use Rattle.sheet.specs.Sizes.{max_slots, boundaries_of}
 use Rattle.sheet.specs.Sheet.{Sheet, limit, boundaries}
 use Rattle.sheet.specs.Questions.{accepted}
 use Rattle.sheet.specs.Lists.{Lists, given}
@@ -23,6 +23,14 @@ use Rattle.plan_steps.specs.Closing.{passed, table_left, Closed}
 pub boundaries_counted : (l : Lists) → T (accepted (given l)) → (w : ℕ) → w ≡ boundaries_of l.span → (boundaries (given l) ≡ w) × (w ≤ max_boundaries)
 boundaries_counted l ok w e =
     (boundaries_are l.span l.first l.last l.from l.to l.low l.high ∙ sym e, omega (arith, span_bound l ok))
+
+-- of the lists as the code reads them from those lent
+module _ (l lent : Lists) (e : l ≡ lent) (ok : T (accepted (given lent))) where
+  pub span_read : l.span ≤ max_slots
+  span_read = subst (λ (x : Lists). x.span ≤ max_slots) (sym e) (span_bound lent ok)
+
+  pub boundaries_read : (w : ℕ) → w ≡ boundaries_of l.span → (boundaries (given lent) ≡ w) × (w ≤ max_boundaries)
+  boundaries_read w n = boundaries_counted lent ok w (n ∙ ap (λ (x : Lists). boundaries_of x.span) e)
 
 pub filled_room : (s : Sheet) (room filled : List ℤ) (w : ℕ) → boundaries s ≡ w → places s ≤ length room → filled ≡ limit_table s room → w * w ≤ length filled
 filled_room s room filled w e fits is = omega (arith, ap (λ (n : ℕ). n * n) e, ap length is, length_limit_table s room fits)
