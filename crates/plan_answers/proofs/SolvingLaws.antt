@@ -1,13 +1,14 @@
 -- From the pass's outcome to what a call leaves: none, with a ring or without, or a plan.
 -- Key idea: the outcome says which pass it was, and so which conclusion the rooms are left by; deciding comes first, and what it leaves is all that seats
 -- are filled in by.
-use Rattle.std.specs.Prelude.{◌≡◌, Bool, List, ◌++◌, ℕ, ◌*◌, ◌≤◌, length, drop, replicate, ℤ, pos, Ok, Err}
+use Rattle.std.specs.Prelude.{◌≡◌, Bool, List, ◌++◌, ℕ, ◌*◌, ◌≤◌, length, drop, replicate, ℤ, pos, Some, Ok, Err}
 use Rattle.std.proofs.Math.Path.{refl}
 use Rattle.std.proofs.Common.{sym, ap, ap₂, ◌∙◌, subst, arith, length-append, length-drop, drop_at}
 use Rattle.std.proofs.lemmas.List.{length-replicate}
+use Rattle.std.specs.Result.{result_ok}
 use Rattle.network.specs.Table.{entry, cleared}
 use Rattle.network_pass.specs.Pass.{Passed, finished, stopped, Outcome, outcome_of}
-use Rattle.sheet.specs.Sizes.{boundaries_of}
+use Rattle.sheet.specs.Sizes.{max_slots, boundaries_of}
 use Rattle.sheet.specs.Sheet.{Sheet, boundaries}
 use Rattle.limits.specs.LimitTable.{CanFill}
 use Rattle.limit_places.specs.LentTableLaws.{cleared_length}
@@ -21,7 +22,7 @@ use Rattle.plan_ask.specs.Asking.{Solvable}
 use Rattle.plan_ask.proofs.AskingLaws.{lists_read}
 use Rattle.plan_steps.specs.Closing.{passed, table_left, Closed, RingFound}
 use Rattle.plan_steps.specs.PassedLaws.{passed_size, passed_solved}
-use Rattle.plan_steps.specs.ClosingLaws.{boundaries_counted}
+use Rattle.plan_steps.specs.ClosingLaws.{boundaries_counted, span_read}
 use Rattle.plan_steps.specs.Filling.{Ready, PlanFilled}
 use Rattle.plan_steps.specs.FillingLaws.{solved_front}
 use Rattle.plan_answers.specs.Planning.{by_pass, looked_by, table_in, Settled, DecideSettled, SeatSettled}
@@ -37,8 +38,10 @@ is_stopped : (p : Passed) → Err (record {}) ≡ outcome_of p → p ≡ stopped
 is_stopped (finished t) e = let z : ◌≡◌ {A = ℕ} 0 1 = cc in absurd (omega arith)
 is_stopped stopped e = refl
 
-cleared_twice : (n : ℕ) (t : List ℤ) → cleared n (cleared n t) ≡ cleared n t
-cleared_twice n t = ap (λ (r : List ℤ). replicate n (pos 0) ++ r) (drop_at (replicate n (pos 0)) (drop n t) n (length-replicate n (pos 0)))
+-- where the pass finished, as `ok` tells it
+pub finished_ok : (r : Outcome) (u : Unit {0}) → Some u ≡ result_ok r → r ≡ Ok tt
+finished_ok (Ok x) u e = refl
+finished_ok (Err x) u e = cc
 
 -- ---- a sheet in lists whose questions are answered yes, and a room that holds its table
 module _ (l : Lists) (fit : Bool) (S : Solvable l fit) (room : List ℤ) (big : places (given l) ≤ length room) where
@@ -59,12 +62,21 @@ module _ (l : Lists) (fit : Bool) (S : Solvable l fit) (room : List ℤ) (big : 
   limits_asked = record { agree = S.lists; ok = S.sheet; fits = big }
 
   -- rooms for seats, by the units' list
-  pub seats_asked : (r : Seats) → SeatsHold s r → (length l.first ≤ r.plan) × (length l.first ≤ r.earliest) × (length l.first ≤ r.latest)
+  seats_asked : (r : Seats) → SeatsHold s r → (length l.first ≤ r.plan) × (length l.first ≤ r.earliest) × (length l.first ≤ r.latest)
   seats_asked r h = (omega (arith, units_length, h.plan), omega (arith, units_length, h.earliest), omega (arith, units_length, h.latest))
+
+  -- as the code reads the lists from those lent
+  module _ (read : Lists) (same : read ≡ l) where
+    pub span_asked : read.span ≤ max_slots
+    span_asked = span_read read l same S.sheet
+
+    pub seats_read : (r : Seats) → SeatsHold s r → (length read.first ≤ r.plan) × (length read.first ≤ r.earliest) × (length read.first ≤ r.latest)
+    seats_read r h =
+        subst (λ (x : Lists). (length x.first ≤ r.plan) × (length x.first ≤ r.earliest) × (length x.first ≤ r.latest)) (sym same) (seats_asked r h)
 
   -- the finished pass at the front of the room: seats can be filled in by it
   module _ (t : List ℤ) (e : passed s ≡ finished t) (table : List ℤ) (is : table ≡ table_in s t room) where
-    pub ready : (w : ℕ) → w ≡ boundaries_of l.span → Ready s w l.first l.last table
+    ready : (w : ℕ) → w ≡ boundaries_of l.span → Ready s w l.first l.last table
     ready w k =
         let count = (boundaries_counted l S.sheet w k).0 in
         let size = passed_size s t e in
@@ -79,6 +91,10 @@ module _ (l : Lists) (fit : Bool) (S : Solvable l fit) (room : List ℤ) (big : 
           solved = subst (λ (n : ℕ). Solved s (entry n table)) count (subst (λ (x : List ℤ). Solved s (entry (boundaries s) x)) (sym is) front);
         }
 
+    pub ready_read : (read : Lists) → read ≡ l → (w : ℕ) → w ≡ boundaries_of read.span → Ready s w read.first read.last table
+    ready_read read same w k =
+        subst (λ (x : Lists). Ready s w x.first x.last table) (sym same) (ready w (k ∙ ap (λ (x : Lists). boundaries_of x.span) same))
+
     module _ (plan earliest latest : List ℕ) (looks : ℕ) (plan' earliest' latest' : List ℕ)
         (f : PlanFilled s plan earliest latest looks plan' earliest' latest') where
       pub plan_left : (ring ring' : List ℕ) → ring' ≡ ring
@@ -87,13 +103,10 @@ module _ (l : Lists) (fit : Bool) (S : Solvable l fit) (room : List ℤ) (big : 
           subst (λ (p : Passed). Settled (by_pass p) s (lent room plan earliest latest ring) says.plan (lent table plan' earliest' latest' ring')) (sym e)
           (refl, rw (is, f.seats, f.early, f.late, same))
 
-      pub seats_left : SeatSettled (by_pass (passed s)) s (seat_rooms room plan earliest latest) says.plan (seat_rooms table plan' earliest' latest')
+      seats_left : SeatSettled (by_pass (passed s)) s (seat_rooms room plan earliest latest) says.plan (seat_rooms table plan' earliest' latest')
       seats_left =
           subst (λ (p : Passed). SeatSettled (by_pass p) s (seat_rooms room plan earliest latest) says.plan (seat_rooms table plan' earliest' latest')) (sym e)
           (refl, rw (is, f.seats, f.early, f.late))
-
-      pub looks_left : looks ≡ looked_by (by_pass (passed s)) s
-      looks_left = f.seen ∙ ap (λ (p : Passed). looked_by (by_pass p) s) (sym e)
 
   -- ---- the pass, closed
   module _ (r : Outcome) (table : List ℤ) (d : Closed s room r table) where
@@ -110,34 +123,22 @@ module _ (l : Lists) (fit : Bool) (S : Solvable l fit) (room : List ℤ) (big : 
           let k = cleared_length (places s) room big in
           (record { agree = S.lists; ok = S.sheet; fits = omega (arith, big, k, ap length table_cleared) }, long, halted)
 
-      pub ring_left_lem : (ring : List ℕ) (k : ℕ) (zeros : List ℤ) (ring' : List ℕ) → RingFound s table ring k zeros ring'
-          → DecideSettled (by_pass (passed s)) s (decide_rooms room ring) (says.none k) (decide_rooms zeros ring')
-      ring_left_lem ring k zeros ring' R =
-          let z : zeros ≡ cleared (places s) room = R.zeros ∙ ap (cleared (places s)) table_cleared ∙ cleared_twice (places s) room in
-          subst (λ (p : Passed). DecideSettled (by_pass p) s (decide_rooms room ring) (says.none k) (decide_rooms zeros ring')) (sym halted)
-          (R.ring, R.closed, ap says.none R.size, ap₂ decide_rooms z R.front)
-
-      pub none_seated : (plan earliest latest : List ℕ)
-          → SeatSettled (by_pass (passed s)) s (seat_rooms room plan earliest latest) (says.none 0) (seat_rooms table plan earliest latest)
-      none_seated plan earliest latest =
-          subst (λ (p : Passed). SeatSettled (by_pass p) s (seat_rooms room plan earliest latest) (says.none 0) (seat_rooms table plan earliest latest))
-          (sym halted)
-          (refl, ap (λ (x : List ℤ). seat_rooms x plan earliest latest) table_cleared)
-
-      pub none_looked : 0 ≡ looked_by (by_pass (passed s)) s
-      none_looked = ap (λ (p : Passed). looked_by (by_pass p) s) (sym halted)
-
     module _ (e : r ≡ Ok tt) where
-      pub closed_table : (t : List ℤ) × (passed s ≡ finished t) × (table ≡ table_in s t room)
+      closed_table : (t : List ℤ) × (passed s ≡ finished t) × (table ≡ table_in s t room)
       closed_table =
           let f = is_finished (passed s) (sym e ∙ d.outcome) in
           (f.0, f.1, d.table ∙ ap (λ (p : Passed). table_left s p room) f.1)
 
-      pub fits_left : (ring : List ℕ) → DecideSettled (by_pass (passed s)) s (decide_rooms room ring) says.plan (decide_rooms table ring)
-      fits_left ring =
-          let f = closed_table in
-          subst (λ (p : Passed). DecideSettled (by_pass p) s (decide_rooms room ring) says.plan (decide_rooms table ring)) (sym f.1)
-          (refl, ap (λ (x : List ℤ). decide_rooms x ring) f.2)
+      pub ready_closed : (read : Lists) → read ≡ l → (w : ℕ) → w ≡ boundaries_of read.span → Ready s w read.first read.last table
+      ready_closed = let f = closed_table in ready_read f.0 f.1 table f.2
+
+      module _ (plan earliest latest : List ℕ) (looks : ℕ) (plan' earliest' latest' : List ℕ)
+          (f : PlanFilled s plan earliest latest looks plan' earliest' latest') where
+        pub seats_closed : SeatSettled (by_pass (passed s)) s (seat_rooms room plan earliest latest) says.plan (seat_rooms table plan' earliest' latest')
+        seats_closed = let t = closed_table in seats_left t.0 t.1 table t.2 plan earliest latest looks plan' earliest' latest' f
+
+        pub looks_closed : looks ≡ looked_by (by_pass (passed s)) s
+        looks_closed = let t = closed_table in f.seen ∙ ap (λ (p : Passed). looked_by (by_pass p) s) (sym t.1)
 
 -- ---- what deciding left, by its reply
 module _ (s : Sheet) (room : List ℤ) (ring : List ℕ) (table : List ℤ) (ring' : List ℕ) where
