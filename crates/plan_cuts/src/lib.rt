@@ -17,14 +17,7 @@ fn last_marked(row: &[u16]) -> Option<usize>
 
 // A cut of every marked window that reaches to it. What the longest window admits, the others that open with it do too, so one try mostly
 // serves the whole row. None where it fails, or where no window is marked.
-fn common_cut(
-    d: &[i16],
-    m: &[i16],
-    w: usize,
-    f: Slot,
-    row: &[u16],
-    floor: &[u16],
-) -> Option<usize>
+fn common_cut(d: &[i16], m: &[i16], w: usize, f: Slot, row: &[u16], floor: &[u16]) -> Option<usize>
     requires { CutNetwork w d.now m.now × (1 ≤ f.0) × (slot_end f.0 < w) × (length row.now ≡ w) × (w ≤ length floor.now)
         × KnownRow w d.now m.now f.0 row.now }
     ensures { IfSome result (λ v. CommonCut w d.now m.now f.0 row.now v) }
