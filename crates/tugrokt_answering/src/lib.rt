@@ -7,6 +7,7 @@ ghost use Rattle.tugrokt_answering.specs.Told.{AnswerTold};
 use forms::House;
 use print_page::MAX_PAGE;
 use questions::Question;
+use tugrokt_replies::writing;
 use tugrokt_replies::writing::Writing;
 use wave_words::Query;
 
@@ -23,10 +24,10 @@ pub fn answer_house(
 {
     let mut bytes = [0u8; MAX_PAGE];
     let length = answer::answer(house, query, text, &mut bytes);
-    let written = if print_writer::holds(page.len(), place, length) {
-        Ok(print_writer::write(page, place, &bytes[..length]))
+    if print_writer::holds(page.len(), place, length) {
+        let next = print_writer::write(page, place, &bytes[..length]);
+        writing::numbers_of(place, Ok(next))
     } else {
-        Err(Question::Page.refused())
-    };
-    tugrokt_replies::writing::numbers_of(place, written)
+        writing::numbers_of(place, Err(Question::Page.refused()))
+    }
 }

@@ -1,10 +1,12 @@
 -- The answer is the front of an array of the call's own, which no answer outgrows. Where the page holds it, it is written; else nothing is.
-use Rattle.std.proofs.Common.{ℕ, ◌≤◌, ◌≡◌, List, length, take, sym, ap, arith}
+use Rattle.std.proofs.Common.{ℕ, ◌≤◌, ◌≡◌, List, length, take, sym, ap, ◌∙◌, arith}
 use Rattle.std.proofs.Math.ListN.{length-replicate}
 use lib.Seq.{length-take-le}
 use Rattle.pages.specs.Page.{max_page}
 use Rattle.print_bytes.proofs.WritingLaws.{own_part, own_size, own_long}
 use Rattle.answer_conditions.proofs.AnswerConditions.{answer_short}
+use Rattle.questions.specs.declared.Refusal.{Refusal}
+use Rattle.write.specs.Writing.{refused}
 use Rattle.write.proofs.WritingLaws.{room, held, not_held}
 use Rattle.tugrokt_replies.specs.Numbers.{writing_of}
 use Rattle.tugrokt_answering.proofs.answer_house.Goals.{After-answer-length}
@@ -45,11 +47,16 @@ returns-then-holds c =
     let a = c.args in
     let h = held a.page.now a.place (bytes o) _ (size o) _ c.holds.ensures c.if-holds.true _ _
     (rw (part o) at c.write-next.ensures) in
-    record { bytes = bytes o; answers = c.answer-length.ensures.answers; told = ap (writing_of a.place) h.0; page_left = h.1 }
+    record { bytes = bytes o; answers = c.answer-length.ensures.answers; told = c.numbers_of.ensures ∙ ap (writing_of a.place) h.0; page_left = h.1 }
 
 pub returns-else-holds : goal.returns-else-holds
 returns-else-holds c =
     let o = (goal.at.returns-else-holds c).After-answer-length in
     let a = c.args in
     let h = not_held a.page.now a.place (bytes o) _ (size o) _ c.holds.ensures c.if-holds.false in
-    record { bytes = bytes o; answers = c.answer-length.ensures.answers; told = ap (writing_of a.place) h.0; page_left = h.1 }
+    record {
+      bytes = bytes o;
+      answers = c.answer-length.ensures.answers;
+      told = c.numbers_of-else-holds.ensures ∙ ap (writing_of a.place) (ap (λ (f : Refusal). refused f.number f.line) c.refused.ensures ∙ h.0);
+      page_left = h.1;
+    }
