@@ -23,16 +23,15 @@ pub fn plan(
         Settled (conclusion lists.now before) (given_by lists.now) before (reply_of result)
         (lent table.new plan.new earliest.new latest.new ring.new) }
 {
-    plan_ask::ask(lists, plan_rooms::for_plan(table, plan, earliest, latest, ring))?;
+    plan_ask::ask(
+        lists,
+        plan_rooms::for_plan(table, plan, earliest, latest, ring),
+    )?;
     Ok(plan_solve::solve(&lists.constraints, table, plan, earliest, latest, ring))
 }
 
 // Decides from lists whether the sheet fits. The questions come first, of the table's and the ring's room alone; no unit is seated.
-pub fn decide(
-    lists: &WrittenLists<'_>,
-    table: &mut [i16],
-    ring: &mut [u16],
-) -> Result<Fit, Refusal>
+pub fn decide(lists: &WrittenLists<'_>, table: &mut [i16], ring: &mut [u16]) -> Result<Fit, Refusal>
     ensures { let before = decide_rooms table.old ring.old in
         DecideSettled (conclusion_in lists.now (decide_lent before)) (given_by lists.now) before (decision_reply result) (decide_rooms table.new ring.new) }
 {

@@ -4,7 +4,8 @@ use Rattle.std.specs.Prelude.{◌≡◌, refl, Bool, List, ℕ, ℤ}
 use Rattle.std.proofs.Common.{sym, subst}
 use Rattle.std.proofs.Math.Path.{ap}
 use Rattle.questions.specs.Questions.{Verdict, no, all_yes}
-use Rattle.sheet.specs.Lists.{WrittenLists, given_by}
+use Rattle.sheet.specs.Sheet.{Sheet}
+use Rattle.sheet.specs.Lists.{Lists, given, WrittenLists, given_by}
 use Rattle.plan_ask.specs.Questions.{refusal_by}
 use Rattle.plan_steps.specs.Closing.{passed}
 use Rattle.plan_answers.specs.Planning.{Conclusion, by_pass, concluding, conclusion_by, looked_by, SettledBy}
@@ -29,9 +30,19 @@ module _ (l : WrittenLists) (rooms : Bool) where
     refused_settled q n e =
         subst (λ (c : Conclusion). SettledBy planned None c before (says.refused q n) before) (sym (concludes (no q n) e)) (refl, refl)
 
+    -- whatever the reply is made of
+    pub refused_told : (q n : ℕ) → refusal_by l rooms ≡ no q n → (reply : says.Reply) → reply ≡ says.refused q n
+        → SettledBy planned None (conclusion_by l rooms) before reply before
+    refused_told q n e reply is =
+        subst (λ (r : says.Reply). SettledBy planned None (conclusion_by l rooms) before r before) (sym is) (refused_settled q n e)
+
     -- what solving leaves, where the reply is what it told
     pub solved_settled : refusal_by l rooms ≡ all_yes → (reply told : says.Reply) → reply ≡ told → (after : R)
         → SettledBy planned None (by_pass (passed (given_by l))) before told after → SettledBy planned None (conclusion_by l rooms) before reply after
     solved_settled e reply told same after h =
         subst (λ (c : Conclusion). SettledBy planned None c before reply after) (sym (concludes all_yes e))
         (subst (λ (r : says.Reply). SettledBy planned None (by_pass (passed (given_by l))) before r after) (sym same) h)
+
+-- what is said of the sheet as the code reads it, of the lists lent
+pub of_lent : (P : Sheet → Type 0) (loader : List ℕ) (k : Lists) (l : WrittenLists) → record { loader = loader; constraints = k } ≡ l → P (given k) → P (given_by l)
+of_lent P loader k l e = subst (λ (x : WrittenLists). P (given_by x)) e

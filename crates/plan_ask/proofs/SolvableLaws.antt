@@ -1,14 +1,15 @@
 -- A call is not refused exactly when its lists make a sheet that is accepted, its loader numbers fit and its rooms are long enough, whatever rooms it asks for.
 -- Key idea: no question is the first no exactly when every answer is yes; and the lists' verdict goes on to that of the rooms.
-use Rattle.std.specs.Prelude.{◌≡◌, Bool, cond, List, [], ◌∷◌, ◌++◌, T}
-use Rattle.std.proofs.Common.{sym, ap, ◌∙◌}
+use Rattle.std.specs.Prelude.{◌≡◌, Bool, cond, List, [], ◌∷◌, ◌++◌, ℕ, T}
+use Rattle.std.proofs.Common.{sym, ap, ◌∙◌, subst}
 use Rattle.std.proofs.Math.Bool.{true}
 use Rattle.lists.specs.Members.{both, left, right, every_both}
 use Rattle.questions.specs.Questions.{Question, ask, Verdict, no, all_yes, first_no, and_then, AllYes}
 use Rattle.questions.proofs.FirstNoLaws.{first_then, yes_every, every_yes, yes_front, yes_back, yes_at}
 use Rattle.sheet.specs.Sheet.{Sheet}
 use Rattle.sheet.specs.Questions.{loaders_fit, slot_questions, count_questions, accepted}
-use Rattle.sheet.specs.Lists.{WrittenLists, given_by, all_agree}
+use Rattle.sheet.specs.Lists.{Lists, given, WrittenLists, given_by, all_agree}
+use Rattle.plan_rooms.specs.Rooms.{rooms_fit}
 use Rattle.plan_ask.specs.Questions.{list_questions, questions, refusal_by, refusal_in}
 use Rattle.plan_ask.specs.Asking.{Listed, Solvable}
 use Rattle.plan_ask.proofs.AskingLaws.{all_agree_read, read_all_agree}
@@ -65,6 +66,11 @@ module _ (l : WrittenLists) where
     pub yes_asked : Listed l → T rooms → refusal_by l rooms ≡ all_yes
     unfolding refusal_by
     yes_asked y fit = every_yes (questions l rooms) (every_both (λ q. q.yes) (list_questions l) last (yes_lists y) (both rooms true fit tt))
+
+-- of the constraints as the code reads them from the lists lent
+pub yes_read : (loader : List ℕ) (k : Lists) (l : WrittenLists) → record { loader = loader; constraints = k } ≡ l → (r : Lengths) → refusal_in l r ≡ all_yes
+    → Solvable k (rooms_fit (given k) r)
+yes_read loader k l e r a = subst (λ (x : WrittenLists). Solvable x.constraints (rooms_fit (given_by x) r)) (sym e) (asked_yes l _ a)
 
 -- the questions' verdict, asked of these lengths, is that of the rooms whose lengths they are
 pub asked_of : (l : WrittenLists) (asked rooms : Lengths) (told v : Verdict) → told ≡ refusal_in l asked → asked ≡ rooms → told ≡ v → refusal_in l rooms ≡ v

@@ -1,10 +1,8 @@
--- The verdict of a refusal that `?` passes on.
--- Key idea: `?` leaves an `Err` of the same refusal.
-use Rattle.std.specs.Prelude.{◌≡◌, Result, Ok, Err, IsErrAnd}
-use Rattle.std.proofs.Common.{ap}
-use Rattle.questions.specs.declared.Refusal.{Refusal}
-use Rattle.questions.specs.Questions.{no, verdict_of}
+-- What `?` passes on: an error of the same type is the one that came.
+-- Key idea: the result that `?` returns is an `Err`, and of the error that was passed on.
+use Rattle.std.specs.Prelude.{◌≡◌, Result, Err, IsErrAnd}
+use Rattle.std.proofs.Common.{ap, ◌∙◌}
+use Rattle.std.proofs.lemmas.Result.{err_from_is_err_and}
 
-pub passed_on : {A : Type 0} (r : Result A Refusal) (f : Refusal) → IsErrAnd r (λ e. e ≡ f) → verdict_of r ≡ no f.number f.line
-passed_on (Ok a) f h = absurd h
-passed_on (Err e) f h = ap (λ (x : Refusal). no x.number x.line) h
+pub passed_on : {A E : Type 0} (r : Result A E) (f : E) → IsErrAnd r (λ e. e ≡ f) → r ≡ Err f
+passed_on r f h = let p = err_from_is_err_and r h in p.1 ∙ ap Err p.2
