@@ -1,5 +1,5 @@
 -- What the number reader answers at a place of a text.
-use Rattle.std.specs.Prelude.{ℕ, ◌+◌, Bool, cond, List, length}
+use Rattle.std.specs.Prelude.{ℕ, ◌+◌, Bool, cond, List, length, Option, Some, None}
 use Rattle.forms.specs.Form.{plain, value}
 use Rattle.read_number.specs.declared.Number.{Number}
 
@@ -7,8 +7,8 @@ use Rattle.read_number.specs.declared.Number.{Number}
 abbrev pub max_number : ℕ
 max_number = 9999
 
-abbrev pub number_with : ℕ → Bool → ℕ → Number
-number_with v p next = record { value = v; plain = p; next = next }
+abbrev pub number_with : Option ℕ → ℕ → Number
+number_with v next = record { value = v; next = next }
 
 -- a number that question 4 lets pass has its value, and one that it does not has none
 abbrev pub read_value : List ℕ → ℕ
@@ -16,4 +16,4 @@ read_value digits = cond (plain digits) (value digits) 0
 
 -- the number with these digits, which starts at a place
 unfoldable pub number_read : List ℕ → ℕ → Number
-number_read digits at = number_with (read_value digits) (plain digits) (at + length digits)
+number_read digits at = number_with (cond (plain digits) (Some (value digits)) None) (at + length digits)

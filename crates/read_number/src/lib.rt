@@ -1,53 +1,49 @@
 #![tactic(auto)]
 
-ghost use Rattle.std.specs.Prelude.{◌≡◌, true, false, ◌+◌, ◌-◌, ◌≤◌, length, drop, get_or};
+ghost use Rattle.std.specs.Prelude.{◌≡◌, true, ◌+◌, ◌-◌, ◌≤◌, length, drop, get_or, take_while, Some, None, IfSome};
 ghost use Rattle.forms.specs.Form.{is_digit, leading};
 ghost use Rattle.forms.specs.Lines.{has_feed};
 ghost use Rattle.read_number.specs.Number.{max_number, number_with, number_read};
 
-// A number's value, whether it has at most four digits and no needless zero (question 4), and the place past its digits. One that has more has the
-// value 0.
+// A number's value, or none where it has more than four digits or a needless zero (question 4), and the place past its digits.
 #[derive(Clone, Copy)]
 pub struct Number {
-    pub value: u16,
-    pub plain: bool,
+    pub value: Option<u16>,
     pub next: usize,
 }
 
-// The bytes of 0 and 9. Bytes are taken as machine words, which the compiler need not cut back to eight bits.
-const ZERO: usize = 48;
-
-const NINE: usize = 57;
-
-fn is_digit(b: usize) -> bool
-    ensures { result ≡ is_digit b }
-{
-    if b < ZERO {
-        return false;
-    }
-    b <= NINE
-}
-
-fn digit(b: usize) -> usize
+fn digit(b: u8) -> u16
     requires { is_digit b ≡ true }
     ensures { (result ≡ b - 48) × (result ≤ 9) }
 {
-    b - ZERO
+    (b - b'0') as u16
 }
 
-// A number that question 4 does not let pass. Its digits end before the line feed that is known to follow, so no byte is asked whether there is one.
+// A number that question 4 lets pass.
+fn plain(value: u16, next: usize) -> Number
+    ensures { result ≡ number_with (Some value) next }
+{
+    Number {
+        value: Some(value),
+        next,
+    }
+}
+
+// How many digits a text starts with.
+fn digits(s: &[u8]) -> usize
+    ensures { result ≡ length (take_while is_digit s.now) }
+{
+    s.iter().take_while(|b| b.is_ascii_digit()).count()
+}
+
+// A number that question 4 does not let pass.
 fn faulty(s: &[u8], at: usize) -> Number
     requires { has_feed (drop at s.now) ≡ true }
-    ensures { result ≡ number_with 0 false (at + length (leading (drop at s.now))) }
+    ensures { result ≡ number_with None (at + length (leading (drop at s.now))) }
 {
-    let mut i = at;
-    while is_digit(s[i] as usize) {
-        i += 1;
-    }
     Number {
-        value: 0,
-        plain: false,
-        next: i,
+        value: None,
+        next: at + digits(&s[at..]),
     }
 }
 
@@ -55,44 +51,28 @@ fn faulty(s: &[u8], at: usize) -> Number
 pub fn number_at(s: &[u8], at: usize) -> Number
     requires { (has_feed (drop at s.now) ≡ true) × (is_digit (get_or s.now at 0) ≡ true) }
     ensures value { result ≡ number_read (leading (drop at s.now)) at }
-    ensures value_le_max_number { result.value ≤ max_number }
+    ensures value_le_max_number { IfSome result.value (λ v. v ≤ max_number) }
 {
-    let one = digit(s[at] as usize);
-    let second = s[at + 1] as usize;
-    if !is_digit(second) {
-        return Number {
-            value: one as u16,
-            plain: true,
-            next: at + 1,
-        };
+    let one = digit(s[at]);
+    let second = s[at + 1];
+    if !second.is_ascii_digit() {
+        return plain(one, at + 1);
     }
     if one == 0 {
         return faulty(s, at);
     }
     let two = one * 10 + digit(second);
-    let third = s[at + 2] as usize;
-    if !is_digit(third) {
-        return Number {
-            value: two as u16,
-            plain: true,
-            next: at + 2,
-        };
+    let third = s[at + 2];
+    if !third.is_ascii_digit() {
+        return plain(two, at + 2);
     }
     let three = two * 10 + digit(third);
-    let fourth = s[at + 3] as usize;
-    if !is_digit(fourth) {
-        return Number {
-            value: three as u16,
-            plain: true,
-            next: at + 3,
-        };
+    let fourth = s[at + 3];
+    if !fourth.is_ascii_digit() {
+        return plain(three, at + 3);
     }
-    if is_digit(s[at + 4] as usize) {
+    if s[at + 4].is_ascii_digit() {
         return faulty(s, at);
     }
-    Number {
-        value: (three * 10 + digit(fourth)) as u16,
-        plain: true,
-        next: at + 4,
-    }
+    plain(three * 10 + digit(fourth), at + 4)
 }
