@@ -1,17 +1,20 @@
 // The form reader's table for the lines of a sheet of the partner house.
 #![tactic(auto)]
 
-ghost use Rattle.std.specs.Prelude.{◌≡◌};
 ghost use Rattle.forms.specs.declared.House.TheVariants.{Partner};
-ghost use Rattle.read_form.specs.Grid.{grid};
+ghost use Rattle.read_form.specs.Grid.{Tables};
 
-use read_form::Grid;
+use read_form::{FormReader, Grid};
 
 pub mod tables;
 
-// A caller takes it once and lends it: a constant array that is indexed is rebuilt at each use.
-pub fn table() -> Grid
-    ensures { result ≡ grid Partner }
+static GRID: Grid = tables::TABLE;
+
+pub fn reader() -> FormReader<'static>
+    ensures { Tables Partner result.grid.now result.classes.now }
 {
-    tables::TABLE
+    FormReader {
+        grid: &GRID,
+        classes: read_form::class_table(),
+    }
 }

@@ -3,3 +3,4 @@ pub mod Grid
 pub mod GridLaws
 pub mod Met
 pub mod MetLaws
+pub mod Reader

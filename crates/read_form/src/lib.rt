@@ -2,7 +2,8 @@
 #![tactic(auto)]
 
 ghost use Rattle.std.specs.Prelude.{◌≡◌, ◌<◌};
-ghost use Rattle.read_form.specs.Grid.{classes, class_count, class_of, entry_of, kind_of_code, state_count, Tables};
+ghost use Rattle.read_form.specs.Grid.{classes, class_count, class_of, entry_of, kind_of_code, state_count};
+ghost use Rattle.read_form.specs.Reader.{Serves};
 ghost use Rattle.forms.specs.declared.House.{House};
 
 pub mod tables;
@@ -24,7 +25,7 @@ pub const STOPS: usize = 14;
 pub type Grid = [[u8; CLASSES]; STATES];
 
 // What a line is, as far as its bytes alone tell.
-#[derive(Clone, Copy)]
+#[derive(Clone, Copy, PartialEq, Eq)]
 pub enum Kind {
     Unprintable,
     Note,
@@ -34,41 +35,53 @@ pub enum Kind {
     Other,
 }
 
-// The class of each byte. A caller takes the table once and lends it: a constant array that is indexed is rebuilt at each use.
-pub fn class_table() -> [u8; 256]
-    ensures { result ≡ classes }
-{
-    tables::CLASS_OF
+impl Kind {
+    // What the line is that has ended in a state.
+    pub fn of_state(state: usize) -> Kind
+        ensures { result ≡ kind_of_code state }
+    {
+        // stays: numbers for kinds, for a state that ends a line is its kind's code in the tables.
+        match state {
+            0 => Kind::Unprintable,
+            1 => Kind::Note,
+            2 => Kind::Sheet,
+            3 => Kind::Unit,
+            4 => Kind::Rule,
+            _ => Kind::Other,
+        }
+    }
 }
 
-fn class_of(table: &[u8; 256], b: u8) -> usize
-    requires { table.now ≡ classes }
-    ensures { (result ≡ class_of b) × (result < class_count) }
+// The class of each byte.
+static CLASSES_OF_BYTES: [u8; 256] = tables::CLASS_OF;
+
+pub fn class_table() -> &'static [u8; 256]
+    ensures { result.now ≡ classes }
 {
-    let c = table[b as usize];
-    c as usize
+    &CLASSES_OF_BYTES
 }
 
-// One step of the form reader: the state after one byte more. The tables are those of either house.
-pub fn next_state(grid: &Grid, table: &[u8; 256], state: usize, b: u8) -> usize
-    requires { ((h : House) × Tables h grid.now table.now) × (state < state_count) }
-    ensures { result ≡ entry_of grid.now state (class_of b) }
-{
-    let c = class_of(table, b);
-    let next = grid[state][c];
-    next as usize
+// The form reader of a house: its tables, as they are lent to a call.
+#[derive(Clone, Copy)]
+pub struct FormReader<'a> {
+    pub grid: &'a Grid,
+    pub classes: &'a [u8; 256],
 }
 
-// What the line is that has ended in a state.
-pub fn kind_of_code(state: usize) -> Kind
-    ensures { result ≡ kind_of_code state }
-{
-    match state {
-        0 => Kind::Unprintable,
-        1 => Kind::Note,
-        2 => Kind::Sheet,
-        3 => Kind::Unit,
-        4 => Kind::Rule,
-        _ => Kind::Other,
+impl FormReader<'_> {
+    fn class_of(self, b: u8) -> usize
+        requires { self.classes.now ≡ classes }
+        ensures { (result ≡ class_of b) × (result < class_count) }
+    {
+        self.classes[b as usize] as usize
+    }
+
+    // The state after one byte more.
+    pub fn next(self, state: usize, b: u8) -> usize
+        requires { ((h : House) × Serves h self) × (state < state_count) }
+        ensures { result ≡ entry_of self.entry.grid.now state (class_of b) }
+    {
+        let c = self.class_of(b);
+        self.grid[state][c] as usize
     }
 }

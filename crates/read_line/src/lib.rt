@@ -3,7 +3,7 @@
 ghost use Rattle.std.specs.Prelude.{◌≡◌, true, false, cond, ◌+◌, ◌≤◌, ◌<◌, length, drop, Ok, Err};
 ghost use Rattle.forms.specs.Lines.{whole_lines};
 ghost use Rattle.forms.specs.LinesLaws.{line_end};
-ghost use Rattle.read_form.specs.Grid.{Tables};
+ghost use Rattle.read_form.specs.Reader.{Serves};
 ghost use Rattle.read_number.specs.Number.{max_number};
 ghost use Rattle.read_scan.specs.Scan.{line_at, Small};
 ghost use Rattle.read_line.specs.Content.{note_matched, last_of};
@@ -13,7 +13,7 @@ ghost use Rattle.questions.specs.declared.Question.TheVariants.{PlainNumbers};
 
 use forms::House;
 use questions::Question;
-use read_form::{Grid, Kind};
+use read_form::{FormReader, Kind};
 use read_scan::{NUMBERS, run, scan};
 
 // What one line says. A unit has its loader number and the first and last slot of its window.
@@ -127,19 +127,17 @@ fn read_line(
 }
 
 // The line that starts at a place of a text, before its last line feed.
-pub fn line_at(house: House, text: &[u8], at: usize, grid: &Grid, table: &[u8; 256]) -> Found
-    requires { (at < whole_lines text.now) × Tables house grid.now table.now }
+pub fn line_at(house: House, text: &[u8], at: usize, reader: FormReader<'_>) -> Found
+    requires { (at < whole_lines text.now) × Serves house reader }
     ensures line_value { result.line ≡ line_of house (line_at text.now at) true }
     ensures next_value { result.next ≡ line_end text.now at + 1 }
 {
     let mut values = [0u16; NUMBERS];
-    let found = scan(text, at, grid, table, &mut values);
-    let end = found.end;
-    let kind = found.kind;
-    let plain = found.plain;
+    let found = scan(text, at, reader, &mut values);
+    let bytes = &text[at..found.end];
     Found {
-        line: read_line(house, kind, plain, &values, &text[at..end]),
-        next: end + 1,
+        line: read_line(house, found.kind, found.plain, &values, bytes),
+        next: found.end + 1,
     }
 }
 
@@ -156,12 +154,11 @@ fn unended(kind: Kind, s: &[u8]) -> Question
 }
 
 // The question that the bytes past the last line feed fail.
-pub fn last_line(house: House, text: &[u8], at: usize, grid: &Grid, table: &[u8; 256]) -> Question
-    requires { (whole_lines text.now ≤ at) × (at ≤ length text.now) × Tables house grid.now table.now }
+pub fn last_line(house: House, text: &[u8], at: usize, reader: FormReader<'_>) -> Question
+    requires { (whole_lines text.now ≤ at) × (at ≤ length text.now) × Serves house reader }
     ensures { Err result ≡ line_of house (drop at text.now) false }
 {
-    let state = run(text, at, grid, table);
-    let end = read_form::next_state(grid, table, state, b'\n');
-    let kind = read_form::kind_of_code(end);
+    let state = run(text, at, reader);
+    let kind = Kind::of_state(reader.next(state, b'\n'));
     unended(kind, &text[at..])
 }

@@ -3,10 +3,11 @@
 ghost use Rattle.std.specs.Prelude.{◌≡◌, true, ◌≤◌, ◌<◌, length, drop};
 ghost use Rattle.forms.specs.Lines.{has_feed};
 ghost use Rattle.forms.specs.declared.House.{House};
-ghost use Rattle.read_form.specs.Grid.{start, state_count, run_of, Tables};
+ghost use Rattle.read_form.specs.Grid.{start, state_count, run_of};
+ghost use Rattle.read_form.specs.Reader.{Serves};
 ghost use Rattle.read_scan.specs.Scan.{Resumes, StopsAt, ScannedAs, Small};
 
-use read_form::{ENDS, Grid, Kind, START, STOPS};
+use read_form::{ENDS, FormReader, Kind, START, STOPS};
 
 // Where reading a line stops: the place of its line feed or of a number's first digit, and the state past that byte.
 #[derive(Clone, Copy)]
@@ -27,14 +28,15 @@ pub struct Scanned {
 pub const NUMBERS: usize = STOPS - ENDS;
 
 // The form reader from a place on, up to the line feed or the next number.
-fn to_stop(text: &[u8], at: usize, from: usize, grid: &Grid, table: &[u8; 256]) -> Stop
-    requires { Resumes text.now at from × ((h : House) × Tables h grid.now table.now) }
-    ensures { (h : House) → Tables h grid.now table.now → StopsAt h text.now at from result.place result.state }
+fn to_stop(text: &[u8], at: usize, from: usize, reader: FormReader<'_>) -> Stop
+    requires { Resumes text.now at from × ((h : House) × Serves h reader) }
+    ensures { (h : House) → Serves h reader.entry → StopsAt h text.now at from result.place result.state }
 {
-    let mut state = read_form::next_state(grid, table, from, text[at]);
+    let mut state = reader.next(from, text[at]);
     let mut i = at + 1;
+    // stays: a while, for the state ends it and no byte is asked whether the text ends.
     while STOPS <= state {
-        state = read_form::next_state(grid, table, state, text[i]);
+        state = reader.next(state, text[i]);
         i += 1;
     }
     Stop {
@@ -43,16 +45,16 @@ fn to_stop(text: &[u8], at: usize, from: usize, grid: &Grid, table: &[u8; 256]) 
     }
 }
 
-// The line that starts at a place. Its numbers are read where they are met, each into the place of its state.
+// The line that starts at a place. Its numbers are read where they are met, each into the place of its state; one that question 4 does not let pass
+// has the value 0.
 pub fn scan(
     text: &[u8],
     at: usize,
-    grid: &Grid,
-    table: &[u8; 256],
+    reader: FormReader<'_>,
     values: &mut [u16; NUMBERS],
 ) -> Scanned
-    requires { (has_feed (drop at text.now) ≡ true) × ((h : House) × Tables h grid.now table.now) × Small values.old }
-    ensures scanned_as { (h : House) → Tables h grid.now table.now
+    requires { (has_feed (drop at text.now) ≡ true) × ((h : House) × Serves h reader) × Small values.old }
+    ensures scanned_as { (h : House) → Serves h reader.entry
         → ScannedAs h text.now at result.end result.kind result.plain values.old values.new }
     ensures small { Small values.new }
 {
@@ -60,35 +62,31 @@ pub fn scan(
     let mut i = at;
     let mut plain = true;
     loop {
-        let stop = to_stop(text, i, state, grid, table);
+        let stop = to_stop(text, i, state, reader);
         if stop.state < ENDS {
             return Scanned {
                 end: stop.place,
-                kind: read_form::kind_of_code(stop.state),
+                kind: Kind::of_state(stop.state),
                 plain,
             };
         }
         let number = read_number::number_at(text, stop.place);
-        values[stop.state - ENDS] = number.value;
-        if !number.plain {
-            plain = false;
-        }
+        plain &= number.value.is_some();
+        values[stop.state - ENDS] = number.value.unwrap_or(0);
         state = stop.state;
         i = number.next;
     }
 }
 
 // The state past all bytes from a place on.
-pub fn run(text: &[u8], at: usize, grid: &Grid, table: &[u8; 256]) -> usize
-    requires { (at ≤ length text.now) × ((h : House) × Tables h grid.now table.now) }
+pub fn run(text: &[u8], at: usize, reader: FormReader<'_>) -> usize
+    requires { (at ≤ length text.now) × ((h : House) × Serves h reader) }
     ensures { (result < state_count)
-        × ((h : House) → Tables h grid.now table.now → result ≡ run_of h start (drop at text.now)) }
+        × ((h : House) → Serves h reader.entry → result ≡ run_of h start (drop at text.now)) }
 {
     let mut state = START;
-    let mut i = at;
-    while i < text.len() {
-        state = read_form::next_state(grid, table, state, text[i]);
-        i += 1;
+    for b in &text[at..] {
+        state = reader.next(state, *b);
     }
     state
 }

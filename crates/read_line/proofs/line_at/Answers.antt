@@ -18,8 +18,8 @@ module _ (c : After-scan-found) where
 pub scan-found-requires : goal.scan-found-requires
 scan-found-requires c = (whole_ended c.args.text.now c.args.at c.requires.0, (c.args.house, c.requires.1), zeros_small)
 
-pub slice_bounds-read_line-end : goal.slice_bounds-read_line-end
-slice_bounds-read_line-end c = omega (arith, end_inside (goal.at.slice_bounds-read_line-end c).After-scan-found)
+pub slice_bounds-bytes-end : goal.slice_bounds-bytes-end
+slice_bounds-bytes-end c = omega (arith, end_inside (goal.at.slice_bounds-bytes-end c).After-scan-found)
 
 pub read_line-requires : goal.read_line-requires
 read_line-requires c =
