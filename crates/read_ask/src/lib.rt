@@ -2,14 +2,14 @@
 
 ghost use Rattle.std.specs.Prelude.{◌≡◌, take};
 ghost use Rattle.sheet.specs.Sizes.{max_units, max_rules};
-ghost use Rattle.read_form.specs.Grid.{Tables};
+ghost use Rattle.read_form.specs.Reader.{Serves};
 ghost use Rattle.read_unit.specs.UnitStep.{Chained, ChainedBy};
 ghost use Rattle.read_questions.specs.Reading.{rooms, reply_of};
 ghost use Rattle.read_questions.specs.Steps.{step_of, kept_by, pass_reply, Holds, Kept};
 
 use forms::House;
 use questions::{Question, Refusal};
-use read_form::Grid;
+use read_form::FormReader;
 use read_line::Line;
 use sheet::Sheet;
 
@@ -56,8 +56,7 @@ fn line_step(
 fn pass(
     house: House,
     text: &[u8],
-    grid: &Grid,
-    table: &[u8; 256],
+    reader: FormReader<'_>,
     numbers: &mut [u16],
     firsts: &mut [u16],
     lasts: &mut [u16],
@@ -66,7 +65,7 @@ fn pass(
     lows: &mut [u16],
     highs: &mut [u16],
 ) -> Result<Sheet, Refusal>
-    requires { Tables house grid.now table.now
+    requires { Serves house reader
         × Holds max_units max_rules (rooms numbers.old firsts.old lasts.old froms.old tos.old lows.old highs.old) }
     ensures result_value { reply_of result ≡ pass_reply house text.now }
     ensures kept { Kept house result text.now
@@ -81,8 +80,9 @@ fn pass(
     let mut s = Sheet::empty();
     let mut at: usize = 0;
     let mut n: usize = 1;
+    // stays: a while, for a line is as long as its bytes say.
     while at < whole {
-        let found = read_line::line_at(house, text, at, grid, table);
+        let found = read_line::line_at(house, text, at, reader);
         let line = found.line;
         let step = line_step(
             house, s, line, numbers, firsts, lasts, froms, tos, lows, highs, &mut heads, &mut nexts,
@@ -95,7 +95,7 @@ fn pass(
         n += 1;
     }
     if at < text.len() {
-        let q = read_line::last_line(house, text, at, grid, table);
+        let q = read_line::last_line(house, text, at, reader);
         return Err(q.at(n));
     }
     if s.span == 0 {
@@ -125,18 +125,17 @@ pub fn ask_text(
         (rooms numbers.new firsts.new lasts.new froms.new tos.new lows.new
         highs.new) }
 {
-    let table = read_form::class_table();
     match house {
         House::Ours => {
-            let grid = grid_ours::table();
+            let reader = grid_ours::reader();
             pass(
-                house, text, &grid, &table, numbers, firsts, lasts, froms, tos, lows, highs,
+                house, text, reader, numbers, firsts, lasts, froms, tos, lows, highs,
             )
         }
         House::Partner => {
-            let grid = grid_partner::table();
+            let reader = grid_partner::reader();
             pass(
-                house, text, &grid, &table, numbers, firsts, lasts, froms, tos, lows, highs,
+                house, text, reader, numbers, firsts, lasts, froms, tos, lows, highs,
             )
         }
     }

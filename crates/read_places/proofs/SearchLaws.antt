@@ -10,7 +10,6 @@ use mathlib.Core.List.{List, [], ◌∷◌, ◌++◌, map}
 use native.Mathlib.Omega.{arith}
 use native.Mathlib.Numerals.{add-one}
 use native.Mathlib.Nat.{eq-or-lt_of_le}
-use lib.Dec.{eqb}
 use lib.ListN.{length, drop, length-append, length-drop}
 use Rattle.lists.specs.Lists.{cons_if, keep}
 use Rattle.forms.specs.Words.{line_feed}
@@ -18,7 +17,7 @@ use Rattle.forms.specs.Lines.{TextLine, text_line, lines, first_line, whole_line
 use Rattle.forms.specs.LinesLaws.{line_end, lines_at, lines_none, whole_within, whole_ended, whole_next, rest_unended, rest_line}
 use Rattle.forms.specs.declared.House.TheVariants.{Ours}
 use Rattle.read_form.specs.Kinds.{kind_of}
-use Rattle.read_form.specs.Grid.{code}
+use Rattle.read_form.specs.Grid.{same_kind}
 use Rattle.read_form.specs.declared.Kind.{Kind}
 use Rattle.read_places.specs.Places.{Placed, placed_at, placed_from, is_of, spots_in, spots, sought_in, sought}
 use Rattle.read_places.specs.declared.Spot.{Spot}
@@ -34,8 +33,8 @@ unfolding sought spots
 search_start k t j = record { place = omega arith; number = omega arith; among = refl }
 
 module _ (k : Kind) (t : List ℕ) (j at n left : ℕ) (i : Searching k t j at n left) where
-  -- the line that starts here, before the last line feed, by its end and the code of its kind
-  module _ (place : ℕ) (some : at < whole_lines t) (e : place ≡ line_end t at) (state : ℕ) (s : state ≡ code (kind_of Ours (first_line (drop at t)))) where
+  -- the line that starts here, before the last line feed, by its end and its kind
+  module _ (place : ℕ) (some : at < whole_lines t) (e : place ≡ line_end t at) (of : Kind) (s : of ≡ kind_of Ours (first_line (drop at t))) where
     here : Placed
     here = placed_at n at (text_line (first_line (drop at t)) true)
 
@@ -51,30 +50,30 @@ module _ (k : Kind) (t : List ℕ) (j at n left : ℕ) (i : Searching k t j at n
         ∙ ap (λ (b : Bool). text_line l b ∷ lines (drop (place + 1) t)) (whole_ended t at some))
         ∙ ap₂ (λ (m a : ℕ). here ∷ placed_from m a (lines (drop (place + 1) t))) (sym (add-one n)) p
 
-    found_left : (b : Bool) → eqb state (code k) ≡ b
+    found_left : (b : Bool) → same_kind of k ≡ b
         → sought k t j ≡ sought_in (map (λ p. p.spot) (cons_if b here (keep (λ p. is_of k p.line) rest))) left
     unfolding here
     found_left b q =
         i.among ∙ ap (λ (ps : List Placed). sought_in (spots_in k ps) left) all_left
         ∙ ap (λ (c : Bool). sought_in (map (λ p. p.spot) (cons_if c here (keep (λ p. is_of k p.line) rest))) left)
-        (ap (λ (c : ℕ). eqb c (code k)) (sym s) ∙ q)
+        (ap (λ (c : Kind). same_kind c k) (sym s) ∙ q)
 
     next_from : (m : ℕ) → sought k t j ≡ sought_in (spots_in k rest) m → Searching k t j (place + 1) (n + 1) m
     unfolding rest
     next_from m q = record { place = omega (arith, e, whole_next t at some); number = omega (arith, i.number, e); among = q }
 
-    pub search_found : eqb state (code k) ≡ true → left ≡ 0 → Ok (record { number = n; start = at; end = place }) ≡ sought k t j
+    pub search_found : same_kind of k ≡ true → left ≡ 0 → Ok (record { number = n; start = at; end = place }) ≡ sought k t j
     unfolding here
     search_found q z =
         ap (λ (m : ℕ). Ok (record { number = n; start = at; end = m })) e
         ∙ sym (found_left true q ∙ ap (sought_in (here.spot ∷ spots_in k rest)) z)
 
-    pub search_counted : eqb state (code k) ≡ true → (left ≡ 0 → ⊥) → Searching k t j (place + 1) (n + 1) (left - 1)
+    pub search_counted : same_kind of k ≡ true → (left ≡ 0 → ⊥) → Searching k t j (place + 1) (n + 1) (left - 1)
     search_counted q z =
         let f : left ≡ suc (left - 1) = omega arith in
         next_from (left - 1) (found_left true q ∙ ap (sought_in (here.spot ∷ spots_in k rest)) f)
 
-    pub search_passed : eqb state (code k) ≡ false → Searching k t j (place + 1) (n + 1) left
+    pub search_passed : same_kind of k ≡ false → Searching k t j (place + 1) (n + 1) left
     search_passed q = next_from left (found_left false q)
 
   -- the bytes past the last line feed: one line at most, which has none

@@ -7,11 +7,11 @@ ghost use Rattle.forms.specs.Lines.{whole_lines};
 ghost use Rattle.forms.specs.LinesLaws.{line_end};
 ghost use Rattle.forms.specs.declared.House.TheVariants.{Ours};
 ghost use Rattle.read_form.specs.Kinds.{kind_of};
-ghost use Rattle.read_form.specs.Grid.{code, Tables};
+ghost use Rattle.read_form.specs.Reader.{Serves};
 ghost use Rattle.read_scan.specs.Scan.{line_at};
 ghost use Rattle.read_places.specs.Places.{spots, no_spot, sought};
 
-use read_form::{ENDS, Grid, Kind, START};
+use read_form::{ENDS, FormReader, Kind, START};
 
 // Where a line of a text stands: its number, from 1, its first byte and the byte past its last, less the line feed.
 #[derive(Clone, Copy)]
@@ -21,59 +21,46 @@ pub struct Spot {
     pub end: usize,
 }
 
-// The place of a line's feed, and the state past it, which is the code of the line's kind.
+// The place of a line's feed, and what the line is.
 #[derive(Clone, Copy)]
 struct Ended {
     place: usize,
-    state: usize,
-}
-
-// The state in which a line of a kind ends.
-fn code_of(kind: Kind) -> usize
-    ensures { result ≡ code kind }
-{
-    match kind {
-        Kind::Unprintable => 0,
-        Kind::Note => 1,
-        Kind::Sheet => 2,
-        Kind::Unit => 3,
-        Kind::Rule => 4,
-        Kind::Other => 5,
-    }
+    kind: Kind,
 }
 
 // The line that starts at a place of a text, before its last line feed.
-fn to_end(text: &[u8], at: usize, grid: &Grid, table: &[u8; 256]) -> Ended
-    requires { (at < whole_lines text.now) × Tables Ours grid.now table.now }
+fn to_end(text: &[u8], at: usize, reader: FormReader<'_>) -> Ended
+    requires { (at < whole_lines text.now) × Serves Ours reader }
     ensures place_value { result.place ≡ line_end text.now at }
-    ensures state_value { result.state ≡ code (kind_of Ours (line_at text.now at)) }
+    ensures kind_value { result.kind ≡ kind_of Ours (line_at text.now at) }
 {
     let mut state = START;
     let mut i = at;
+    // stays: a while, for the state ends it and no byte is asked whether the text ends.
     while ENDS <= state {
-        state = read_form::next_state(grid, table, state, text[i]);
+        state = reader.next(state, text[i]);
         i += 1;
     }
     Ended {
         place: i - 1,
-        state,
+        kind: Kind::of_state(state),
     }
 }
 
 // The j-th line of a kind, from 0, with the tables of our own format; or, past the last line of its kind, by how many. Only the lines up to the last line
 // feed are looked at.
-fn search(text: &[u8], kind: Kind, j: usize, grid: &Grid, table: &[u8; 256]) -> Result<Spot, usize>
-    requires { Tables Ours grid.now table.now }
+fn search(text: &[u8], kind: Kind, j: usize, reader: FormReader<'_>) -> Result<Spot, usize>
+    requires { Serves Ours reader }
     ensures { result ≡ sought kind text.now j }
 {
     let whole = read_line::lines_end(text);
-    let wanted = code_of(kind);
     let mut at: usize = 0;
     let mut n: usize = 1;
     let mut left = j;
+    // stays: a while, for a line is as long as its bytes say.
     while at < whole {
-        let line = to_end(text, at, grid, table);
-        if line.state == wanted {
+        let line = to_end(text, at, reader);
+        if line.kind == kind {
             if left == 0 {
                 return Ok(Spot {
                     number: n,
@@ -93,9 +80,7 @@ fn search(text: &[u8], kind: Kind, j: usize, grid: &Grid, table: &[u8; 256]) -> 
 pub fn seek(text: &[u8], kind: Kind, j: usize) -> Result<Spot, usize>
     ensures { result ≡ sought kind text.now j }
 {
-    let grid = grid_ours::table();
-    let table = read_form::class_table();
-    search(text, kind, j, &grid, &table)
+    search(text, kind, j, grid_ours::reader())
 }
 
 // Its number, from 1; 0 where there is no such line.

@@ -1,13 +1,11 @@
 -- The lines up to the last line feed, one after the other, until the one that is looked for.
 -- Key idea: at each line's start the answer is found among the lines that are left (`Searching`).
-use Rattle.std.proofs.Common.{◌≡◌, ◌-◌}
-use Rattle.read_form.specs.Grid.{code}
-use Rattle.read_form.specs.declared.Kind.{Kind}
+use Rattle.std.proofs.Common.{◌-◌}
 use Rattle.read_places.proofs.SearchLaws.{Searching}
 use Rattle.read_places.proofs.search.Given as goal
 
 abbrev pub invariant-loop-at : goal.invariant-loop-at
-invariant-loop-at l = (k : Kind) → l.wanted ≡ code k → Searching k l.text l.j l.at l.n l.left
+invariant-loop-at l = Searching l.kind l.text l.j l.at l.n l.left
 
 abbrev pub decreases-loop-at : goal.decreases-loop-at
 decreases-loop-at l = l.whole - l.at

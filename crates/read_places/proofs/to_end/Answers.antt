@@ -26,4 +26,4 @@ pub loop-state-preserved : goal.loop-state-preserved
 loop-state-preserved c =
     let l = c.loop-state in
     ending_on _ _ _ l.state _ l.invariant.known c.loop-state-test.true (l.invariant.going c.loop-state-test.true)
-    (c.next_state-state.ensures ∙ ap (λ g. entry_of g l.state (class_of (get_or c.args.text.now l.i 0))) c.requires.1.is_grid)
+    (c.next-state.ensures ∙ ap (λ g. entry_of g l.state (class_of (get_or c.args.text.now l.i 0))) c.requires.1.is_grid)
