@@ -47,12 +47,7 @@ fn to_stop(text: &[u8], at: usize, from: usize, reader: FormReader<'_>) -> Stop
 
 // The line that starts at a place. Its numbers are read where they are met, each into the place of its state; one that question 4 does not let pass
 // has the value 0.
-pub fn scan(
-    text: &[u8],
-    at: usize,
-    reader: FormReader<'_>,
-    values: &mut [u16; NUMBERS],
-) -> Scanned
+pub fn scan(text: &[u8], at: usize, reader: FormReader<'_>, values: &mut [u16; NUMBERS]) -> Scanned
     requires { (has_feed (drop at text.now) ≡ true) × ((h : House) × Serves h reader) × Small values.old }
     ensures scanned_as { (h : House) → Serves h reader.entry
         → ScannedAs h text.now at result.end result.kind result.plain values.old values.new }
