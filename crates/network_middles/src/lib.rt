@@ -14,23 +14,26 @@ fn run_middles(t: &mut [i16], w: usize, from: usize, to: usize) -> Outcome
     ensures { Ran w t.old (pass_from (to - from) from w t.old) result t.new }
 {
     let mut mid = [0i16; MAX_BOUNDARIES];
-    for m in from..to {
-        load_row(t, m, w, &mut mid);
-        for a in 0..w {
-            let start = a * w;
-            let row = &mut t[start..start + w];
-            let am = row[m];
-            for k in 0..stretches(w) {
-                let b = k * STRETCH;
-                let e = stretch_end(b, w);
-                relax_row(&mut row[b..e], &mid[b..e], am);
-                if falls(row, a, b, e) {
-                    return Err(NegativeCycle);
+    // stays: one labelled break leaves all three loops, as document 01 names the form of this place.
+    'pass: {
+        for m in from..to {
+            load_row(t, m, w, &mut mid);
+            for a in 0..w {
+                let start = a * w;
+                let row = &mut t[start..start + w];
+                let am = row[m];
+                for k in 0..stretches(w) {
+                    let b = k * STRETCH;
+                    let e = stretch_end(b, w);
+                    relax_row(&mut row[b..e], &mid[b..e], am);
+                    if falls(row, a, b, e) {
+                        break 'pass Err(NegativeCycle);
+                    }
                 }
             }
         }
+        Ok(())
     }
-    Ok(())
 }
 
 // The middle boundaries from..to. Where they do not all finish, the table's places become 0; places past the table never change.
