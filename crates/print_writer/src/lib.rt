@@ -2,16 +2,54 @@
 
 ghost use Rattle.std.specs.Prelude.{◌≡◌, ◌+◌, leb};
 ghost use Rattle.print_bytes.specs.Writing.{Room, Written};
+ghost use Rattle.print_writer.specs.Advanced.{advanced};
 
-use print_bytes::put_word;
+// A writer holds the page that is lent to it and the place of the next byte; nothing else of `print` touches a lent page. Its functions are thin: `put` takes
+// it apart, has the bytes copied onto the slice from the place on, and hands it back at the place just past them. `write` serves every caller: its
+// parameters are plain.
+#[derive(Drop)]
+pub struct Writer<'a> {
+    pub page: &'a mut [u8],
+    pub place: usize,
+}
 
-// A page that a caller lends is written here and nowhere else: it is asked whether it holds so many bytes, and then they are put onto it all at once.
+pub fn new<'a>(page: &'a mut [u8], place: usize) -> Writer<'a>
+    ensures { (result.page ≡ page.entry) × (result.place ≡ place) }
+{
+    Writer {
+        page: page,
+        place: place,
+    }
+}
+
+// The bytes, onto the page from the place on; the place moves past them.
+pub fn put<'a>(w: Writer<'a>, bytes: &[u8]) -> Writer<'a>
+    requires { Room w.page.now w.place bytes.now }
+    ensures { result ≡ advanced w.entry bytes.now }
+{
+    let place = w.place;
+    let next = print_bytes::put_word(&mut *w.page, place, bytes);
+    Writer {
+        page: w.page,
+        place: next,
+    }
+}
+
+// The place just past what is written. The page stays as it is.
+pub fn place<'a>(w: Writer<'a>) -> usize
+    ensures { (result ≡ w.entry.place) × (w.exit.0.now ≡ w.entry.page.now) }
+{
+    w.place
+}
 
 // Question 15: does a page of this length, from the place on, hold so many bytes?
 pub fn holds(page: usize, at: usize, bytes: usize) -> bool
     ensures { result ≡ leb (at + bytes) page }
 {
-    at <= page && bytes <= page - at
+    if page < at {
+        return false;
+    }
+    bytes <= page - at
 }
 
 // The bytes, onto a page from a place on, and the place just past them.
@@ -19,5 +57,5 @@ pub fn write(page: &mut [u8], at: usize, bytes: &[u8]) -> usize
     requires { Room page.old at bytes.now }
     ensures { Written page.old at bytes.now page.new result }
 {
-    put_word(page, at, bytes)
+    place(put(new(page, at), bytes))
 }
