@@ -7,6 +7,8 @@ ghost use Rattle.print_writer.specs.Advanced.{advanced};
 // A writer holds the page that is lent to it and the place of the next byte; nothing else of `print` touches a lent page. Its functions are thin: `put` takes
 // it apart, has the bytes copied onto the slice from the place on, and hands it back at the place just past them. `write` serves every caller: its
 // parameters are plain.
+// stays: functions and no methods, and a walk of `write` by hand: document 01 names this form, and today's check does not follow a lent page through a struct
+// that one call returns and the next takes.
 #[derive(Drop)]
 pub struct Writer<'a> {
     pub page: &'a mut [u8],
@@ -16,10 +18,7 @@ pub struct Writer<'a> {
 pub fn new<'a>(page: &'a mut [u8], place: usize) -> Writer<'a>
     ensures { (result.page ≡ page.entry) × (result.place ≡ place) }
 {
-    Writer {
-        page: page,
-        place: place,
-    }
+    Writer { page, place }
 }
 
 // The bytes, onto the page from the place on; the place moves past them.
@@ -27,12 +26,9 @@ pub fn put<'a>(w: Writer<'a>, bytes: &[u8]) -> Writer<'a>
     requires { Room w.page.now w.place bytes.now }
     ensures { result ≡ advanced w.entry bytes.now }
 {
-    let place = w.place;
-    let next = print_bytes::put_word(&mut *w.page, place, bytes);
-    Writer {
-        page: w.page,
-        place: next,
-    }
+    let Writer { page, place } = w;
+    let next = print_bytes::put_word(page, place, bytes);
+    Writer { page, place: next }
 }
 
 // The place just past what is written. The page stays as it is.
@@ -46,10 +42,7 @@ pub fn place<'a>(w: Writer<'a>) -> usize
 pub fn holds(page: usize, at: usize, bytes: usize) -> bool
     ensures { result ≡ leb (at + bytes) page }
 {
-    if page < at {
-        return false;
-    }
-    bytes <= page - at
+    at <= page && bytes <= page - at
 }
 
 // The bytes, onto a page from a place on, and the place just past them.
