@@ -5,7 +5,7 @@ ghost use Rattle.read_questions.specs.Reading.{reply_of, rooms};
 ghost use Rattle.read_rooms.specs.Rooms.{sizes_of, leaves};
 ghost use Rattle.merge_questions.specs.Merging.{merged_in, merging};
 
-use merge_join::{BOTH_RULES, BOTH_UNITS};
+use merge_join::JoinedLists;
 use questions::{Question, Refusal};
 use sheet::Sheet;
 
@@ -32,24 +32,8 @@ pub fn merge(
         high.old in
         leaves (merging one.now two.now (sizes_of m)) (merged_in one.now two.now) m) }
 {
-    let mut numbers = [0u16; BOTH_UNITS];
-    let mut firsts = [0u16; BOTH_UNITS];
-    let mut lasts = [0u16; BOTH_UNITS];
-    let mut froms = [0u16; BOTH_RULES];
-    let mut tos = [0u16; BOTH_RULES];
-    let mut lows = [0u16; BOTH_RULES];
-    let mut highs = [0u16; BOTH_RULES];
-    let merged = merge_join::join(
-        one,
-        two,
-        &mut numbers,
-        &mut firsts,
-        &mut lasts,
-        &mut froms,
-        &mut tos,
-        &mut lows,
-        &mut highs,
-    )?;
+    let mut lists = JoinedLists::cleared();
+    let merged = lists.join(one, two)?;
     if !read_rooms::lists_fit(
         merged,
         loader.len(),
@@ -63,8 +47,21 @@ pub fn merge(
         return Err(Question::Rooms.refused());
     }
     read_rooms::fill(
-        merged, &numbers, &firsts, &lasts, &froms, &tos, &lows, &highs, loader, first, last, from,
-        to, low, high,
+        merged,
+        &lists.numbers,
+        &lists.firsts,
+        &lists.lasts,
+        &lists.froms,
+        &lists.tos,
+        &lists.lows,
+        &lists.highs,
+        loader,
+        first,
+        last,
+        from,
+        to,
+        low,
+        high,
     );
     Ok(merged)
 }

@@ -4,7 +4,7 @@
 ghost use Rattle.std.specs.Prelude.{◌≡◌};
 ghost use Rattle.merge_lines.specs.Lines.{loader_place, located_at, found_line, PartAsked};
 
-use merge_join::{BOTH_RULES, BOTH_UNITS};
+use merge_join::JoinedLists;
 use merge_questions::Blamed;
 use questions::Question;
 use read_form::Kind;
@@ -47,25 +47,9 @@ fn locate(one: &[u8], two: &[u8], i: usize) -> Result<LinePlace, Blamed>
 pub fn find_line(one: &[u8], two: &[u8], loader: u16) -> Result<LinePlace, Blamed>
     ensures { result ≡ found_line one.now two.now loader }
 {
-    let mut numbers = [0u16; BOTH_UNITS];
-    let mut firsts = [0u16; BOTH_UNITS];
-    let mut lasts = [0u16; BOTH_UNITS];
-    let mut froms = [0u16; BOTH_RULES];
-    let mut tos = [0u16; BOTH_RULES];
-    let mut lows = [0u16; BOTH_RULES];
-    let mut highs = [0u16; BOTH_RULES];
-    let merged = merge_join::join(
-        one,
-        two,
-        &mut numbers,
-        &mut firsts,
-        &mut lasts,
-        &mut froms,
-        &mut tos,
-        &mut lows,
-        &mut highs,
-    )?;
-    let i = place_of(&numbers[..merged.units], loader);
+    let mut lists = JoinedLists::cleared();
+    let merged = lists.join(one, two)?;
+    let i = place_of(&lists.numbers[..merged.units], loader);
     locate(one, two, i)
 }
 

@@ -7,7 +7,7 @@ ghost use Rattle.merge_text.specs.MergeText.{merged_text, merging_text};
 ghost use Rattle.merge_text.specs.MergeText as says;
 
 use forms::House;
-use merge_join::{BOTH_RULES, BOTH_UNITS};
+use merge_join::JoinedLists;
 use merge_questions::Blamed;
 use write_lines::MAX_TEXT;
 
@@ -25,25 +25,8 @@ pub fn merge_text(one: &[u8], two: &[u8], page: &mut [u8; MAX_TEXT]) -> Merged
     ensures result_value_2 { says.blame_of result ≡ blamed_sheet one.now two.now }
     ensures page_after { page.new ≡ with_bytes page.old 0 (merged_text one.now two.now) }
 {
-    let mut loader = [0u16; BOTH_UNITS];
-    let mut first = [0u16; BOTH_UNITS];
-    let mut last = [0u16; BOTH_UNITS];
-    let mut from = [0u16; BOTH_RULES];
-    let mut to = [0u16; BOTH_RULES];
-    let mut low = [0u16; BOTH_RULES];
-    let mut high = [0u16; BOTH_RULES];
-    let joined = merge_join::join(
-        one,
-        two,
-        &mut loader,
-        &mut first,
-        &mut last,
-        &mut from,
-        &mut to,
-        &mut low,
-        &mut high,
-    );
-    match joined {
+    let mut lists = JoinedLists::cleared();
+    match lists.join(one, two) {
         Err(blamed) => {
             let refusal = blamed.refusal;
             let place = write_fronts::put_refused(page, refusal.number, refusal.line);
@@ -56,13 +39,13 @@ pub fn merge_text(one: &[u8], two: &[u8], page: &mut [u8; MAX_TEXT]) -> Merged
             let place = write_fronts::put_fronts(
                 House::Ours,
                 merged,
-                &loader,
-                &first,
-                &last,
-                &from,
-                &to,
-                &low,
-                &high,
+                &lists.numbers,
+                &lists.firsts,
+                &lists.lasts,
+                &lists.froms,
+                &lists.tos,
+                &lists.lows,
+                &lists.highs,
                 page,
             );
             Merged {

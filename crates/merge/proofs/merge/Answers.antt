@@ -5,13 +5,9 @@ use Rattle.questions.specs.declared.Refusal.{Refusal}
 use Rattle.read_questions.specs.Reading.{ListRooms, rooms, lists_fit, refused}
 use Rattle.read_rooms.specs.Rooms.{sizes_of}
 use Rattle.read_rooms.proofs.ReadingLaws.{rooms_hold}
-use Rattle.merge_join.specs.ClearedLaws.{cleared_hold}
 use Rattle.merge.proofs.MergingLaws.{answer_no, answer_rooms, answer_read, rooms_kept, rooms_filled}
 use Rattle.merge.proofs.merge.Goals.{Else-not-lists_fit}
 use Rattle.merge.proofs.merge.Goals as goal
-
-pub join-requires : goal.join-requires
-join-requires c = cleared_hold
 
 pub returns-in_err-merged : goal.returns-in_err-merged
 returns-in_err-merged c =
@@ -44,7 +40,7 @@ fill-requires c =
 pub returns : goal.returns
 returns c =
     let a = c.args in
-    let k = c.join.new in
+    let k = c.join.new.self in
     let m = rooms a.loader.now a.first.now a.last.now a.from.now a.to.now a.low.now a.high.now in
     let e = answer_read a.one.now a.two.now (sizes_of m) _ _ _ c.in_ok-merged.ensures.result_value (fitting (goal.at.returns c).Else-not-lists_fit) in
     record {

@@ -3,19 +3,15 @@ use Rattle.std.proofs.Common.{ℕ, List, sym, ap, ◌∙◌}
 use lib.Seq.{length-take-le}
 use Rattle.std.proofs.lemmas.Result.{err_from_is_err_and}
 use Rattle.read_questions.specs.Reading.{ListRooms}
-use Rattle.merge_join.specs.ClearedLaws.{cleared_hold}
 use Rattle.merge_lines.specs.Lines.{located_at}
 use Rattle.merge_lines.specs.LinesLaws.{found_refused, found_located}
 use Rattle.merge_lines.proofs.find_line.Goals as goal
 
-pub join-requires : goal.join-requires
-join-requires c = cleared_hold
-
-pub slice_bounds-numbers-end : goal.slice_bounds-numbers-end
-slice_bounds-numbers-end c = c.in_ok-merged.ensures.leaves_merged.long.in_loader
+pub shared_ref_as_front-place_of : goal.shared_ref_as_front-place_of
+shared_ref_as_front-place_of c = c.in_ok-merged.ensures.leaves_merged.long.in_loader
 
 pub slice_bounds-place_of-end : goal.slice_bounds-place_of-end
-slice_bounds-place_of-end c = sym (length-take-le _ c.join.new.numbers c.in_ok-merged.ensures.leaves_merged.long.in_loader)
+slice_bounds-place_of-end c = sym (length-take-le _ c.join.new.self.numbers c.in_ok-merged.ensures.leaves_merged.long.in_loader)
 
 pub returns-in_err-merged : goal.returns-in_err-merged
 returns-in_err-merged c =

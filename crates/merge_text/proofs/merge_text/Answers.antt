@@ -6,13 +6,9 @@ use Rattle.read_questions.specs.Reading.{rooms}
 use Rattle.read_whole.specs.Fronts.{fronts}
 use Rattle.sheet_texts.specs.SheetText.{sheet_text}
 use Rattle.print_bytes.specs.Writing.{with_bytes, refused_line}
-use Rattle.merge_join.specs.ClearedLaws.{cleared_hold}
 use Rattle.write_fronts.specs.Outcome as says
 use Rattle.merge_text.proofs.JoinedLaws.{refusal_small, refusal_told, sheet_held, sheet_told}
 use Rattle.merge_text.proofs.merge_text.Goals as goal
-
-pub join-joined-requires : goal.join-joined-requires
-join-joined-requires c = cleared_hold
 
 pub put_refused-place-requires : goal.put_refused-place-requires
 put_refused-place-requires c =
@@ -21,7 +17,7 @@ put_refused-place-requires c =
 
 pub put_fronts-place-requires : goal.put_fronts-place-requires
 put_fronts-place-requires c =
-    let k = c.join-joined.new in
+    let k = c.join.new.self in
     sheet_held c.args.one.now c.args.two.now c.in-Ok.merged (rooms k.numbers k.firsts k.lasts k.froms k.tos k.lows k.highs)
     c.in-Ok.ensures.result_value c.in-Ok.ensures.leaves_merged
 
@@ -41,7 +37,7 @@ pub returns-in-Ok : goal.returns-in-Ok
 returns-in-Ok c =
     let a = c.args in
     let s = c.in-Ok.merged in
-    let k = c.join-joined.new in
+    let k = c.join.new.self in
     let after = rooms k.numbers k.firsts k.lasts k.froms k.tos k.lows k.highs in
     let told = sheet_told a.one.now a.two.now s after c.in-Ok.ensures.result_value c.in-Ok.ensures.leaves_merged in
     let w = c.put_fronts-place.ensures in
