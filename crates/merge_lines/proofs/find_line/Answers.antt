@@ -1,5 +1,5 @@
 -- A refusal of the merge is one of the line; else the line is looked for in both texts.
-use Rattle.std.proofs.Common.{ℕ, List, sym, ap, ◌∙◌}
+use Rattle.std.proofs.Common.{ℕ, List, sym, ap, ◌∙◌, arith}
 use lib.Seq.{length-take-le}
 use Rattle.std.proofs.lemmas.Result.{err_from_is_err_and}
 use Rattle.read_questions.specs.Reading.{ListRooms}
@@ -8,7 +8,7 @@ use Rattle.merge_lines.specs.LinesLaws.{found_refused, found_located}
 use Rattle.merge_lines.proofs.find_line.Goals as goal
 
 pub shared_ref_as_front-place_of : goal.shared_ref_as_front-place_of
-shared_ref_as_front-place_of c = c.in_ok-merged.ensures.leaves_merged.long.in_loader
+shared_ref_as_front-place_of c = omega (arith, c.in_ok-merged.ensures.leaves_merged.long.in_loader)
 
 pub slice_bounds-place_of-end : goal.slice_bounds-place_of-end
 slice_bounds-place_of-end c = sym (length-take-le _ c.join.new.self.numbers c.in_ok-merged.ensures.leaves_merged.long.in_loader)

@@ -29,11 +29,11 @@ returns-in-Err c =
     part_of _ _ _ _ _ _ c.in-Err.ensures refl (record { bytes = refl; block = refl; place = sym (zero-add _) })
 
 pub returns-in-Ok-First : goal.returns-in-Ok-First
-returns-in-Ok-First c = 
+returns-in-Ok-First c =
     part_of _ _ _ _ (Ok (First c.in-Ok-First.start c.in-Ok-First.end)) _ c.in-Ok-First.ensures (ap Ok c.in-Ok-First.field-0-is)
     (record { bytes = refl; block = refl; place = refl })
 
 pub returns-in-Ok-Second : goal.returns-in-Ok-Second
-returns-in-Ok-Second c = 
+returns-in-Ok-Second c =
     part_of _ _ _ _ (Ok (Second c.in-Ok-Second.start c.in-Ok-Second.end)) _ c.in-Ok-Second.ensures (ap Ok c.in-Ok-Second.field-0-is)
     (record { bytes = refl; block = refl; place = refl })
