@@ -21,9 +21,10 @@ pub fn decide(lists: &Lists<'_>, table: &mut [i16], ring: &mut [u16]) -> Fit
 {
     match plan_steps::close_limits(lists, table) {
         Ok(()) => Ok(()),
-        Err(NegativeCycle) => Err(Ring {
-            length: plan_steps::find_ring(lists, table, ring),
-        }),
+        Err(NegativeCycle) => {
+            let length = plan_steps::find_ring(lists, table, ring);
+            Err(Ring { length })
+        }
     }
 }
 
