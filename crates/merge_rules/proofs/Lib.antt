@@ -1,5 +1,5 @@
-pub mod StretchLaws
 pub mod FrontLaws
 pub mod ColumnLaws
 pub mod PassedLaws
+pub mod PairLaws
 pub mod CombiningLaws

@@ -1,6 +1,6 @@
 #![tactic(auto)]
 
-ghost use Rattle.std.specs.Prelude.{◌≡◌, List, map, ◌≤◌, ◌<◌, suc, max, min, ltb, length, get_or, take};
+ghost use Rattle.std.specs.Prelude.{◌≡◌, List, map, ◌≤◌, ◌<◌, suc, ltb, length, get_or, take, MatchOption};
 ghost use Rattle.lists.specs.Lists.{on_front};
 ghost use Rattle.lists.specs.First.{first_place};
 ghost use Rattle.sheet.specs.Sizes.{max_rules};
@@ -12,17 +12,16 @@ ghost use Rattle.merge_rules.specs.Columns.{Columns, columns, rule_of, stretch_a
 
 use sheet::Sheet;
 
-// The place of a stretch among the first n, or n.
-fn place_of(froms: &[u16], tos: &[u16], n: usize, f: u16, t: u16) -> usize
+// The place of a stretch among the first n.
+fn place_of(froms: &[u16], tos: &[u16], n: usize, f: u16, t: u16) -> Option<usize>
     requires { (n ≤ length froms.now) × (n ≤ length tos.now) }
-    ensures { result ≡ first_place n (stretch_at froms.now tos.now f t) }
+    ensures { MatchOption result (first_place n (stretch_at froms.now tos.now f t) ≡ n)
+        (λ p. (p < n) × (p ≡ first_place n (stretch_at froms.now tos.now f t))) }
 {
-    for j in 0..n {
-        if froms[j] == f && tos[j] == t {
-            return j;
-        }
-    }
-    n
+    froms[..n]
+        .iter()
+        .zip(&tos[..n])
+        .position(|(&from, &to)| from == f && to == t)
 }
 
 // One rule more: it tightens the rule on its stretch, or stands behind the n that are there. Answers how many there are then.
@@ -42,8 +41,7 @@ fn add_rule(
         → AtFront qs n before (columns froms.old tos.old lows.old highs.old)
         → AtFront (with_rule qs (rule_of from to low high)) result before (columns froms.new tos.new lows.new highs.new) }
 {
-    let p = place_of(froms, tos, n, from, to);
-    if p < n {
+    if let Some(p) = place_of(froms, tos, n, from, to) {
         lows[p] = lows[p].max(low);
         highs[p] = highs[p].min(high);
         return n;
@@ -56,6 +54,7 @@ fn add_rule(
 }
 
 // How many stretches there are, and the place of the rule that makes one more than a sheet may have; the number of rules where none does.
+// stays: that number stands for none, as the definition of question 10 has it.
 #[derive(Clone, Copy)]
 pub struct Combined {
     pub count: usize,
@@ -91,6 +90,7 @@ pub fn combine(
 {
     let mut count: usize = 0;
     let mut past: usize = 0;
+    // stays: a place over four parallel lists, which its callers lend one by one.
     for i in 0..from.len() {
         count = add_rule(
             from[i], to[i], low[i], high[i], count, froms, tos, lows, highs,
@@ -99,10 +99,7 @@ pub fn combine(
             past = i + 1;
         }
     }
-    Combined {
-        count: count,
-        past: past,
-    }
+    Combined { count, past }
 }
 
 // The place of the first combined rule whose low is above its high, or their number (question 21).
@@ -110,12 +107,11 @@ pub fn first_crossed(low: &[u16], high: &[u16]) -> usize
     requires { length high.now ≡ length low.now }
     ensures { result ≡ first_place (length low.now) (λ j. ltb (get_or high.now j 0) (get_or low.now j 0)) }
 {
-    for (j, (&low, &high)) in low.iter().zip(high).enumerate() {
-        if high < low {
-            return j;
-        }
-    }
-    low.len()
+    // stays: the number of rules stands for none, as the definition of question 21 has it.
+    low.iter()
+        .zip(high)
+        .position(|(low, high)| high < low)
+        .unwrap_or(low.len())
 }
 
 // The last place of a stretch, or how many places there are.
@@ -123,6 +119,8 @@ pub fn last_on(froms: &[u16], tos: &[u16], f: u16, t: u16) -> usize
     requires { length tos.now ≡ length froms.now }
     ensures { result ≡ last_passing (length froms.now) (stretch_at froms.now tos.now f t) }
 {
+    // stays: the number of places stands for none, as the definition of the line to blame has it; and a place from the back, since of a `zip` seen from its end
+    // no law says where its pairs stand.
     for n in (0..froms.len()).rev() {
         if froms[n] == f && tos[n] == t {
             return n;
