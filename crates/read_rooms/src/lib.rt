@@ -1,6 +1,6 @@
 #![tactic(auto)]
 
-ghost use Rattle.std.specs.Prelude.{◌≡◌, ◌&&◌, ◌≤◌, leb, length, take};
+ghost use Rattle.std.specs.Prelude.{◌≡◌, ◌≤◌, length, take};
 ghost use Rattle.lists.specs.Lists.{on_front};
 ghost use Rattle.read_questions.specs.Reading.{rooms, lists_fit};
 ghost use Rattle.read_questions.specs.Steps.{Holds};
@@ -13,16 +13,7 @@ fn copy_front(array: &[u16], n: usize, room: &mut [u16])
     requires { (n ≤ length array.now) × (n ≤ length room.old) }
     ensures { room.new ≡ on_front (take n array.now) room.old }
 {
-    lists::copy_list(&array[0..n], room);
-}
-
-fn both_hold(n: usize, a: usize, b: usize) -> bool
-    ensures { result ≡ (leb n a && leb n b) }
-{
-    if a < n {
-        return false;
-    }
-    n <= b
+    room[..n].copy_from_slice(&array[..n]);
 }
 
 // Question 12.
@@ -38,16 +29,9 @@ pub fn lists_fit(
 ) -> bool
     ensures { result ≡ lists_fit s.units s.rules (rooms loader first last from to low high) }
 {
-    if loader < s.units {
-        return false;
-    }
-    if !both_hold(s.units, first, last) {
-        return false;
-    }
-    if !both_hold(s.rules, from, to) {
-        return false;
-    }
-    both_hold(s.rules, low, high)
+    s.units <= loader
+        && (s.units <= first && s.units <= last)
+        && ((s.rules <= from && s.rules <= to) && (s.rules <= low && s.rules <= high))
 }
 
 // The fronts of the arrays into the rooms, which are long enough.
