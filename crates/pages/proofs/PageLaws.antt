@@ -1,6 +1,6 @@
 -- Laws of the pages: which of their parts depend on what, the counts of a plan's slots, and the lines of a ring step by step.
 -- Key idea: an index that walks a ring has behind it what is written, or added up, and before it the steps from its place on and back to the first boundary.
-use Rattle.std.specs.Prelude.{◌≡◌, ℕ, suc, ◌+◌, ◌-◌, ◌*◌, ◌≤◌, ◌<◌, drop, get_or, ltb, ℤ, neg_ℤ, ◌+ℤ◌}
+use Rattle.std.specs.Prelude.{◌≡◌, map, ℕ, zero, suc, ◌+◌, ◌-◌, ◌*◌, ◌%◌, ◌≤◌, ◌<◌, drop, get_or, ltb, ℤ, pos, neg_ℤ, ◌+ℤ◌}
 use Rattle.std.proofs.Math.Path.{refl, ap, ap₂}
 use Rattle.std.proofs.Common.{sym, ◌∙◌, ⊎_elim, arith, add-one, length-append, drop_of_length-le, lt-ltb, le-ltb, le-leb}
 use Rattle.std.proofs.Math.Bool.{cond}
@@ -9,7 +9,6 @@ use Rattle.std.proofs.Math.ListN.{length}
 use Rattle.std.proofs.Math.Seq.{drop-cons}
 use Rattle.std.proofs.Math.IntN.{+ℤ_idr}
 use Rattle.std.proofs.Math.Nat.{mod-eq_of_lt, mod_self}
-use Rattle.std.specs.Prelude.{map, zero, ◌%◌, pos}
 use Rattle.std.proofs.lemmas.Bool.{lt-leb}
 use Rattle.integers.specs.Parts.{up, dn, sum, neg, apart}
 use Rattle.lists.specs.Lists.{joined, run}
@@ -134,7 +133,8 @@ module _ (d : Weights) (ring : List ℕ) where
       rw (drop_of_length-le ring h, after_last (length ring) i e) refl
   steps_from (suc k) i e =
       let h : suc i < length ring = omega arith in
-      rw (drop-cons ring (suc i) 0 h, after_inside (length ring) i (omega arith)) (ap (λ r. step_line d (get_or ring i 0) (get_or ring (suc i) 0) ∷ r) (steps_from k (suc i) (omega arith)))
+      rw (drop-cons ring (suc i) 0 h, after_inside (length ring) i (omega arith))
+      (ap (λ r. step_line d (get_or ring i 0) (get_or ring (suc i) 0) ∷ r) (steps_from k (suc i) (omega arith)))
 
   -- the sum of the limits of k steps from place i on
   abbrev limits_from : ℕ → ℕ → ℤ
@@ -147,7 +147,8 @@ module _ (d : Weights) (ring : List ℕ) where
       rw (drop_of_length-le ring h, after_last (length ring) i e) (sym (+ℤ_idr (d (get_or ring i 0) (get_or ring 0 0))))
   sum_from (suc k) i e =
       let h : suc i < length ring = omega arith in
-      rw (drop-cons ring (suc i) 0 h, after_inside (length ring) i (omega arith)) (ap (λ r. d (get_or ring i 0) (get_or ring (suc i) 0) +ℤ r) (sum_from k (suc i) (omega arith)))
+      rw (drop-cons ring (suc i) 0 h, after_inside (length ring) i (omega arith))
+      (ap (λ r. d (get_or ring i 0) (get_or ring (suc i) 0) +ℤ r) (sum_from k (suc i) (omega arith)))
 
 module _ (d : Weights) where
   -- all lines, step by step
@@ -177,7 +178,7 @@ module _ (d : Weights) where
     walked_next i rise fall h w =
         let n : length ring - i ≡ suc (length ring - (i + 1)) = omega arith in
         let e : limits_from d ring (length ring - i) i ≡ limit_at d ring i +ℤ limits_from d ring (length ring - (i + 1)) (i + 1) =
-            ap (λ k. limits_from d ring k i) n ∙ ap (λ m. limit_at d ring i +ℤ limits_from d ring (length ring - (i + 1)) m) (sym (add-one i)) in
+        ap (λ k. limits_from d ring k i) n ∙ ap (λ m. limit_at d ring i +ℤ limits_from d ring (length ring - (i + 1)) m) (sym (add-one i)) in
         record { rest = omega (arith, w.rest, ap up e, ap dn e, sum (limit_at d ring i) (limits_from d ring (length ring - (i + 1)) (i + 1))) }
 
     -- with the last step the ring is closed

@@ -52,6 +52,11 @@ least_from w table t = dn (entry w table (slot_end t) (slot_start t))
 abbrev pub greatest_from : ℕ → List ℤ → Slot → ℕ
 greatest_from w table t = up (entry w table (slot_start t) (slot_end t))
 
+-- a table with the entries of a span's boundaries
+pub record TableFits (span : ℕ) (table : List ℤ) : Type 0 where
+  pub slots : span ≤ max_slots
+  pub entries : boundaries_of span * boundaries_of span ≤ length table
+
 -- loader numbers, a plan, its narrowed windows and a finished table that belong to one sheet
 pub record Printable (span : ℕ) (loader plan first last : List ℕ) (table : List ℤ) : Type 0 where
   pub slots : span ≤ max_slots

@@ -1,10 +1,10 @@
 #![tactic(auto)]
 
-ghost use Rattle.std.specs.Prelude.{◌≡◌, ◌*◌, ◌≤◌, length, replicate};
+ghost use Rattle.std.specs.Prelude.{◌≡◌, ◌≤◌, length, replicate};
 ghost use Rattle.integers.specs.Parts.{up, dn};
 ghost use Rattle.network.specs.Table.{max_boundaries};
-ghost use Rattle.sheet.specs.Sizes.{max_slots, max_units, boundaries_of};
-ghost use Rattle.pages.specs.Page.{slot_counts, least_from, greatest_from};
+ghost use Rattle.sheet.specs.Sizes.{max_units, boundaries_of};
+ghost use Rattle.pages.specs.Page.{slot_counts, least_from, greatest_from, TableFits};
 
 use network::entry_at;
 use slots::Slot;
@@ -44,7 +44,8 @@ pub struct Range {
 
 // The range of a slot, from the finished table.
 pub fn range_of(table: &[i16], span: usize, t: Slot) -> Range
-    requires { (1 ≤ t.0) × (t.0 ≤ span) × (span ≤ max_slots) × (boundaries_of span * boundaries_of span ≤ length table.now) }
+    requires slot { (1 ≤ t.0) × (t.0 ≤ span) }
+    requires table { TableFits span table.now }
     ensures least { result.least ≡ least_from (boundaries_of span) table.now t.0 }
     ensures greatest { result.greatest ≡ greatest_from (boundaries_of span) table.now t.0 }
 {

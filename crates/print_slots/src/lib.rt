@@ -1,17 +1,18 @@
 #![tactic(auto)]
 
-ghost use Rattle.std.specs.Prelude.{◌≡◌, ◌*◌, ◌≤◌, length, get_or};
+ghost use Rattle.std.specs.Prelude.{◌≡◌, length, get_or};
 ghost use Rattle.network.specs.Table.{max_boundaries};
-ghost use Rattle.sheet.specs.Sizes.{max_slots, boundaries_of};
+ghost use Rattle.sheet.specs.Sizes.{boundaries_of};
 ghost use Rattle.print_bytes.specs.Writing.{Room, Written};
-ghost use Rattle.pages.specs.Page.{slot_lines, range_lines, least_from, greatest_from};
+ghost use Rattle.pages.specs.Page.{slot_lines, range_lines, least_from, greatest_from, TableFits};
 
 use print_counts::range_of;
 use print_lines::{put_range, put_slot};
 use slots::Slot;
 
 pub fn put_slots(page: &mut [u8], at: usize, span: usize, counts: &[u16], table: &[i16]) -> usize
-    requires span_le_max_slots { (span ≤ max_slots) × (boundaries_of span * boundaries_of span ≤ length table.now) × (length counts.now ≡ max_boundaries) }
+    requires table { TableFits span table.now }
+    requires counts { length counts.now ≡ max_boundaries }
     requires room { Room page.old at
         (slot_lines span (λ t. get_or counts.now t 0) (least_from (boundaries_of span) table.now) (greatest_from (boundaries_of span) table.now)) }
     ensures { Written page.old at
@@ -27,7 +28,7 @@ pub fn put_slots(page: &mut [u8], at: usize, span: usize, counts: &[u16], table:
 }
 
 pub fn put_ranges(page: &mut [u8], at: usize, span: usize, table: &[i16]) -> usize
-    requires span_le_max_slots { (span ≤ max_slots) × (boundaries_of span * boundaries_of span ≤ length table.now) }
+    requires table { TableFits span table.now }
     requires room { Room page.old at (range_lines span (least_from (boundaries_of span) table.now) (greatest_from (boundaries_of span) table.now)) }
     ensures { Written page.old at
         (range_lines span (least_from (boundaries_of span) table.now) (greatest_from (boundaries_of span) table.now))

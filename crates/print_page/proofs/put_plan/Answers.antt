@@ -23,10 +23,8 @@ unfolding plan_head text
 put_units-next2-requires-clause-room c =
     pending_room (pending_after (begun _ _ _ _ _ _ _ _ c.requires.printable.slots c.count_slots.ensures c.requires.room) c.put_one_number-next.ensures)
 
-pub put_slots-requires-clause-span_le_max_slots : goal.put_slots-requires-clause-span_le_max_slots
-put_slots-requires-clause-span_le_max_slots c =
-    let p = c.requires.printable in
-    (p.slots, p.entries, ap length c.count_slots.ensures ∙ counts_length c.args.plan.now)
+pub put_slots-requires-clause-counts : goal.put_slots-requires-clause-counts
+put_slots-requires-clause-counts c = ap length c.count_slots.ensures ∙ counts_length c.args.plan.now
 
 pub put_slots-requires-clause-room : goal.put_slots-requires-clause-room
 unfolding plan_head text
