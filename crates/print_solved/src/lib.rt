@@ -1,6 +1,6 @@
 #![tactic(auto)]
 
-ghost use Rattle.std.specs.Prelude.{◌≡◌, [], ◌++◌, ◌≤◌, T, length, drop};
+ghost use Rattle.std.specs.Prelude.{◌≡◌, [], ◌≤◌, T, length};
 ghost use Rattle.sheet.specs.Questions.{loaders_fit};
 ghost use Rattle.sheet.specs.Lists.{given_by};
 ghost use Rattle.plan_rooms.specs.Rooms.{lent, plan_lent, rooms_fit};
@@ -17,38 +17,43 @@ use print_page::MAX_PAGE;
 use questions::{Question, Refusal};
 use sheet::{Sheet, WrittenLists};
 
+// What was solved, in arrays of the call's own: the sheet's span and loader numbers, its plan, the narrowed windows and the finished table.
+#[derive(Drop)]
+struct Solved<'a> {
+    span: usize,
+    loader: &'a [u16],
+    seats: &'a [u16],
+    firsts: &'a [u16],
+    lasts: &'a [u16],
+    closed: &'a [i16],
+}
+
 // The finished table, the plan and the narrowed windows, at the front of their rooms.
 fn keep_plan(
-    closed: &[i16],
-    seats: &[u16],
-    firsts: &[u16],
-    lasts: &[u16],
+    solved: &Solved<'_>,
     table: &mut [i16],
     plan: &mut [u16],
     earliest: &mut [u16],
     latest: &mut [u16],
 )
-    requires { (length closed.now ≤ length table.old) × (length seats.now ≤ length plan.old)
-        × (length firsts.now ≤ length earliest.old) × (length lasts.now ≤ length latest.old) }
-    ensures { (table.new ≡ closed.now ++ drop (length closed.now) table.old)
-        × (plan.new ≡ seats.now ++ drop (length seats.now) plan.old)
-        × (earliest.new ≡ firsts.now ++ drop (length firsts.now) earliest.old)
-        × (latest.new ≡ lasts.now ++ drop (length lasts.now) latest.old) }
+    requires { let s = solved.now in
+        (length s.closed.now ≤ length table.old) × (length s.seats.now ≤ length plan.old)
+        × (length s.firsts.now ≤ length earliest.old) × (length s.lasts.now ≤ length latest.old) }
+    ensures { let s = solved.now in
+        (table.new ≡ on_front s.closed.now table.old)
+        × (plan.new ≡ on_front s.seats.now plan.old)
+        × (earliest.new ≡ on_front s.firsts.now earliest.old)
+        × (latest.new ≡ on_front s.lasts.now latest.old) }
 {
-    lists::copy_list(closed, table);
-    lists::copy_list(seats, plan);
-    lists::copy_list(firsts, earliest);
-    lists::copy_list(lasts, latest);
+    lists::copy_list(solved.closed, table);
+    lists::copy_list(solved.seats, plan);
+    lists::copy_list(solved.firsts, earliest);
+    lists::copy_list(solved.lasts, latest);
 }
 
 // The page of a plan is written into an array of the call's own. Where the lent page holds it, it is put there, and the rooms hold the plan too.
 fn print_plan(
-    span: usize,
-    loader: &[u16],
-    closed: &[i16],
-    seats: &[u16],
-    firsts: &[u16],
-    lasts: &[u16],
+    solved: &Solved<'_>,
     table: &mut [i16],
     plan: &mut [u16],
     earliest: &mut [u16],
@@ -56,24 +61,37 @@ fn print_plan(
     page: &mut [u8],
     at: usize,
 ) -> Result<Printed, Refusal>
-    requires printable { Printable span loader.now seats.now firsts.now lasts.now closed.now }
-    requires closed_in_bounds { (length closed.now ≤ length table.old) × (length seats.now ≤ length plan.old)
-        × (length firsts.now ≤ length earliest.old) × (length lasts.now ≤ length latest.old) }
-    requires closed_len_bound { length (table_page span loader.now seats.now firsts.now lasts.now closed.now) ≤ max_page }
-    ensures { let bytes = table_page span loader.now seats.now firsts.now lasts.now closed.now in
+    requires printable { let s = solved.now in
+        Printable s.span s.loader.now s.seats.now s.firsts.now s.lasts.now s.closed.now }
+    requires closed_in_bounds { let s = solved.now in
+        (length s.closed.now ≤ length table.old) × (length s.seats.now ≤ length plan.old)
+        × (length s.firsts.now ≤ length earliest.old) × (length s.lasts.now ≤ length latest.old) }
+    requires closed_len_bound { let s = solved.now in
+        length (table_page s.span s.loader.now s.seats.now s.firsts.now s.lasts.now s.closed.now) ≤ max_page }
+    ensures { let s = solved.now in
+        let bytes = table_page s.span s.loader.now s.seats.now s.firsts.now s.lasts.now s.closed.now in
         Asked (holdsAnswer page.old at bytes) says.plan bytes
         (lent table.old plan.old earliest.old latest.old [])
-        (lent (on_front closed.now table.old) (on_front seats.now plan.old)
-        (on_front firsts.now earliest.old) (on_front lasts.now latest.old) [])
+        (lent (on_front s.closed.now table.old) (on_front s.seats.now plan.old)
+        (on_front s.firsts.now earliest.old) (on_front s.lasts.now latest.old) [])
         page.old at (says.reply_of result)
         (lent table.new plan.new earliest.new latest.new []) page.new }
 {
     let mut answer = [0u8; MAX_PAGE];
-    let length = print_page::put_plan(&mut answer, 0, span, loader, seats, firsts, lasts, closed);
+    let length = print_page::put_plan(
+        &mut answer,
+        0,
+        solved.span,
+        solved.loader,
+        solved.seats,
+        solved.firsts,
+        solved.lasts,
+        solved.closed,
+    );
     if !print_writer::holds(page.len(), at, length) {
         return Err(Question::Page.refused());
     }
-    keep_plan(closed, seats, firsts, lasts, table, plan, earliest, latest);
+    keep_plan(solved, table, plan, earliest, latest);
     let next = print_writer::write(page, at, &answer[..length]);
     Ok(Printed {
         fit: Ok(()),
@@ -106,36 +124,31 @@ pub fn print_solved(
     let mut firsts = [0u16; Sheet::MAX_UNITS];
     let mut lasts = [0u16; Sheet::MAX_UNITS];
     let mut found = [0u16; Sheet::MAX_BOUNDARIES];
+    let given = &lists.constraints;
     let fit = plan_solve::solve(
-        &lists.constraints,
+        given,
         &mut closed,
         &mut seats,
         &mut firsts,
         &mut lasts,
         &mut found,
     );
-    let span = lists.constraints.span;
-    let w = sheet::boundaries(span);
+    let w = sheet::boundaries(given.span);
     match fit {
         Ok(()) => {
-            let n = lists.constraints.first.len();
-            print_plan(
-                span,
-                lists.loader,
-                &closed[..w * w],
-                &seats[..n],
-                &firsts[..n],
-                &lasts[..n],
-                table,
-                plan,
-                earliest,
-                latest,
-                page,
-                at,
-            )
+            let n = given.first.len();
+            let solved = Solved {
+                span: given.span,
+                loader: lists.loader,
+                seats: &seats[..n],
+                firsts: &firsts[..n],
+                lasts: &lasts[..n],
+                closed: &closed[..w * w],
+            };
+            print_plan(&solved, table, plan, earliest, latest, page, at)
         }
         Err(none) => {
-            limits::fill::fill_limits(&lists.constraints, &mut closed);
+            limits::fill::fill_limits(given, &mut closed);
             print_answer::print_ring(&closed, w, &found[..none.length], table, ring, page, at)
         }
     }
