@@ -59,12 +59,16 @@ pub fn convert_fronts(
 {
     let n = s.units;
     let r = s.rules;
-    if let Err(refusal) = write_ask::ask_house(house, s.span, &last[..n], &low[..r]) {
-        return refuse(page, refusal);
-    }
-    let next = write_fronts::put_fronts(house, s, loader, first, last, from, to, low, high, page);
-    Converted {
-        place: next,
-        refusal: None,
+    match write_ask::ask_house(house, s.span, &last[..n], &low[..r]) {
+        Err(refusal) => refuse(page, refusal),
+        Ok(()) => {
+            let next = write_fronts::put_fronts(
+                house, s, loader, first, last, from, to, low, high, page,
+            );
+            Converted {
+                place: next,
+                refusal: None,
+            }
+        }
     }
 }

@@ -19,27 +19,21 @@ lists c =
 abbrev text : Start → List ℕ
 text c = sheet_text c.args.house (written_by (lists c))
 
-pub slice_bounds-ask_house-end : goal.slice_bounds-ask_house-end
-slice_bounds-ask_house-end c = sym (length-take-le _ _ c.requires.long.in_last)
-
-pub slice_bounds-ask_house-end-2 : goal.slice_bounds-ask_house-end-2
-slice_bounds-ask_house-end-2 c = sym (length-take-le _ _ c.requires.long.in_low)
-
 pub refuse-requires : goal.refuse-requires
 refuse-requires c =
     let s = (goal.at.refuse-requires c).Start in
-    house_small c.args.house (lists s) c.requires.passes _ c.in-No.ensures _ _ refl
+    house_small c.args.house (lists s) c.requires.passes _ c.in-Err.ensures _ _ refl
 
-pub returns-in-No : goal.returns-in-No
-returns-in-No c =
-    let s = (goal.at.returns-in-No c).Start in
-    let told = house_told c.args.house (lists s) c.requires.passes _ c.in-No.ensures _ refl (text s) in
+pub returns-in-Err : goal.returns-in-Err
+returns-in-Err c =
+    let s = (goal.at.returns-in-Err c).Start in
+    let told = house_told c.args.house (lists s) c.requires.passes _ c.in-Err.ensures _ refl (text s) in
     (c.refuse.ensures.0 ∙ told.0, c.refuse.ensures.1 ∙ ap (with_bytes c.args.page.now 0) told.1)
 
-pub returns-in-Yes : goal.returns-in-Yes
-returns-in-Yes c =
-    let s = (goal.at.returns-in-Yes c).Start in
-    let told = house_told c.args.house (lists s) c.requires.passes _ c.in-Yes.ensures _ refl (text s) in
+pub returns-in-Ok : goal.returns-in-Ok
+returns-in-Ok c =
+    let s = (goal.at.returns-in-Ok c).Start in
+    let told = house_told c.args.house (lists s) c.requires.passes _ c.in-Ok.ensures _ refl (text s) in
     let w = c.put_fronts-next.ensures in
     let past : c.put_fronts-next.result ≡ length (text s) = omega (arith, w.moved) in
     (ap sheet past ∙ told.0, w.filled ∙ ap (with_bytes c.args.page.now 0) told.1)
