@@ -32,23 +32,23 @@ pub fn plan_sheet(lists: &WrittenLists<'_>, page: &mut [u8; MAX_PAGE]) -> usize
     let mut earliest = [0u16; Sheet::MAX_UNITS];
     let mut latest = [0u16; Sheet::MAX_UNITS];
     let mut ring = [0u16; Sheet::MAX_BOUNDARIES];
+    let given = &lists.constraints;
     let fit = plan_solve::solve(
-        &lists.constraints,
+        given,
         &mut table,
         &mut plan,
         &mut earliest,
         &mut latest,
         &mut ring,
     );
+    let w = sheet::boundaries(given.span);
     match fit {
         Ok(()) => {
-            let span = lists.constraints.span;
-            let w = sheet::boundaries(span);
-            let n = lists.constraints.first.len();
+            let n = given.first.len();
             print_page::put_plan(
                 page,
                 0,
-                span,
+                given.span,
                 lists.loader,
                 &plan[..n],
                 &earliest[..n],
@@ -56,7 +56,7 @@ pub fn plan_sheet(lists: &WrittenLists<'_>, page: &mut [u8; MAX_PAGE]) -> usize
                 &table[..w * w],
             )
         }
-        Err(none) => put_ring(&lists.constraints, &mut table, &ring[..none.length], page),
+        Err(none) => put_ring(given, &mut table, &ring[..none.length], page),
     }
 }
 
@@ -67,12 +67,10 @@ pub fn fits_sheet(lists: &Lists<'_>, page: &mut [u8; MAX_PAGE]) -> usize
 {
     let mut table = [0i16; Sheet::MAX_CELLS];
     let mut ring = [0u16; Sheet::MAX_BOUNDARIES];
-    match plan_solve::decide(lists, &mut table, &mut ring) {
-        Ok(()) => {
-            let w = sheet::boundaries(lists.span);
-            let n = lists.first.len();
-            print_page::put_fits(page, 0, lists.span, n, &table[..w * w])
-        }
+    let fit = plan_solve::decide(lists, &mut table, &mut ring);
+    let w = sheet::boundaries(lists.span);
+    match fit {
+        Ok(()) => print_page::put_fits(page, 0, lists.span, lists.first.len(), &table[..w * w]),
         Err(none) => put_ring(lists, &mut table, &ring[..none.length], page),
     }
 }

@@ -1,132 +1,124 @@
 -- The sheet is planned in arrays of the call's own; how that ended decides what is written.
 -- Key idea: every goal past the call of solve rests on what planning left there.
-use Rattle.std.proofs.Common.{ℕ, ◌≤◌, ◌≡◌, T, true, List, length, take, refl, sym, ◌∙◌, arith}
-use Rattle.std.proofs.Math.ListN.{length-replicate}
+use Rattle.std.proofs.Common.{ℕ, ◌≤◌, ◌≡◌, T, true, List, length, sym, ap, subst, ◌∙◌, arith}
 use lib.Seq.{length-take-le}
-use lib.IntN.{ℤ, pos}
-use Rattle.network_pass.specs.Pass.{finished, stopped}
-use Rattle.sheet.specs.Sizes.{max_cells}
-use Rattle.sheet.specs.Sheet.{is_ring}
-use Rattle.sheet.specs.Lists.{Lists, listed, given}
+use lib.IntN.{ℤ}
+use Rattle.network_pass.specs.Pass.{finished}
+use Rattle.sheet.specs.Sizes.{max_slots}
+use Rattle.sheet.specs.Questions.{loaders_fit}
+use Rattle.sheet.specs.Lists.{Lists, WrittenLists, listed, given, given_by}
 use Rattle.pages.specs.Page.{max_page}
 use Rattle.plan_rooms.specs.Rooms.{Rooms, lent}
-use Rattle.plan_ask.specs.Asking.{Solvable}
+use Rattle.plan_ask.specs.Asking.{Listed, Solvable}
 use Rattle.plan_ask.proofs.AskingLaws.{span_bound}
 use Rattle.plan_steps.specs.Closing.{passed}
+use Rattle.plan_answers.specs.Planning.{by_pass, Settled}
+use Rattle.plan_answers.specs.Reply.{fit_reply}
 use Rattle.print_solved.specs.OwnLaws.{own_rooms, own_solvable, cells_few, PlanFronts, plan_own}
 use Rattle.wave_words.specs.declared.Query.TheVariants.{Plan}
-use Rattle.answer_conditions.proofs.SheetLaws.{own_fillable, plan_none, plan_asks, plan_is, fit_answered, ring_answered}
-use Rattle.answer_lists.proofs.plan_sheet.Goals.{Start, In-Fits, In-None}
+use Rattle.answer_conditions.specs.Answer.{AnswerToSheet, Answered}
+use Rattle.answer_conditions.proofs.SheetLaws.{plan_asks, plan_is, fit_answered}
+use Rattle.answer_lists.proofs.plan_sheet.Goals.{In-Ok}
 use Rattle.answer_lists.proofs.plan_sheet.Goals as goal
 
-abbrev lists : Start → Lists
-lists c = let a = c.args in listed a.span a.first.now a.last.now a.from.now a.to.now a.low.now a.high.now
-
 -- every question that solving rests on is answered yes
-solvable : (c : Start) → Solvable (lists c) true
-solvable c = record { lists = c.requires.lists; sheet = c.requires.sheet; rooms = tt }
+solved : (l : WrittenLists) → Listed l → Solvable l.constraints true
+solved l h = record { lists = h.lists; sheet = h.sheet; rooms = tt }
 
--- ---- a plan was found
-abbrev plan_lists : In-Fits → Lists
-plan_lists c = let a = c.args in listed a.span a.first.now a.last.now a.from.now a.to.now a.low.now a.high.now
+-- the sheet's lists, as the code looks into them
+abbrev seen : In-Ok → Lists
+seen c = let g = c.given.inside in listed g.span g.first.now g.last.now g.from.now g.to.now g.low.now g.high.now
 
-plan_solvable : (c : In-Fits) → Solvable (plan_lists c) true
-plan_solvable c = record { lists = c.requires.lists; sheet = c.requires.sheet; rooms = tt }
+solvable : (c : In-Ok) → Solvable (seen c) true
+solvable c =
+    subst (λ l. Solvable l true) (sym c.given.view_is)
+    (subst (λ l. Solvable l.constraints true) (sym c.lists.view_is) (solved c.args.lists.now c.requires))
 
 -- the call's own arrays after planning
-abbrev plan_after : In-Fits → Rooms
-plan_after c = let r = c.solve-fit.new in lent r.table r.plan r.earliest r.latest r.ring
+abbrev after : In-Ok → Rooms
+after c = let r = c.solve-fit.new in lent r.table r.plan r.earliest r.latest r.ring
 
-plan_found : (c : In-Fits) → let s = given (plan_lists c) in
-    (t : List ℤ) × (passed s ≡ finished t) × PlanFronts s c.boundaries-w.result (length c.args.first.now) t (plan_after c)
-plan_found c =
-    plan_own (plan_lists c) own_rooms (own_solvable (plan_lists c) true (plan_solvable c)) c.boundaries-w.result c.boundaries-w.ensures own_rooms
-    (plan_after c) _ c.in-Fits.ensures refl
+found : (c : In-Ok) → let s = given (seen c) in
+    (t : List ℤ) × (passed s ≡ finished t) × PlanFronts s c.boundaries-w.result (length (seen c).first) t (after c)
+found c =
+    let ends = subst (λ l. Settled (by_pass (passed (given l))) (given l) own_rooms (fit_reply c.solve-fit.result) (after c)) (sym c.given.view_is)
+    c.solve-fit.ensures in
+    plan_own (seen c) own_rooms (own_solvable (seen c) true (solvable c)) c.boundaries-w.result c.boundaries-w.ensures own_rooms (after c) _ ends
+    (ap fit_reply c.in-Ok.is)
 
--- ---- none, and a ring
-abbrev ring_lists : In-None → Lists
-ring_lists c = let a = c.args in listed a.span a.first.now a.last.now a.from.now a.to.now a.low.now a.high.now
-
-ring_solvable : (c : In-None) → Solvable (ring_lists c) true
-ring_solvable c = record { lists = c.requires.lists; sheet = c.requires.sheet; rooms = tt }
-
-ring_found : (c : In-None) → let ring = c.solve-fit.new.ring in
-    let s = given (ring_lists c) in T (is_ring s (take c.in-None.k ring)) × (passed s ≡ stopped) × (c.in-None.k ≤ length ring)
-ring_found c =
-    let r = c.solve-fit.new in
-    plan_none (ring_lists c) _ c.boundaries-w.ensures (ring_solvable c) (lent r.table r.plan r.earliest r.latest r.ring) _ c.in-None.ensures
-    c.in-None.k refl
+-- the units' loader numbers, as the code looks into them
+loaders : (c : In-Ok) → T (loaders_fit c.lists.inside.loader.now) × (length c.lists.inside.loader.now ≡ length (seen c).first)
+loaders c =
+    let e : (seen c).first ≡ c.lists.inside.constraints.first = ap (λ x. x.first) c.given.view_is in
+    let t = subst (λ x. T (loaders_fit x.loader) × (length x.loader ≡ length x.constraints.first)) (sym c.lists.view_is)
+    (c.requires.loaders, c.requires.as_many) in
+    (t.0, t.1 ∙ sym (ap length e))
 
 -- ---- the goals, in order
 
 pub solve-fit-requires : goal.solve-fit-requires
-solve-fit-requires c = let s = (goal.at.solve-fit-requires c).Start in own_solvable (lists s) true (solvable s)
+solve-fit-requires c =
+    own_solvable c.lists.inside.constraints true
+    (subst (λ l. Solvable l.constraints true) (sym c.lists.view_is) (solved c.args.lists.now c.requires))
 
 pub boundaries-w-requires : goal.boundaries-w-requires
-boundaries-w-requires c = span_bound (lists (goal.at.boundaries-w-requires c).Start) c.requires.sheet
-
-pub overflow_mul-cells : goal.overflow_mul-cells
-overflow_mul-cells c =
-    let s = (goal.at.overflow_mul-cells c).Start in
-    omega (arith, cells_few (lists s) own_rooms (own_solvable (lists s) true (solvable s)) c.boundaries-w.result c.boundaries-w.ensures)
+boundaries-w-requires c =
+    let few : c.lists.inside.constraints.span ≤ max_slots =
+    subst (λ l. l.constraints.span ≤ max_slots) (sym c.lists.view_is) (span_bound c.args.lists.now.constraints c.requires.sheet) in
+    subst (λ l. l.span ≤ max_slots) (sym c.given.view_is) few
 
 pub slice_bounds-plan-end : goal.slice_bounds-plan-end
-slice_bounds-plan-end c = (plan_found (goal.at.slice_bounds-plan-end c).In-Fits).2.seats.long
+slice_bounds-plan-end c = (found (goal.at.slice_bounds-plan-end c).In-Ok).2.seats.long
 
-pub slice_bounds-put_plan-end-in-Fits : goal.slice_bounds-put_plan-end-in-Fits
-slice_bounds-put_plan-end-in-Fits c = sym (length-take-le _ _ (plan_found (goal.at.slice_bounds-put_plan-end-in-Fits c).In-Fits).2.seats.long)
+pub slice_bounds-put_plan-end-in-Ok : goal.slice_bounds-put_plan-end-in-Ok
+slice_bounds-put_plan-end-in-Ok c = sym (length-take-le _ _ (found (goal.at.slice_bounds-put_plan-end-in-Ok c).In-Ok).2.seats.long)
 
 pub slice_bounds-earliest-end : goal.slice_bounds-earliest-end
-slice_bounds-earliest-end c = (plan_found (goal.at.slice_bounds-earliest-end c).In-Fits).2.firsts.long
+slice_bounds-earliest-end c = (found (goal.at.slice_bounds-earliest-end c).In-Ok).2.firsts.long
 
-pub slice_bounds-put_plan-end-in-Fits-2 : goal.slice_bounds-put_plan-end-in-Fits-2
-slice_bounds-put_plan-end-in-Fits-2 c = sym (length-take-le _ _ (plan_found (goal.at.slice_bounds-put_plan-end-in-Fits-2 c).In-Fits).2.firsts.long)
+pub slice_bounds-put_plan-end-in-Ok-2 : goal.slice_bounds-put_plan-end-in-Ok-2
+slice_bounds-put_plan-end-in-Ok-2 c = sym (length-take-le _ _ (found (goal.at.slice_bounds-put_plan-end-in-Ok-2 c).In-Ok).2.firsts.long)
 
 pub slice_bounds-latest-end : goal.slice_bounds-latest-end
-slice_bounds-latest-end c = (plan_found (goal.at.slice_bounds-latest-end c).In-Fits).2.lasts.long
+slice_bounds-latest-end c = (found (goal.at.slice_bounds-latest-end c).In-Ok).2.lasts.long
 
-pub slice_bounds-put_plan-end-in-Fits-3 : goal.slice_bounds-put_plan-end-in-Fits-3
-slice_bounds-put_plan-end-in-Fits-3 c = sym (length-take-le _ _ (plan_found (goal.at.slice_bounds-put_plan-end-in-Fits-3 c).In-Fits).2.lasts.long)
+pub slice_bounds-put_plan-end-in-Ok-3 : goal.slice_bounds-put_plan-end-in-Ok-3
+slice_bounds-put_plan-end-in-Ok-3 c = sym (length-take-le _ _ (found (goal.at.slice_bounds-put_plan-end-in-Ok-3 c).In-Ok).2.lasts.long)
+
+pub overflow_mul-table : goal.overflow_mul-table
+overflow_mul-table c =
+    let o = (goal.at.overflow_mul-table c).In-Ok in
+    omega (arith, cells_few (seen o) own_rooms (own_solvable (seen o) true (solvable o)) c.boundaries-w.result c.boundaries-w.ensures)
 
 pub slice_bounds-table-end : goal.slice_bounds-table-end
-slice_bounds-table-end c = (plan_found (goal.at.slice_bounds-table-end c).In-Fits).2.closed.long
+slice_bounds-table-end c = (found (goal.at.slice_bounds-table-end c).In-Ok).2.closed.long
 
-pub slice_bounds-put_plan-end-in-Fits-4 : goal.slice_bounds-put_plan-end-in-Fits-4
-slice_bounds-put_plan-end-in-Fits-4 c = sym (length-take-le _ _ (plan_found (goal.at.slice_bounds-put_plan-end-in-Fits-4 c).In-Fits).2.closed.long)
+pub slice_bounds-put_plan-end-in-Ok-4 : goal.slice_bounds-put_plan-end-in-Ok-4
+slice_bounds-put_plan-end-in-Ok-4 c = sym (length-take-le _ _ (found (goal.at.slice_bounds-put_plan-end-in-Ok-4 c).In-Ok).2.closed.long)
 
-pub put_plan-requires : goal.put_plan-requires
-put_plan-requires c =
-    let told = (goal.at.put_plan-requires c).In-Fits in
-    let f = plan_found told in
+pub put_plan-requires-clause-printable : goal.put_plan-requires-clause-printable
+put_plan-requires-clause-printable c =
+    let o = (goal.at.put_plan-requires-clause-printable c).In-Ok in
+    let f = found o in
+    let k = loaders o in
     let size : length c.args.page.now ≡ max_page = omega arith in
-    let asks = plan_asks (plan_lists told) c.boundaries-w.result c.boundaries-w.ensures (plan_solvable told) c.args.loader.now c.requires.loaders
-    c.requires.as_many (plan_after told) f.0 f.1 f.2 _ size in
-    record { printable = asks.0; room = asks.1 }
+    (plan_asks (seen o) c.boundaries-w.result c.boundaries-w.ensures (solvable o) c.lists.inside.loader.now k.0 k.1 (after o) f.0 f.1 f.2 _ size).0
 
-pub slice_bounds-ring-end : goal.slice_bounds-ring-end
-slice_bounds-ring-end c = (ring_found (goal.at.slice_bounds-ring-end c).In-None).2
+pub put_plan-requires-clause-room : goal.put_plan-requires-clause-room
+put_plan-requires-clause-room c =
+    let o = (goal.at.put_plan-requires-clause-room c).In-Ok in
+    let f = found o in
+    let k = loaders o in
+    let size : length c.args.page.now ≡ max_page = omega arith in
+    (plan_asks (seen o) c.boundaries-w.result c.boundaries-w.ensures (solvable o) c.lists.inside.loader.now k.0 k.1 (after o) f.0 f.1 f.2 _ size).1
 
-pub slice_bounds-put_ring-end-in-None : goal.slice_bounds-put_ring-end-in-None
-slice_bounds-put_ring-end-in-None c = sym (length-take-le _ _ (ring_found (goal.at.slice_bounds-put_ring-end-in-None c).In-None).2)
-
-pub put_ring-requires : goal.put_ring-requires
-put_ring-requires c =
-    let told = (goal.at.put_ring-requires c).In-None in (
-      own_fillable (ring_lists told) _ c.boundaries-w.ensures (ring_solvable told) c.solve-fit.new.table
-          (c.solve-fit.auto.table ∙ length-replicate max_cells (pos 0)),
-      (ring_found told).0,
-    )
-
-pub returns-in-Fits : goal.returns-in-Fits
-returns-in-Fits c =
-    let told = (goal.at.returns-in-Fits c).In-Fits in
-    let f = plan_found told in
-    fit_answered Plan c.args.loader.now (given (plan_lists told)) _ _ _ f.0 f.1 _
-    (plan_is (plan_lists told) c.boundaries-w.result c.boundaries-w.ensures (plan_solvable told) c.args.loader.now c.requires.loaders
-    c.requires.as_many (plan_after told) f.0 f.1 f.2) c.put_plan.ensures
-
-pub returns-in-None : goal.returns-in-None
-returns-in-None c =
-    let told = (goal.at.returns-in-None c).In-None in
-    let f = ring_found told in
-    ring_answered Plan _ (given (ring_lists told)) _ _ _ _ f.0 f.1 c.put_ring.ensures
+pub returns-in-Ok : goal.returns-in-Ok
+returns-in-Ok c =
+    let o = (goal.at.returns-in-Ok c).In-Ok in
+    let f = found o in
+    let k = loaders o in
+    let ks = c.lists.inside.loader.now in
+    let page = plan_is (seen o) c.boundaries-w.result c.boundaries-w.ensures (solvable o) ks k.0 k.1 (after o) f.0 f.1 f.2 in
+    let answered = fit_answered Plan ks (given (seen o)) _ _ _ f.0 f.1 _ page c.put_plan.ensures in
+    subst (λ l. Answered (AnswerToSheet Plan l.loader (given_by l)) c.args.page.now c.put_plan.new.page c.put_plan.result) c.lists.view_is
+    (subst (λ l. Answered (AnswerToSheet Plan ks (given l)) c.args.page.now c.put_plan.new.page c.put_plan.result) c.given.view_is answered)

@@ -20,25 +20,25 @@ sizes = refl
 
 pub refuse-requires : goal.refuse-requires
 refuse-requires c =
-    let r = refused_small c.args.from c.args.text.now empty sizes _ _ c.in-Refused.ensures.result_value in
+    let r = refused_small c.args.from c.args.text.now empty sizes _ _ c.in-Err.ensures.result_value in
     (omega (arith, r.0), omega (arith, r.1))
 
 pub convert_fronts-requires : goal.convert_fronts-requires
 convert_fronts-requires c =
     let k = c.read-reading.new in
     let after = rooms k.loader k.first k.last k.from k.to k.low k.high in
-    read_held c.args.from c.args.text.now empty sizes c.in-Sheet.s c.in-Sheet.ensures.result_value after c.in-Sheet.ensures.high_after
+    read_held c.args.from c.args.text.now empty sizes c.in-Ok.s c.in-Ok.ensures.result_value after c.in-Ok.ensures.high_after
 
-pub returns-in-Refused : goal.returns-in-Refused
-returns-in-Refused c =
+pub returns-in-Err : goal.returns-in-Err
+returns-in-Err c =
     let a = c.args in
-    let told = refused_converted a.from a.to a.text.now empty sizes _ _ c.in-Refused.ensures.result_value in
+    let told = refused_converted a.from a.to a.text.now empty sizes _ _ c.in-Err.ensures.result_value in
     (c.refuse.ensures.0 ∙ told.0, c.refuse.ensures.1 ∙ ap (with_bytes a.page.now 0) told.1)
 
-pub returns-in-Sheet : goal.returns-in-Sheet
-returns-in-Sheet c =
+pub returns-in-Ok : goal.returns-in-Ok
+returns-in-Ok c =
     let a = c.args in
     let k = c.read-reading.new in
     let after = rooms k.loader k.first k.last k.from k.to k.low k.high in
-    let told = read_converted a.from a.to a.text.now empty sizes c.in-Sheet.s c.in-Sheet.ensures.result_value after c.in-Sheet.ensures.high_after in
+    let told = read_converted a.from a.to a.text.now empty sizes c.in-Ok.s c.in-Ok.ensures.result_value after c.in-Ok.ensures.high_after in
     (c.convert_fronts.ensures.0 ∙ told.0, c.convert_fronts.ensures.1 ∙ ap (with_bytes a.page.now 0) told.1)
