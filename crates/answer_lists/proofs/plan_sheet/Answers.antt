@@ -1,10 +1,12 @@
 -- The sheet is planned in arrays of the call's own; how that ended decides what is written.
 -- Key idea: every goal past the call of solve rests on what planning left there.
-use Rattle.std.proofs.Common.{ℕ, ◌≤◌, ◌≡◌, T, true, List, length, sym, ap, subst, ◌∙◌, arith}
+use Rattle.std.proofs.Common.{ℕ, ◌≤◌, ◌≡◌, T, true, List, length, take, sym, ap, subst, ◌∙◌, arith}
 use lib.Seq.{length-take-le}
-use lib.IntN.{ℤ}
-use Rattle.network_pass.specs.Pass.{finished}
-use Rattle.sheet.specs.Sizes.{max_slots}
+use lib.IntN.{ℤ, pos}
+use Rattle.std.proofs.Math.ListN.{length-replicate}
+use Rattle.network_pass.specs.Pass.{finished, stopped}
+use Rattle.sheet.specs.Sizes.{max_slots, max_cells, boundaries_of}
+use Rattle.sheet.specs.Sheet.{is_ring}
 use Rattle.sheet.specs.Questions.{loaders_fit}
 use Rattle.sheet.specs.Lists.{Lists, WrittenLists, listed, given, given_by}
 use Rattle.pages.specs.Page.{max_page}
@@ -17,8 +19,8 @@ use Rattle.plan_answers.specs.Reply.{fit_reply}
 use Rattle.print_solved.specs.OwnLaws.{own_rooms, own_solvable, cells_few, PlanFronts, plan_own}
 use Rattle.wave_words.specs.declared.Query.TheVariants.{Plan}
 use Rattle.answer_conditions.specs.Answer.{AnswerToSheet, Answered}
-use Rattle.answer_conditions.proofs.SheetLaws.{plan_asks, plan_is, fit_answered}
-use Rattle.answer_lists.proofs.plan_sheet.Goals.{In-Ok}
+use Rattle.answer_conditions.proofs.SheetLaws.{own_fillable, plan_none, plan_asks, plan_is, fit_answered, ring_answered}
+use Rattle.answer_lists.proofs.plan_sheet.Goals.{In-Ok, In-Err}
 use Rattle.answer_lists.proofs.plan_sheet.Goals as goal
 
 -- every question that solving rests on is answered yes
@@ -53,6 +55,21 @@ loaders c =
     let t = subst (λ x. T (loaders_fit x.loader) × (length x.loader ≡ length x.constraints.first)) (sym c.lists.view_is)
     (c.requires.loaders, c.requires.as_many) in
     (t.0, t.1 ∙ sym (ap length e))
+
+-- ---- none, and a ring
+w_of : (c : In-Err) → c.boundaries-w.result ≡ boundaries_of c.lists.inside.constraints.span
+w_of c = c.boundaries-w.ensures ∙ ap (λ l. boundaries_of l.span) c.given.view_is
+
+ring_solvable : (c : In-Err) → Solvable c.lists.inside.constraints true
+ring_solvable c = subst (λ l. Solvable l.constraints true) (sym c.lists.view_is) (solved c.args.lists.now c.requires)
+
+ring_found : (c : In-Err) → let ring = c.solve-fit.new.ring in
+    let s = given c.lists.inside.constraints in
+    T (is_ring s (take c.in-Err.none.length ring)) × (passed s ≡ stopped) × (c.in-Err.none.length ≤ length ring)
+ring_found c =
+    let r = c.solve-fit.new in
+    plan_none c.lists.inside.constraints c.boundaries-w.result (w_of c) (ring_solvable c) (lent r.table r.plan r.earliest r.latest r.ring) _
+    c.solve-fit.ensures c.in-Err.none.length (ap fit_reply c.in-Err.is)
 
 -- ---- the goals, in order
 
@@ -122,3 +139,23 @@ returns-in-Ok c =
     let answered = fit_answered Plan ks (given (seen o)) _ _ _ f.0 f.1 _ page c.put_plan.ensures in
     subst (λ l. Answered (AnswerToSheet Plan l.loader (given_by l)) c.args.page.now c.put_plan.new.page c.put_plan.result) c.lists.view_is
     (subst (λ l. Answered (AnswerToSheet Plan ks (given l)) c.args.page.now c.put_plan.new.page c.put_plan.result) c.given.view_is answered)
+
+pub slice_bounds-ring-end : goal.slice_bounds-ring-end
+slice_bounds-ring-end c = (ring_found (goal.at.slice_bounds-ring-end c).In-Err).2
+
+pub slice_bounds-put_ring-end-in-Err : goal.slice_bounds-put_ring-end-in-Err
+slice_bounds-put_ring-end-in-Err c = sym (length-take-le _ _ (ring_found (goal.at.slice_bounds-put_ring-end-in-Err c).In-Err).2)
+
+pub put_ring-requires : goal.put_ring-requires
+put_ring-requires c =
+    let o = (goal.at.put_ring-requires c).In-Err in (
+      own_fillable c.lists.inside.constraints _ (w_of o) (ring_solvable o) c.solve-fit.new.table
+          (c.solve-fit.auto.table ∙ length-replicate max_cells (pos 0)),
+      (ring_found o).0,
+    )
+
+pub returns-in-Err : goal.returns-in-Err
+returns-in-Err c =
+    let f = ring_found (goal.at.returns-in-Err c).In-Err in
+    let answered = ring_answered Plan c.lists.inside.loader.now (given c.lists.inside.constraints) _ _ _ _ f.0 f.1 c.put_ring.ensures in
+    subst (λ l. Answered (AnswerToSheet Plan l.loader (given_by l)) c.args.page.now c.put_ring.new.page c.put_ring.result) c.lists.view_is answered

@@ -8,7 +8,7 @@ use Rattle.sheet.specs.Sizes.{max_cells}
 use Rattle.sheet.specs.Sheet.{is_ring}
 use Rattle.sheet.specs.Questions.{loaders_fit}
 use Rattle.sheet.specs.Lists.{Lists, WrittenLists, listed, given, given_by}
-use Rattle.limits.specs.LimitTable.{limit_table}
+use Rattle.limits.specs.LimitTable.{limit_table, CanFill}
 use Rattle.plan_rooms.specs.Rooms.{Rooms, lent, plan_lent, rooms_fit}
 use Rattle.plan_ask.specs.Asking.{Solvable}
 use Rattle.plan_ask.proofs.AskingLaws.{span_bound}
@@ -161,6 +161,22 @@ ring_found : (c : In-Err) → (ring : List ℕ) × T (is_ring (given (seen_ring 
 ring_found c =
     none_own (seen_ring c) (rooms_ring c) (ring_passes c) c.boundaries-w.result c.boundaries-w.ensures own_rooms (after_ring c) (fit_reply c.solve-fit.result)
     (subst (Ends (after_ring c) (fit_reply c.solve-fit.result)) (sym c.given.view_is) c.solve-fit.ensures) c.in-Err.none.length (ap fit_reply c.in-Err.is)
+
+pub slice_bounds-found-end : goal.slice_bounds-found-end
+slice_bounds-found-end c =
+    (ring_found (goal.at.slice_bounds-found-end c).In-Err).3.long
+
+pub slice_bounds-print_ring-end-in-Err : goal.slice_bounds-print_ring-end-in-Err
+slice_bounds-print_ring-end-in-Err c =
+    sym (length-take-le _ _ (ring_found (goal.at.slice_bounds-print_ring-end-in-Err c).In-Err).3.long)
+
+pub fill_limits-requires : goal.fill_limits-requires
+fill_limits-requires c =
+    let o = (goal.at.fill_limits-requires c).In-Err in
+    let f = ring_found o in
+    subst (λ l. CanFill l (length c.solve-fit.new.table)) c.given.view_is
+    (limits_fillable (seen_ring o) (rooms_ring o) (ring_passes o) c.boundaries-w.result c.boundaries-w.ensures (after_ring o) f.0 f.1 f.2 _ f.3
+    c.solve-fit.new.table (c.solve-fit.auto.table ∙ length-replicate max_cells (pos 0)))
 
 pub print_ring-requires-clause-ring_fits : goal.print_ring-requires-clause-ring_fits
 print_ring-requires-clause-ring_fits c =
