@@ -69,6 +69,7 @@ fn convert_pipe(rt: &HostRuntime, from: House, to: House) {
 }
 
 // Which file a refusal is of, by the places of the two names among the words, on standard error. Only 27 is of neither.
+// stays: the sheet by its number, 0 for neither, as the merge's definitions have it.
 fn show_blamed(rt: &HostRuntime, sheet: usize, first: usize, second: usize) {
     match sheet {
         1 => wave_files::say_name(rt, b"wave: the refusal is of the first sheet, ", first),
@@ -97,6 +98,7 @@ fn merge_files(rt: &HostRuntime) {
 }
 
 // The names are the last words behind `line`.
+// stays: beside merge_files; one function for both would take a closure over two texts and a page, and ask of it what each call's contract says.
 fn find_line(rt: &HostRuntime, loader: u16) {
     let mut one = [0u8; TEXT_BYTES];
     let mut two = [0u8; TEXT_BYTES];
