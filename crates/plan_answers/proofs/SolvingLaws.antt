@@ -123,6 +123,13 @@ module _ (l : Lists) (fit : Bool) (S : Solvable l fit) (room : List ℤ) (big : 
           let k = cleared_length (places s) room big in
           (record { agree = S.lists; ok = S.sheet; fits = omega (arith, big, k, ap length table_cleared) }, long, halted)
 
+      -- what seating leaves then; the check finds this by itself in `seat`, and it stands here to hold `unseated` to it
+      pub none_seated : (plan earliest latest : List ℕ)
+          → SeatSettled (by_pass (passed s)) s (seat_rooms room plan earliest latest) (says.none 0) (seat_rooms table plan earliest latest)
+      none_seated plan earliest latest =
+          subst (λ (p : Passed). SeatSettled (by_pass p) s (seat_rooms room plan earliest latest) (says.none 0) (seat_rooms table plan earliest latest))
+          (sym halted) (refl, ap (λ (x : List ℤ). seat_rooms x plan earliest latest) table_cleared)
+
     module _ (e : r ≡ Ok tt) where
       closed_table : (t : List ℤ) × (passed s ≡ finished t) × (table ≡ table_in s t room)
       closed_table =
