@@ -11,6 +11,7 @@ use questions::Refusal;
 use sheet::WrittenLists;
 
 // Plans from lists. The questions come first; then the sheet gets a plan, or none and a ring.
+// stays: the rooms one by one, as the C interface lends them; each of the three calls lends others.
 pub fn plan(
     lists: &WrittenLists<'_>,
     table: &mut [i16],

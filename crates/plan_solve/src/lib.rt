@@ -51,6 +51,7 @@ pub fn seat(
 }
 
 // A plan in the rooms for a sheet of which every question is answered yes, or none and a ring.
+// stays: the rooms one by one, as the C interface lends them; each of the three calls lends others.
 pub fn solve(
     lists: &Lists<'_>,
     table: &mut [i16],
