@@ -6,11 +6,13 @@ use Rattle.std.proofs.Math.Path.{refl, ap, ap₂}
 use Rattle.std.proofs.Common.{sym, ◌∙◌, arith, zero-add}
 use Rattle.std.proofs.Math.Bool.{true, false}
 use mathlib.Core.List.{List, [], ◌∷◌, ◌++◌, map-append}
-use Rattle.std.proofs.Math.Dec.{leb-suc-suc}
+use Rattle.std.proofs.Math.Dec.{leb, leb→le, leb-suc-suc}
 use Rattle.std.proofs.Math.ListN.{length}
 use Rattle.std.proofs.lemmas.List.{length-map}
 use borrow.Author.Tests.{lt-ltb, ltb-true, ltb-false}
 use Rattle.lists.specs.Lists.{member}
+use Rattle.lists.specs.Members.{left}
+use Rattle.sheet.specs.Sizes.{max_units}
 use Rattle.questions.specs.Questions.{ask, Verdict, no, all_yes, first_no, AllYes}
 use Rattle.questions.proofs.FirstNoLaws.{first_then, every_yes}
 use Rattle.forms.specs.declared.House.TheVariants.{Ours}
@@ -26,7 +28,7 @@ use Rattle.merge_sheets.specs.Merge.{merged}
 use Rattle.merge_questions.specs.Merging.{merge_questions, merged_in, blamed, blamed_sheet}
 use Rattle.merge_questions.specs.FirstLaws.{first_cons}
 use Rattle.merge_join.specs.Join.{join_reply}
-use Rattle.merge_laws.proofs.Merged.{first_asked, second_asked}
+use Rattle.merge_laws.proofs.Merged.{first_asked, second_asked, merge_fits}
 use Rattle.merge_lines.specs.Lines.{has_loader, questions_of_line, loader_place, spot_of, place_of, found_by, found_line, in_second, in_either, located_at}
 use Rattle.merge_questions.specs.declared.Blamed.{Blamed}
 use Rattle.merge_lines.specs.declared.LinePlace.{LinePlace}
@@ -107,6 +109,14 @@ module _ (one two : List ℕ) (k : ℕ) where
     e : first_no (merge_questions one two) ≡ all_yes
     unfolding join_reply
     e = (concluded_read (first_no (merge_questions one two)) (merged_in one two) p u r j).verdict
+
+    -- the merged sheet's units are within the arrays for both
+    pub units_few : u ≤ max_units + max_units
+    unfolding join_reply
+    units_few =
+        let m = merged_in one two in
+        let c = concluded_read (first_no (merge_questions one two)) m p u r j in
+        omega (arith, c.units, leb→le (length m.units) max_units (left (leb (length m.units) max_units) _ (merge_fits one two e)))
 
     none_blamed : blamed_sheet one two ≡ 0
     unfolding blamed_sheet

@@ -1,14 +1,16 @@
 -- A refusal of the merge is one of the line; else the line is looked for in both texts.
-use Rattle.std.proofs.Common.{ℕ, List, sym, ap, ◌∙◌, arith}
+use Rattle.std.proofs.Common.{ℕ, List, sym, ap, ◌∙◌}
 use lib.Seq.{length-take-le}
 use Rattle.std.proofs.lemmas.Result.{err_from_is_err_and}
 use Rattle.read_questions.specs.Reading.{ListRooms}
 use Rattle.merge_lines.specs.Lines.{located_at}
-use Rattle.merge_lines.specs.LinesLaws.{found_refused, found_located}
+use Rattle.merge_lines.specs.LinesLaws.{units_few, found_refused, found_located}
 use Rattle.merge_lines.proofs.find_line.Goals as goal
 
 pub shared_ref_as_front-place_of : goal.shared_ref_as_front-place_of
-shared_ref_as_front-place_of c = omega (arith, c.in_ok-merged.ensures.leaves_merged.long.in_loader)
+shared_ref_as_front-place_of c =
+    let a = c.args in
+    units_few a.one.now a.two.now a.loader _ _ _ c.in_ok-merged.ensures.result_value
 
 pub slice_bounds-place_of-end : goal.slice_bounds-place_of-end
 slice_bounds-place_of-end c = sym (length-take-le _ c.join.new.self.numbers c.in_ok-merged.ensures.leaves_merged.long.in_loader)
