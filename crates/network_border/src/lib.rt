@@ -17,6 +17,7 @@ use network_pass::{NegativeCycle, Outcome};
 fn code(outcome: Outcome) -> usize
     ensures { result ≡ code_of outcome }
 {
+    // stays: C has numbers.
     match outcome {
         Ok(()) => 0,
         Err(NegativeCycle) => 1,

@@ -17,8 +17,7 @@ use Rattle.network.proofs.TableLaws.{row_inside}
 use Rattle.network.specs.RowStep.{relaxed_at, relaxed, SumsFit}
 use Rattle.network.specs.Bounds.{max_weight}
 use Rattle.network_cuts.specs.Decider.{value_at, into, Modest, LeastSum, CutNetwork, Cuts, Sinking, AdmitsAt, Settling}
-use Rattle.network_cuts.specs.declared.NotAdmitted.{NotAdmitted}
-use Rattle.std.specs.Prelude.{Ok, Err}
+use Rattle.network_cuts.specs.declared.Settled.TheVariants.{Still, Lower, Lost}
 use Rattle.network_cuts.proofs.SumLaws.{sum_fits}
 use Rattle.network_cuts.proofs.SinkLaws.{sunk_small, carried_lost, carried_sunk, carried_falls}
 
@@ -48,7 +47,7 @@ module _ {w : ℕ} {d m : List ℤ} {f v l : ℕ} {z : List ℤ} (q : Sinking w 
   small : (c : ℕ) → c ≤ w - 1 → Within max_weight (value_at z c)
   small = sunk_small net.closed (omega (arith, cuts)) (omega (arith, cuts)) q.sunk
 
-  pub still_admits : (z' : List ℤ) → Settling w d m f v l 0 f z z' (Ok false) → AdmitsAt w d m f v l
+  pub still_admits : (z' : List ℤ) → Settling w d m f v l 0 f z z' Still → AdmitsAt w d m f v l
   still_admits z' n = record { potential = value_at z; feasible = q.sunk.feasible; keeps = λ a b hb hv hl. n.1 a b (omega arith) hb hv hl }
 
   module _ (b : ℕ) (hb : b < f) where
@@ -117,7 +116,7 @@ module _ {w : ℕ} {d m : List ℤ} {f v l : ℕ} {z : List ℤ} (q : Sinking w 
             sum_fits k (value_at row i) forced_modest (subst (Within 1000) (sym e) (omega arith)),
       )
 
-      pub settled_still : lt_z k (value_at z b) ≡ false → Settling w d m f v l b (b + 1) z z (Ok false)
+      pub settled_still : lt_z k (value_at z b) ≡ false → Settling w d m f v l b (b + 1) z z Still
       settled_still h = (
         refl,
         λ a b' hl hr ha hb'.
@@ -134,11 +133,11 @@ module _ {w : ℕ} {d m : List ℤ} {f v l : ℕ} {z : List ℤ} (q : Sinking w 
             ap (λ (x : List ℤ). value_at x c) r ∙ list_of_at (relaxed_at k row z) (length z) c (pos 0) (omega (arith, net.some, q.long))
             ∙ ap (λ (x : ℤ). min_ℤ (value_at z c) (k +ℤ x)) (part_at (b * w) (b * w + w) d c (omega (arith, net.some)))
 
-        pub settled_lost : lt_z (value_at z' (f - 1)) (pos 0) ≡ true → {e : NotAdmitted} → Settling w d m f v l b (b + 1) z z' (Err e)
+        pub settled_lost : lt_z (value_at z' (f - 1)) (pos 0) ≡ true → Settling w d m f v l b (b + 1) z z' Lost
         settled_lost h = carried_lost net.closed (omega (arith, cuts)) (omega (arith, cuts)) q.sunk from b k (value_at z')
             from_inside (omega (arith, cuts)) hb forced carried_at (omega ints)
 
-        pub settled_lower : lt_z k (value_at z b) ≡ true → lt_z (value_at z' (f - 1)) (pos 0) ≡ false → Settling w d m f v l b (b + 1) z z' (Ok true)
+        pub settled_lower : lt_z k (value_at z b) ≡ true → lt_z (value_at z' (f - 1)) (pos 0) ≡ false → Settling w d m f v l b (b + 1) z z' Lower
         settled_lower h g = (
           record {
             net = net;

@@ -1,6 +1,6 @@
 -- The decider's steps over lists. Definitions only.
 -- A table's rows run over w boundaries, 0 to w - 1; `into w m` reads arcs that are listed by the boundary they lead into.
-use Rattle.std.specs.Prelude.{◌≡◌, Bool, true, false, Result, Ok, Err, List, ℕ, suc, ◌+◌, ◌-◌, ◌*◌, ◌≤◌, ◌<◌, length, get_or, ℤ, pos, ◌+ℤ◌, ◌≤ℤ◌}
+use Rattle.std.specs.Prelude.{◌≡◌, Bool, true, false, List, ℕ, suc, ◌+◌, ◌-◌, ◌*◌, ◌≤◌, ◌<◌, length, get_or, ℤ, pos, ◌+ℤ◌, ◌≤ℤ◌}
 use Rattle.integers.specs.Parts.{Within}
 use Rattle.slots.specs.Slots.{Slot, Boundary, slot_end, slot_start}
 use Rattle.network.specs.Network.{Weights, Potential}
@@ -8,7 +8,8 @@ use Rattle.network.specs.Table.{max_boundaries, entry}
 use Rattle.network.specs.Bounds.{max_weight}
 use Rattle.network_cuts.specs.Cut.{Admits, LeastCut}
 use Rattle.network_cuts.specs.Sink.{Closed, Sunk, height}
-use Rattle.network_cuts.specs.declared.NotAdmitted.{NotAdmitted}
+use Rattle.network_cuts.specs.declared.Settled.{Settled}
+use Rattle.network_cuts.specs.declared.Settled.TheVariants.{Still, Lower, Lost}
 use Rattle.network_cuts.specs.declared.CutWindow.{CutWindow}
 
 abbrev pub value_at : List ℤ → Potential
@@ -58,11 +59,11 @@ abbrev pub height_at : ℕ → List ℤ → Slot → List ℤ → ℕ
 height_at w d f z = height (entry w d) (slot_start f) (value_at z) (suc (w - 1))
 
 -- what lowering z to the arcs into the boundaries from h to k leaves: nothing was to be done, or z fell, or no potential keeps the arcs
-abbrev pub Settling : ℕ → List ℤ → List ℤ → Slot → Slot → Slot → Boundary → Boundary → List ℤ → List ℤ → Result Bool NotAdmitted → Type 0
-Settling w d m f v l h k z z' (Ok false) =
+abbrev pub Settling : ℕ → List ℤ → List ℤ → Slot → Slot → Slot → Boundary → Boundary → List ℤ → List ℤ → Settled → Type 0
+Settling w d m f v l h k z z' Still =
     (z' ≡ z) × ((a b : Boundary) → h ≤ b → b < k → slot_end v ≤ a → a < slot_end l → value_at z b ≤ℤ (value_at z a +ℤ into w m a b))
-Settling w d m f v l h k z z' (Ok true) = Sinking w d m f v l z' × (height_at w d f z' < height_at w d f z)
-Settling w d m f v l h k z z' (Err e) = AdmitsAt w d m f v l → ⊥
+Settling w d m f v l h k z z' Lower = Sinking w d m f v l z' × (height_at w d f z' < height_at w d f z)
+Settling w d m f v l h k z z' Lost = AdmitsAt w d m f v l → ⊥
 
 -- no cut of the window f..l below g is admitted
 abbrev pub Barred : ℕ → List ℤ → List ℤ → Slot → Slot → Slot → Type 0
@@ -75,8 +76,13 @@ LeastCutAt w d m f l v = LeastCut (w - 1) (entry w d) (into w m) f l v
 abbrev pub Sinks : CutWindow → List ℤ → Type 0
 Sinks c z = Sinking c.w c.d.now c.m.now c.f.0 c.v.0 c.l.0 z
 
-abbrev pub Settles : CutWindow → Boundary → Boundary → List ℤ → List ℤ → Result Bool NotAdmitted → Type 0
+abbrev pub Settles : CutWindow → Boundary → Boundary → List ℤ → List ℤ → Settled → Type 0
 Settles c h k z z' r = Settling c.w c.d.now c.m.now c.f.0 c.v.0 c.l.0 h k z z' r
+
+-- a sweep over boundaries says whether z fell
+abbrev pub fell : Bool → Settled
+fell true = Lower
+fell false = Still
 
 -- a flag decides a statement
 abbrev pub Decides : Bool → Type 0 → Type 0

@@ -84,11 +84,9 @@ impl Levels<'_> {
         ensures { Fallen self.now.w self.now.d.now result }
     {
         let last = self.w * self.w;
-        first_below(
-            &self.levels[last..last + self.w],
-            &self.levels[last - self.w..last],
-        )
-        .unwrap()
+        let low = &self.levels[last..last + self.w];
+        let high = &self.levels[last - self.w..last];
+        first_below(low, high).unwrap()
     }
 
     // The walk back from a boundary that fell at the last level, into its room from the end on, until it would meet a boundary again.
@@ -99,6 +97,7 @@ impl Levels<'_> {
         walk[self.w] = last as u16;
         let mut k = self.w;
         let mut v = last;
+        // stays: a `for` down from w is no plainer, since it is to be shown that it does not run out.
         loop {
             let u = self.source_of(k, v);
             if let Some(steps) = place_of(&walk[k..], u as u16) {
@@ -117,7 +116,8 @@ impl Levels<'_> {
     {
         let found = self.walk_back(self.last_fallen(), walk);
         let cycle = &walk[found];
-        put_turned(cycle, lowest_place(cycle), out);
+        let low = lowest_place(cycle);
+        put_turned(cycle, low, out);
         cycle.len()
     }
 }

@@ -1,7 +1,6 @@
--- The least sum of the places passed is in hand; the first place is asked twice, which changes nothing.
-use Rattle.std.proofs.Common.{length}
+-- The least sum of the places before i is in hand; the first place is asked twice, which changes nothing.
 use Rattle.network_cuts.specs.Decider.{LeastSum}
 use Rattle.network_cuts.proofs.least_sum.Given as goal
 
-abbrev pub invariant-loop-x : goal.invariant-loop-x
-invariant-loop-x l = LeastSum (length l.yielded) l.xs l.ys l.least
+abbrev pub invariant-loop-i : goal.invariant-loop-i
+invariant-loop-i l = LeastSum l.i l.xs l.ys l.least

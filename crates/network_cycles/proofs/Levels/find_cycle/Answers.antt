@@ -11,4 +11,4 @@ returns c =
     let s = r.result in
     rw (part_length s.start (s.end - s.start) r.new.walk (omega (arith, r.ensures.order, r.ensures.inside)))
     (cycle_put a.self.now.w a.self.now.d.now s.start s.end r.new.walk a.out.now c.put_turned.new.out
-    c.lowest_place.result r.ensures c.lowest_place.ensures c.put_turned.ensures)
+    c.lowest_place-low.result r.ensures c.lowest_place-low.ensures c.put_turned.ensures)
