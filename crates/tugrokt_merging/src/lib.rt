@@ -8,6 +8,7 @@ use tugrokt_replies::line::Line;
 use tugrokt_replies::reading::Reading;
 
 // Merges two sheets of our own from their texts into the lent lists.
+// stays: a slice for each list, as the entries have them and as merge lends them on.
 pub fn merge(
     one: &[u8],
     two: &[u8],

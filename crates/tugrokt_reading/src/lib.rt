@@ -8,6 +8,7 @@ use forms::House;
 use tugrokt_replies::reading::Reading;
 
 // Reads a sheet of a house.
+// stays: a slice for each list, as the entries have them and as read lends them on.
 pub fn read_house(
     house: House,
     text: &[u8],

@@ -42,7 +42,7 @@ pub fn say_why(rt: &HostRuntime, what: &[u8], why: &io::Error) {
 
 // Reads until the input ends or the buffer is full, or a read fails: how many bytes were read, and why no more. They are the next ones of a reader whose bytes are
 // known, and all of them where there is room for more. A read may be short, as of a pipe or a terminal.
-// stays: the number beside the `Result`; the contract says which bytes a reader gave before it failed, too.
+// stays: the number beside the `Result`, since the contract says which bytes a reader gave before it failed, too; and the `while`, since a read may be short.
 fn read_all<R: Read>(file: &mut R, buffer: &mut [u8]) -> (usize, io::Result<()>)
     ensures within { result.0 ≤ length buffer.new }
     ensures bytes { Consumes (R.remaining file.old) (R.remaining file.new) (take result.0 buffer.new) }
@@ -149,12 +149,9 @@ pub fn read_two(
 
 // How many words the program was started with, its own name among them.
 pub fn count_words(rt: &HostRuntime) -> usize {
-    for i in 0..usize::MAX {
-        if let Err(FillError::NotPresent) = rt.arg(i, &mut []) {
-            return i;
-        }
-    }
-    usize::MAX
+    (0..usize::MAX)
+        .find(|i| matches!(rt.arg(*i, &mut []), Err(FillError::NotPresent)))
+        .unwrap_or(usize::MAX)
 }
 
 // The i-th word at the start of the buffer, and its length. One that is longer than the buffer comes as none, and so does one that is not there.
