@@ -8,6 +8,7 @@ use read_form::{FormReader, Grid};
 
 pub mod tables;
 
+// stays: a table of its own for each house, which a computed test of its own proves; a generic one would name both.
 static GRID: Grid = tables::TABLE;
 
 pub fn reader() -> FormReader<'static>

@@ -14,6 +14,7 @@ use read_line::Line;
 use sheet::Sheet;
 
 // A line after those of a sheet: questions 5 to 10 and 16, and its numbers into the arrays.
+// stays: a slice for each list, here and below, as in read_steps.
 #[tactic(auto, unfolding(read_questions::specs::Steps::step_of))]
 fn line_step(
     house: House,
@@ -104,8 +105,8 @@ fn pass(
     Ok(s)
 }
 
-// The pass over the text: every question but 1 and 12. The numbers of units and rules go into the arrays. Each house has a call
-// of its own, so that the compiler keeps the table's place in a register.
+// The pass over the text: every question but 1 and 12. The numbers of units and rules go into the arrays.
+// stays: a call for each house, so that the compiler keeps the table's place in a register.
 pub fn ask_text(
     house: House,
     text: &[u8],

@@ -13,6 +13,7 @@ pub const CLASSES: usize = 32;
 
 pub const STATES: usize = 82;
 
+// stays: states are numbers, for they are the places of the tables' rows.
 // The state in which the first byte of a line is read. A state below ENDS says that the line has ended, and what it is; one from there on and below STOPS
 // that a number has begun, and which.
 pub const START: usize = 16;

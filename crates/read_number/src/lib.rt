@@ -47,7 +47,8 @@ fn faulty(s: &[u8], at: usize) -> Number
     }
 }
 
-// The number whose first digit stands at a place, before a line feed. Digit by digit and without a loop, for most numbers have one digit or two.
+// The number whose first digit stands at a place, before a line feed.
+// stays: digit by digit and without a loop, for most numbers have one digit or two.
 pub fn number_at(s: &[u8], at: usize) -> Number
     requires { (has_feed (drop at s.now) ≡ true) × (is_digit (get_or s.now at 0) ≡ true) }
     ensures value { result ≡ number_read (leading (drop at s.now)) at }

@@ -84,6 +84,7 @@ pub fn seek(text: &[u8], kind: Kind, j: usize) -> Result<Spot, usize>
 }
 
 // Its number, from 1; 0 where there is no such line.
+// stays: 0 for none, as pages have it.
 pub fn line_number(text: &[u8], kind: Kind, j: usize) -> usize
     ensures { result ≡ (get_or (spots kind text.now) j no_spot).number }
 {

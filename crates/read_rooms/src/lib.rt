@@ -35,6 +35,7 @@ pub fn lists_fit(
 }
 
 // The fronts of the arrays into the rooms, which are long enough.
+// stays: a slice for each list, as the C interface lends them.
 pub fn fill(
     s: Sheet,
     numbers: &[u16],

@@ -21,6 +21,7 @@ struct Stop {
 pub struct Scanned {
     pub end: usize,
     pub kind: Kind,
+    // stays: a flag, for what the line is decides whether question 4 is asked.
     pub plain: bool,
 }
 

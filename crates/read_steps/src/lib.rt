@@ -59,6 +59,7 @@ pub fn sheet_step(s: Sheet, span: u16) -> Result<Sheet, Question>
 }
 
 // Questions 5, 7, 8 and 10; a rule that passes is kept.
+// stays: a slice for each list, as the C interface lends them; a struct of mutable borrows would be taken apart again at each write.
 pub fn rule_step(
     s: Sheet,
     from: u16,
