@@ -17,6 +17,7 @@ pub enum LinePlace {
 }
 
 // The first place of a loader number, or how many numbers there are.
+// stays: how many, and not none: the place past all units is where `locate` finds that no unit stands, and asks question 27
 fn place_of(numbers: &[u16], loader: u16) -> usize
     ensures { result ≡ loader_place numbers.now loader }
 {

@@ -9,6 +9,7 @@ use questions::Refusal;
 #[derive(Clone, Copy)]
 pub struct Blamed {
     pub refusal: Refusal,
+    // stays: a number, as pages and the C replies have it
     pub sheet: usize,
 }
 

@@ -12,6 +12,7 @@ use questions::{Question, Refusal};
 use sheet::Sheet;
 
 // Reading's questions but 12, of a text of our own. Its units and rules go into the arrays behind those that stand there.
+// stays: seven arrays, since `join` lends columns of its own for the rules beside its lists of the units
 pub fn read_behind(
     text: &[u8],
     units: usize,

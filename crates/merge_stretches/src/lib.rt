@@ -15,6 +15,7 @@ use read_form::Kind;
 use sheet::Sheet;
 
 // The questions of the combined rules, by the stretches of the second sheet's rules and the place of the one that makes too many.
+// stays: the columns side by side, as `merge_rules::combine` takes and leaves them
 fn ask_combined(
     two: &[u8],
     from: &[u16],
@@ -31,6 +32,7 @@ fn ask_combined(
         ≡ first_no (stretch_questions two.now (last_at from.now to.now)
         (rules_of froms.now tos.now lows.now highs.now) past) }
 {
+    // stays: the number of rules where none crosses, as `first_crossed` tells it by its clause
     let p = merge_rules::first_crossed(lows, highs);
     if p < froms.len() {
         let last = merge_rules::last_on(from, to, froms[p], tos[p]);
@@ -43,6 +45,7 @@ fn ask_combined(
 }
 
 // The questions of the rules of both sheets, of which the first has n, and the combined rules at the front of the arrays: how many they are.
+// stays: the columns side by side, as `merge_rules::combine` takes and leaves them
 pub fn ask_rules(
     two: &[u8],
     n: usize,
