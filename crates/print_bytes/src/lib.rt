@@ -6,6 +6,7 @@ ghost use Rattle.print_bytes.specs.Writing.{Room, Written, no_number, one_number
 
 // Words, numbers and lines, written into a slice from a place on. Each function gives the place just past what it wrote; that the slice holds it is
 // asked of the caller, so that no byte is asked whether it fits.
+// stays: a page and a place, and no writer with methods. A lent page inside a struct gets its proof by hand today, as print_writer has it
 
 pub fn put_word(page: &mut [u8], at: usize, word: &[u8]) -> usize
     requires { Room page.old at word.now }

@@ -4,6 +4,8 @@ ghost use Rattle.print_bytes.specs.Writing.{Room, Written, unit_line, carried_li
 
 use print_bytes::{put_no_number, put_pair};
 
+// stays: each line its own calls of `put_pair`. One function over a list of words and numbers takes nearly twice the instructions
+
 // The line of a unit.
 pub fn put_unit(
     page: &mut [u8],

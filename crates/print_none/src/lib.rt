@@ -67,6 +67,7 @@ fn step_at(ring: &[u16], i: usize) -> (Boundary, Boundary)
     (Boundary(ring[i] as usize), Boundary(ring[next] as usize))
 }
 
+// stays: the limits, w and the ring by themselves, as callers have them. `RingFits` is the one fact of all three
 fn put_steps(page: &mut [u8], at: usize, limits: &[i16], w: usize, ring: &[u16]) -> usize
     requires ring_fits { RingFits w limits.now ring.now }
     requires room { Room page.old at (joined (ring_lines (entry w limits.now) ring.now)) }

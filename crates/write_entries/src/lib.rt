@@ -28,6 +28,7 @@ pub fn put_span(house: House, page: &mut [u8], at: usize, span: u16) -> usize
     }
 }
 
+// stays: each line its own calls of `put_pair`. One function over a list of words and numbers takes nearly twice the instructions
 fn put_own_unit(page: &mut [u8], at: usize, loader: u16, first: u16, last: u16) -> usize
     requires { Room page.old at (form_line unit_form (loader ∷ first ∷ last ∷ [])) }
     ensures { Written page.old at (form_line unit_form (loader ∷ first ∷ last ∷ [])) page.new result }
