@@ -24,6 +24,7 @@ pub fn windows_inside(first: &[u16], last: &[u16], w: usize, t: &mut [i16])
     ensures { t.new ≡ table_of w (inside_weights (windows_of first.now last.now)) ++ drop (w * w) t.old }
 {
     exact_windows(first, last, w, t);
+    // stays: both loops count boundaries, of which the places of the table come.
     for a in 1..w {
         let row = a * w;
         let mut sum: i16 = 0;
