@@ -5,9 +5,9 @@ ghost use Rattle.print_bytes.specs.Writing.{with_bytes};
 ghost use Rattle.convert_lists.specs.Converting.{converted, converting};
 ghost use Rattle.convert_lists.specs.Converting as says;
 
-use convert_lists::{Converted, convert_fronts, refuse};
+use convert_lists::{Converted, convert_sheet, refuse};
 use forms::House;
-use sheet::Sheet;
+use read_arrays::SheetArrays;
 use write_lines::MAX_TEXT;
 
 // Converts a text of one house into a text of another, from the first place of the page on: what reading asks, then what the other house asks, and then the
@@ -16,28 +16,9 @@ pub fn convert(from: House, to: House, text: &[u8], page: &mut [u8; MAX_TEXT]) -
     ensures { (says.reply_of result ≡ converting from to text.now)
         × (page.new ≡ with_bytes page.old 0 (converted from to text.now)) }
 {
-    let mut loader = [0u16; Sheet::MAX_UNITS];
-    let mut first = [0u16; Sheet::MAX_UNITS];
-    let mut last = [0u16; Sheet::MAX_UNITS];
-    let mut starts = [0u16; Sheet::MAX_RULES];
-    let mut ends = [0u16; Sheet::MAX_RULES];
-    let mut low = [0u16; Sheet::MAX_RULES];
-    let mut high = [0u16; Sheet::MAX_RULES];
-    let reading = read::read(
-        from,
-        text,
-        &mut loader,
-        &mut first,
-        &mut last,
-        &mut starts,
-        &mut ends,
-        &mut low,
-        &mut high,
-    );
-    match reading {
+    let mut arrays = SheetArrays::cleared();
+    match arrays.read(from, text) {
         Err(refusal) => refuse(page, refusal),
-        Ok(s) => convert_fronts(
-            to, s, &loader, &first, &last, &starts, &ends, &low, &high, page,
-        ),
+        Ok(s) => convert_sheet(to, &arrays.lists(s), page),
     }
 }

@@ -4,8 +4,7 @@ ghost use Rattle.std.specs.Prelude.{◌≡◌, ◌≤◌, ◌<◌, length};
 ghost use Rattle.questions.specs.Questions.{first_no};
 ghost use Rattle.sheet.specs.Sizes.{max_bytes};
 ghost use Rattle.sheet.specs.Lists.{given_by, written_by};
-ghost use Rattle.read_questions.specs.Reading.{rooms};
-ghost use Rattle.read_whole.specs.Fronts.{fronts, Held};
+ghost use Rattle.plan_ask.specs.Asking.{Listed};
 ghost use Rattle.write_ask.specs.HouseQuestions.{house_questions};
 ghost use Rattle.sheet_texts.specs.SheetText.{sheet_text};
 ghost use Rattle.print_bytes.specs.Writing.{with_bytes, refused_line};
@@ -14,7 +13,7 @@ ghost use Rattle.convert_lists.specs.Converting as says;
 
 use forms::House;
 use questions::Refusal;
-use sheet::Sheet;
+use sheet::WrittenLists;
 use write_lines::MAX_TEXT;
 
 // What was written on the page: the place just past it; and the refusal, where it is the line of one and not the sheet as a text of the other house.
@@ -37,34 +36,18 @@ pub fn refuse(page: &mut [u8; MAX_TEXT], refusal: Refusal) -> Converted
     }
 }
 
-// What the house asks of the sheet that reading left at the front of the lists, and then its text.
-pub fn convert_fronts(
-    house: House,
-    s: Sheet,
-    loader: &[u16],
-    first: &[u16],
-    last: &[u16],
-    from: &[u16],
-    to: &[u16],
-    low: &[u16],
-    high: &[u16],
-    page: &mut [u8; MAX_TEXT],
-) -> Converted
-    requires { Held s (rooms loader.now first.now last.now from.now to.now low.now high.now) }
-    ensures { let l = fronts s (rooms loader.now first.now last.now
-        from.now to.now low.now high.now) in
-        let v = first_no (house_questions house (given_by l)) in
-        let text = sheet_text house (written_by l) in
+// What the house asks of a sheet, which planning accepts, and then its text.
+pub fn convert_sheet(house: House, lists: &WrittenLists<'_>, page: &mut [u8; MAX_TEXT]) -> Converted
+    requires { Listed lists.now }
+    ensures { let v = first_no (house_questions house (given_by lists.now)) in
+        let text = sheet_text house (written_by lists.now) in
         (says.reply_of result ≡ reply_by v text) × (page.new ≡ with_bytes page.old 0 (bytes_by v text)) }
 {
-    let n = s.units;
-    let r = s.rules;
-    match write_ask::ask_house(house, s.span, &last[..n], &low[..r]) {
+    let given = &lists.constraints;
+    match write_ask::ask_house(house, given.span, given.last, given.low) {
         Err(refusal) => refuse(page, refusal),
         Ok(()) => {
-            let next = write_fronts::put_fronts(
-                house, s, loader, first, last, from, to, low, high, page,
-            );
+            let next = write_lines::put_sheet(house, page, 0, lists);
             Converted {
                 place: next,
                 refusal: None,

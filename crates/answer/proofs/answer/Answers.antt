@@ -1,26 +1,20 @@
--- Reading's answer decides: its refusal is printed, or the sheet that it left at the front of the lists is answered.
-use Rattle.std.proofs.Common.{ℕ, ◌≡◌, ◌≤◌, ◌<◌, List, replicate, refl, arith}
-use Rattle.read_questions.specs.Reading.{ListRooms, rooms, rooms_for_all}
+-- Reading's answer decides: its refusal is printed, or the sheet that it left at the front of the arrays is answered.
+use Rattle.std.proofs.Common.{◌≡◌, ◌≤◌, ◌<◌, sym, ap, subst, arith}
+use Rattle.plan_ask.specs.Asking.{Listed}
+use Rattle.read_questions.specs.Reading.{rooms_for_all}
 use Rattle.read_rooms.specs.Rooms.{sizes_of}
-use Rattle.sheet.specs.Sizes.{max_units, max_rules, max_bytes}
-use Rattle.print_bytes.proofs.WritingLaws.{refused_short}
 use Rattle.read_whole.specs.WholeLaws.{refused_small, read_held}
+use Rattle.read_arrays.specs.Arrays.{lists_in}
+use Rattle.sheet.specs.Sizes.{max_bytes}
+use Rattle.print_bytes.proofs.WritingLaws.{refused_short}
 use Rattle.answer_conditions.proofs.AnswerLaws.{refused_answer, read_answered}
 use Rattle.answer.proofs.answer.Goals.{In-Err}
 use Rattle.answer.proofs.answer.Goals as goal
 
--- the lists as the call makes them
-abbrev empty : ListRooms (List ℕ)
-empty =
-    let units : List ℕ = replicate max_units 0 in
-    let rules : List ℕ = replicate max_rules 0 in
-    rooms units units units rules rules rules rules
-
-sizes : sizes_of empty ≡ rooms_for_all
-sizes = refl
-
 small : (c : In-Err) → let f = c.in-Err.refusal in (f.number < 100) × (f.line ≤ max_bytes)
-small c = refused_small c.args.house c.args.text.now empty sizes _ _ c.in-Err.ensures.result_value
+small c =
+    let sizes : sizes_of (lists_in c.cleared-arrays.result) ≡ rooms_for_all = ap sizes_of c.cleared-arrays.ensures in
+    refused_small c.args.house c.args.text.now (lists_in c.cleared-arrays.result) sizes _ _ c.in-Err.ensures.result_value
 
 pub overflow_cast-refusal : goal.overflow_cast-refusal
 overflow_cast-refusal c = omega (arith, (small (goal.at.overflow_cast-refusal c).In-Err).0)
@@ -35,22 +29,29 @@ put_refusal-requires c =
     let s = small (goal.at.put_refusal-requires c).In-Err in
     record { fits = omega (arith, refused_short f.number f.line s.0 (omega (arith, s.1))) }
 
-pub answer_fronts-requires : goal.answer_fronts-requires
-answer_fronts-requires c =
-    let k = c.read-reading.new in
-    let after = rooms k.loader k.first k.last k.from k.to k.low k.high in
-    read_held c.args.house c.args.text.now empty sizes c.in-Ok.s c.in-Ok.ensures.result_value after c.in-Ok.ensures.high_after
+pub lists-requires : goal.lists-requires
+lists-requires c =
+    let sizes : sizes_of (lists_in c.cleared-arrays.result) ≡ rooms_for_all = ap sizes_of c.cleared-arrays.ensures in
+    read_held c.args.house c.args.text.now (lists_in c.cleared-arrays.result) sizes c.in-Ok.s c.in-Ok.ensures.result_value _ c.in-Ok.ensures.high_after
+
+pub answer_sheet-requires : goal.answer_sheet-requires
+answer_sheet-requires c =
+    let sizes : sizes_of (lists_in c.cleared-arrays.result) ≡ rooms_for_all = ap sizes_of c.cleared-arrays.ensures in
+    let held = read_held c.args.house c.args.text.now (lists_in c.cleared-arrays.result) sizes c.in-Ok.s c.in-Ok.ensures.result_value _
+    c.in-Ok.ensures.high_after in
+    subst Listed (sym c.lists.ensures) held.passes
 
 pub returns-in-Err : goal.returns-in-Err
-returns-in-Err c = record {
-  bytes = _;
-  answers = refused_answer c.args.house c.args.text.now empty sizes _ _ c.in-Err.ensures.result_value c.args.query;
-  written = c.put_refusal.ensures;
-}
+returns-in-Err c =
+    let sizes : sizes_of (lists_in c.cleared-arrays.result) ≡ rooms_for_all = ap sizes_of c.cleared-arrays.ensures in
+    record {
+      bytes = _;
+      answers = refused_answer c.args.house c.args.text.now (lists_in c.cleared-arrays.result) sizes _ _ c.in-Err.ensures.result_value c.args.query;
+      written = c.put_refusal.ensures;
+    }
 
 pub returns-in-Ok : goal.returns-in-Ok
 returns-in-Ok c =
-    let k = c.read-reading.new in
-    let after = rooms k.loader k.first k.last k.from k.to k.low k.high in
-    read_answered c.args.house c.args.text.now empty sizes c.in-Ok.s c.in-Ok.ensures.result_value after c.in-Ok.ensures.high_after
-    c.args.query _ _ _ c.answer_fronts.ensures
+    let sizes : sizes_of (lists_in c.cleared-arrays.result) ≡ rooms_for_all = ap sizes_of c.cleared-arrays.ensures in
+    read_answered c.args.house c.args.text.now (lists_in c.cleared-arrays.result) sizes c.in-Ok.s c.in-Ok.ensures.result_value _ c.in-Ok.ensures.high_after
+    c.args.query _ _ _ (rw c.lists.ensures at c.answer_sheet.ensures)
