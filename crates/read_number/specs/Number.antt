@@ -1,5 +1,5 @@
 -- What the number reader answers at a place of a text.
-use Rattle.std.specs.Prelude.{ℕ, ◌+◌, Bool, cond, List, length, Option, Some, None}
+use Rattle.std.specs.Prelude.{ℕ, ◌+◌, cond, List, length, Option, Some, None}
 use Rattle.forms.specs.Form.{plain, value}
 use Rattle.read_number.specs.declared.Number.{Number}
 

@@ -1,5 +1,5 @@
 -- Digit by digit: at each test the digits so far are known (`Upto` of NumberLaws), and each return is one case of what they make.
-use Rattle.std.proofs.Common.{◌≡◌, ◌+◌, ℕ, List, [], ◌∷◌, true, false, not, length, get_or, drop, refl, sym, ap, subst, ◌∙◌, arith, ne_eqb, None}
+use Rattle.std.proofs.Common.{◌≡◌, ◌+◌, [], ◌∷◌, true, not, length, get_or, drop, refl, sym, ap, subst, ◌∙◌, arith, ne_eqb, None}
 use lib.Dec.{eqb}
 use Rattle.forms.specs.Form.{is_digit, leading, value_from}
 use Rattle.read_number.specs.Number.{number_with, number_read}

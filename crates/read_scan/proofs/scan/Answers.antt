@@ -1,13 +1,13 @@
 -- At the line feed nothing is left to gather; at a number its value goes to the place of its state, and the line is read on past its digits.
-use Rattle.std.proofs.Common.{◌≡◌, ◌+◌, ◌-◌, ◌<◌, ◌≤◌, ◌&&◌, ℕ, Bool, true, false, cond, length, set, drop, refl, sym, ap, subst, ◌∙◌, arith, rules, Option, Some, None, IfSome, is_some}
+use Rattle.std.proofs.Common.{◌≡◌, ◌+◌, ◌-◌, ◌≤◌, ◌&&◌, ℕ, Bool, true, false, cond, length, set, drop, refl, sym, ap, subst, ◌∙◌, arith, Option, Some, None, IfSome, is_some}
 use Rattle.std.specs.Option.{unwrap_or}
 use Rattle.forms.specs.Form.{leading, plain, value}
 use Rattle.forms.specs.declared.House.{House}
-use Rattle.read_form.specs.Grid.{ends, stops}
+use Rattle.read_form.specs.Grid.{ends}
 use Rattle.read_form.specs.Reader.{Serves}
-use Rattle.read_number.specs.Number.{max_number, read_value, number_read}
+use Rattle.read_number.specs.Number.{max_number, number_read}
 use Rattle.read_scan.specs.Scan.{AtNumber, Resumes}
-use Rattle.read_scan.specs.ScanLaws.{feed_here, Gathering, gathered_all, next_past, next_resumes, gathered_more, small_set, number_inside}
+use Rattle.read_scan.specs.ScanLaws.{feed_here, Gathering, gathered_all, next_past, next_resumes, gathered_more, small_set}
 use Rattle.read_scan.proofs.scan.Goals as goal
 use Rattle.read_scan.proofs.scan.Goals.{After-number_at-number}
 

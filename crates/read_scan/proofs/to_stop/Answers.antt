@@ -1,7 +1,7 @@
 use Rattle.std.proofs.Common.{◌≡◌, ◌<◌, ℕ, List, length, ap, ◌∙◌, arith}
 use Rattle.forms.specs.declared.House.{House}
 use Rattle.read_form.specs.Grid.{class_of, entry_of, next_of, Tables}
-use Rattle.read_scan.specs.ScanLaws.{feed_here, Scanning, Past, scanning_start, past_byte}
+use Rattle.read_scan.specs.ScanLaws.{feed_here, Scanning, scanning_start, past_byte}
 use Rattle.read_scan.proofs.to_stop.Goals as goal
 use Rattle.read_scan.proofs.to_stop.Goals.{In-loop-state}
 
