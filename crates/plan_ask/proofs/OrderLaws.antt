@@ -1,7 +1,7 @@
 -- What the questions of a call's lists come to, by the answers that the code had: the first no, or none.
 -- Key idea: past a yes the questions that are left decide, each from the place just before it.
 use Rattle.std.specs.Prelude.{◌≡◌, Bool, true, false, List, [], ℕ, ◌≤◌, ◌<◌, T, length, drop}
-use Rattle.std.proofs.Common.{sym, ap, ◌∙◌, subst, arith}
+use Rattle.std.proofs.Common.{sym, ap, ◌∙◌, subst}
 use borrow.Author.Tests.{le-leb, lt-leb}
 use Rattle.questions.specs.declared.Refusal.{Refusal}
 use Rattle.questions.specs.Questions.{Verdict, no, all_yes, first_no}

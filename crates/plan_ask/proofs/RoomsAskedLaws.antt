@@ -2,7 +2,7 @@
 -- Key idea: the lists' verdict goes on to that of the rooms.
 use Rattle.std.specs.Prelude.{◌≡◌, Bool, cond, List, ℕ, ◌≤◌, length}
 use Rattle.std.proofs.Common.{sym, ap, ◌∙◌, subst}
-use Rattle.questions.specs.Questions.{Verdict, no, all_yes, first_no}
+use Rattle.questions.specs.Questions.{no, all_yes, first_no}
 use Rattle.sheet.specs.Sizes.{max_slots, boundaries_of}
 use Rattle.sheet.specs.Lists.{Lists, WrittenLists, given_by}
 use Rattle.plan_rooms.specs.Rooms.{lengths_fit, rooms_fit}
