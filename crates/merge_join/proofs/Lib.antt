@@ -1,2 +1,3 @@
 pub mod JoinLaws
 pub mod ReadLaws
+pub mod ClearedLaws

@@ -1,1 +1,2 @@
 pub mod NextLevelLaws
+pub mod CopiedLaws

@@ -37,6 +37,9 @@ is_stopped : (p : Passed) → Err (record {}) ≡ outcome_of p → p ≡ stopped
 is_stopped (finished t) e = let z : ◌≡◌ {A = ℕ} 0 1 = cc in absurd (omega arith)
 is_stopped stopped e = refl
 
+cleared_twice : (n : ℕ) (t : List ℤ) → cleared n (cleared n t) ≡ cleared n t
+cleared_twice n t = ap (λ (r : List ℤ). replicate n (pos 0) ++ r) (drop_at (replicate n (pos 0)) (drop n t) n (length-replicate n (pos 0)))
+
 -- where the pass finished, as `ok` tells it
 pub finished_ok : (r : Outcome) (u : Unit {0}) → Some u ≡ result_ok r → r ≡ Ok tt
 finished_ok (Ok x) u e = refl
@@ -107,6 +110,9 @@ module _ (l : Lists) (fit : Bool) (S : Solvable l fit) (room : List ℤ) (big : 
           subst (λ (p : Passed). SeatSettled (by_pass p) s (seat_rooms room plan earliest latest) says.plan (seat_rooms table plan' earliest' latest')) (sym e)
           (refl, rw (is, f.seats, f.early, f.late))
 
+      pub looks_left : looks ≡ looked_by (by_pass (passed s)) s
+      looks_left = f.seen ∙ ap (λ (p : Passed). looked_by (by_pass p) s) (sym e)
+
   -- ---- the pass, closed
   module _ (r : Outcome) (table : List ℤ) (d : Closed s room r table) where
     module _ (e : r ≡ Err (record {})) where
@@ -122,6 +128,16 @@ module _ (l : Lists) (fit : Bool) (S : Solvable l fit) (room : List ℤ) (big : 
           let k = cleared_length (places s) room big in
           (record { agree = S.lists; ok = S.sheet; fits = omega (arith, big, k, ap length table_cleared) }, long, halted)
 
+      pub ring_left_lem : (ring : List ℕ) (k : ℕ) (zeros : List ℤ) (ring' : List ℕ) → RingFound s table ring k zeros ring'
+          → DecideSettled (by_pass (passed s)) s (decide_rooms room ring) (says.none k) (decide_rooms zeros ring')
+      ring_left_lem ring k zeros ring' R =
+          let z : zeros ≡ cleared (places s) room = R.zeros ∙ ap (cleared (places s)) table_cleared ∙ cleared_twice (places s) room in
+          subst (λ (p : Passed). DecideSettled (by_pass p) s (decide_rooms room ring) (says.none k) (decide_rooms zeros ring')) (sym halted)
+          (R.ring, R.closed, ap says.none R.size, ap₂ decide_rooms z R.front)
+
+      pub none_looked : 0 ≡ looked_by (by_pass (passed s)) s
+      none_looked = ap (λ (p : Passed). looked_by (by_pass p) s) (sym halted)
+
       -- what seating leaves then; the check finds this by itself in `seat`, and it stands here to hold `unseated` to it
       pub none_seated : (plan earliest latest : List ℕ)
           → SeatSettled (by_pass (passed s)) s (seat_rooms room plan earliest latest) (says.none 0) (seat_rooms table plan earliest latest)
@@ -134,6 +150,12 @@ module _ (l : Lists) (fit : Bool) (S : Solvable l fit) (room : List ℤ) (big : 
       closed_table =
           let f = is_finished (passed s) (sym e ∙ d.outcome) in
           (f.0, f.1, d.table ∙ ap (λ (p : Passed). table_left s p room) f.1)
+
+      pub fits_left : (ring : List ℕ) → DecideSettled (by_pass (passed s)) s (decide_rooms room ring) says.plan (decide_rooms table ring)
+      fits_left ring =
+          let f = closed_table in
+          subst (λ (p : Passed). DecideSettled (by_pass p) s (decide_rooms room ring) says.plan (decide_rooms table ring)) (sym f.1)
+          (refl, ap (λ (x : List ℤ). decide_rooms x ring) f.2)
 
       pub ready_closed : (read : Lists) → read ≡ l → (w : ℕ) → w ≡ boundaries_of read.span → Ready s w read.first read.last table
       ready_closed = let f = closed_table in ready_read f.0 f.1 table f.2

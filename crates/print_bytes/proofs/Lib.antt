@@ -1,2 +1,3 @@
 pub mod WritingLaws
 pub mod DigitLaws
+pub mod LineParts

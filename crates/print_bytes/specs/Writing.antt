@@ -74,3 +74,6 @@ two_numbers first second end = word first ∷ number ∷ one_number second end
 
 abbrev pub three_numbers : List ℕ → List ℕ → List ℕ → List ℕ → List Piece
 three_numbers first second third end = word first ∷ number ∷ two_numbers second third end
+
+abbrev pub four_numbers : List ℕ → List ℕ → List ℕ → List ℕ → List ℕ → List Piece
+four_numbers first second third fourth end = word first ∷ number ∷ three_numbers second third fourth end

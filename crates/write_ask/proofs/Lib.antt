@@ -1,1 +1,2 @@
 pub mod HouseQuestionsLaws
+pub mod FaultLaws
