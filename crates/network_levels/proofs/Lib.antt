@@ -1,2 +1,1 @@
 pub mod NextLevelLaws
-pub mod CopiedLaws

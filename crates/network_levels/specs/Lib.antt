@@ -3,3 +3,4 @@ pub mod LevelLaws
 pub mod Finder
 pub mod LevelRange
 pub mod LevelSteps
+pub mod CopiedLaws

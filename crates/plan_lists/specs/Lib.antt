@@ -1,2 +1,3 @@
 pub mod Rising
 pub mod RisingLaws
+pub mod RisingFrom
