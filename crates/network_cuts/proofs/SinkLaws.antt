@@ -2,7 +2,7 @@
 -- Key idea: z starts as the row of the boundary before the window, the highest feasible potential that is 0 there. An arc that z does not keep forces
 -- its end b down to k, and the table carries that on: every z(c) becomes min(z(c), k + D(b, c)), which is feasible again and still above all that
 -- keep the arcs. Where this takes z below 0 at its start, nothing keeps the arcs. It ends because z stays above what the table allows.
-use mathlib.Core.Path.{◌≡◌, subst, ◌∙◌}
+use mathlib.Core.Path.{◌≡◌, subst}
 use mathlib.Core.Logic.{⊎_elim}
 use Prim.Native.Nat.{ℕ, zero, suc, ◌-◌, ◌≤◌, ◌<◌}
 use native.Mathlib.Omega.{arith}
@@ -21,14 +21,6 @@ row : {top : ℕ} {D : Weights} → Closed top D → (b : ℕ) → b ≤ top →
 row net b hb p q hp hq = net.closed p b q (omega arith) hb hq
 
 module _ {top : ℕ} {D E : Weights} {f v l : ℕ} (net : Closed top D) (hf : 1 ≤ f) (ht : f ≤ top) where
-  -- the row of the boundary before the window
-  pub sunk_row : {z : Potential} → ((c : ℕ) → c ≤ top → z c ≡ D (f - 1) c) → Sunk top D E f v l z
-  sunk_row {z} is = record {
-    feasible = λ a b ha hb. omega (ints, row net (f - 1) (omega arith) a b ha hb, is a ha, is b hb, sum (z a) (D a b), sum (D (f - 1) a) (D a b));
-    start = is (f - 1) (omega arith) ∙ net.diagonal (f - 1) (omega arith);
-    above = λ y g k c hc. omega (ints, g (f - 1) c (omega arith) hc, is c hc, sum (y (f - 1)) (D (f - 1) c), sum (z c) (y (f - 1)));
-  }
-
   module _ {z : Potential} (s : Sunk top D E f v l z) where
     -- z lies between what the table allows
     sunk_low : (c : ℕ) → c ≤ top → pos 0 ≤ℤ (z c +ℤ D c (f - 1))

@@ -1,6 +1,6 @@
 -- Sums of two modest numbers fit 16 bits, and the least of several is found one place at a time.
 -- Key idea: the smaller of the least sum so far and of the sum at place i bounds the sums of the places below i + 1, and is one of them.
-use mathlib.Core.Path.{refl, ◌∙◌}
+use mathlib.Core.Path.{◌∙◌}
 use mathlib.Core.Logic.{⊎_elim}
 use mathlib.Core.List.{List}
 use Prim.Native.Nat.{ℕ, ◌+◌, ◌<◌}
@@ -18,9 +18,6 @@ pub sum_fits : (a b : ℤ) → Within 1000 a → Within 1000 b → SFits w16 (a 
 sum_fits a b p q = fits_within w16 (a +ℤ b) 2000 tt (omega (arith, sum a b)) (omega (arith, sum a b))
 
 -- ---- least sums
-pub least_first : (xs ys : List ℤ) → 0 < length xs → LeastSum 0 xs ys (value_at xs 0 +ℤ value_at ys 0)
-least_first xs ys h = record { bound = λ i l. absurd (omega arith); place = 0; inside = h; attained = refl }
-
 pub least_more : (i : ℕ) (xs ys : List ℤ) (r : ℤ) → i < length xs → LeastSum i xs ys r → LeastSum (i + 1) xs ys (min_ℤ r (value_at xs i +ℤ value_at ys i))
 least_more i xs ys r h s =
     let x = value_at xs i +ℤ value_at ys i in

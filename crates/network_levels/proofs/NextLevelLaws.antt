@@ -3,19 +3,16 @@
 use Prim.Native.Nat.{ℕ, suc, ◌+◌, ◌*◌, ◌≤◌, ◌<◌}
 use native.Mathlib.Omega.{arith}
 use native.Mathlib.Numerals.{add-one}
-use mathlib.Core.Path.{◌≡◌, refl, sym, ap, subst, ◌∙◌}
+use mathlib.Core.Path.{◌≡◌, refl, ap, ◌∙◌}
 use mathlib.Core.List.{List}
-use lib.ListN.{length, get_or, take, drop, length-take}
+use lib.ListN.{length, get_or, take, drop}
 use lib.IntN.{ℤ, pos, ◌+ℤ◌}
-use mir.Syntax.{w16}
-use mir.Val.{SFits}
 use Rattle.integers.specs.Parts.{min_ℤ}
 use Rattle.lists.specs.Slices.{part_at}
 use Rattle.lists.specs.Values.{list_of, length_list_of, list_of_at, list_of_is, list_of_same}
 use Rattle.network.specs.Table.{entry}
-use Rattle.network.specs.RowStep.{relaxed_at, relaxed, SumsFit}
+use Rattle.network.specs.RowStep.{relaxed_at, relaxed}
 use Rattle.network_levels.specs.Levels.{least_over}
-use Rattle.network_levels.specs.Finder.{StepsFit}
 
 -- the least of prev and of what the steps from the boundaries below u leave
 abbrev pub reached_by : ℕ → List ℤ → List ℤ → ℕ → ℕ → ℤ
@@ -33,10 +30,3 @@ reached_next w u k d prev row am h ek fits ea er =
     ap (λ (x : ℤ). min_ℤ x (am +ℤ get_or mid j (pos 0))) (ap (λ (x : List ℤ). get_or x j (pos 0)) er ∙ list_of_at (reached_by w d prev u) w j (pos 0) l)
     ∙ ap (λ (x : ℤ). min_ℤ (reached_by w d prev u j) (x +ℤ get_or mid j (pos 0))) ea
     ∙ ap (λ (x : ℤ). min_ℤ (reached_by w d prev u j) (get_or prev u (pos 0) +ℤ x)) (part_at (u * w) k d (pos 0) j (omega arith))))
-
--- the sums of the steps from u fit 16 bits
-pub row_sums : (w u k : ℕ) (d prev : List ℤ) (am : ℤ) → u < w → k ≡ w → am ≡ get_or prev u (pos 0) → StepsFit w d prev → SumsFit am (take k (drop (u * w) d))
-row_sums w u k d prev am h ek ea f j l =
-    let hj : j < k = omega (arith, length-take k (drop (u * w) d)) in
-    subst (λ (x : ℤ). SFits w16 (am +ℤ x)) (sym (part_at (u * w) k d (pos 0) j hj))
-    (subst (λ (x : ℤ). SFits w16 (x +ℤ entry w d u j)) (sym ea) (f u j h (omega arith)))

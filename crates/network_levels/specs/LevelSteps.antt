@@ -14,7 +14,6 @@ use Rattle.std.specs.Int.{w16}
 use Rattle.integers.specs.Parts.{ints}
 use Rattle.lists.specs.Slices.{part_at, part_length, back, back_before, back_inside}
 use Rattle.lists.specs.Values.{list_of, length_list_of, list_of_at}
-use Rattle.network.specs.Network.{Potential, Feasible}
 use Rattle.network.specs.Table.{max_boundaries, entry}
 use Rattle.network_levels.specs.Levels.{least_over, lower, level}
 use Rattle.network_levels.specs.LevelLaws.{least_same, level_step, level_source, level_feasible}
@@ -104,9 +103,6 @@ module _ {w : ℕ} {d levels : List ℤ} (q : Leveled w d levels) where
 
 -- ---- a level read from its row
 module _ {w : ℕ} {d levels : List ℤ} (q : Leveled w d levels) where
-  pub level_inside : (k v : ℕ) → k ≤ w → v < w → k * w + v < length levels
-  level_inside k v hk hv = let h : k * w ≤ w * w = mul-le-mul_right w hk in omega (arith, q.long)
-
   -- what the step from u leaves v
   pub left_is : (k u v : ℕ) → k < w → u < w → (entry w levels k u +ℤ entry w d u v) ≡ level w (entry w d) k u +ℤ entry w d u v
   left_is k u v hk hu = ap (λ (z : ℤ). z +ℤ entry w d u v) (q.levels_are k u (omega arith) hu)

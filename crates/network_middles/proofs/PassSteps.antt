@@ -17,7 +17,7 @@ use mir.Syntax.{w16}
 use mir.Val.{SFits}
 use borrow.Author.Tests.{lt-ltb, le-leb}
 use Rattle.integers.specs.Parts.{min_ℤ}
-use Rattle.std.specs.Prelude.{Ok, Err}
+use Rattle.std.specs.Prelude.{Err}
 use Rattle.lists.specs.Lists.{run, joined}
 use Rattle.lists.specs.Members.{and_left, and_right}
 use Rattle.lists.specs.Slices.{part_at, part_length, back, back_length}
@@ -69,9 +69,6 @@ pub record ColsInv (am : ℤ) (mid old : List ℤ) (w a : ℕ) (row : List ℤ) 
   pub long : length row ≡ w
   pub form : Filled (relaxed_at am mid old) b old row
   pub fine : a < b → lt_z (relaxed_at am mid old a) (pos 0) ≡ false
-
-pub cols_start : {am : ℤ} {mid old : List ℤ} {w a : ℕ} → length old ≡ w → ColsInv am mid old w a old 0
-cols_start l = record { at_most = omega arith; wide = l; long = l; form = refl; fine = λ h. absurd (omega arith) }
 
 module _ {am : ℤ} {mid old : List ℤ} {w a : ℕ} {row : List ℤ} {b : ℕ} (v : ColsInv am mid old w a row b)
     (e : ℕ) (hb : b < e) (he : e ≤ w) {ys : List ℤ} (ey : ys ≡ relaxed am (take (e - b) (drop b mid)) (take (e - b) (drop b row))) where
@@ -271,18 +268,6 @@ module _ {t₀ t₁ : List ℤ} {w from to : ℕ} {mid₁ : List ℤ} {m : ℕ} 
         ∙ ap (λ (x : List ℤ). pass_from (to - (m + 1)) (suc m) w x) (sym (rows_done v ha))
         ∙ ap (λ (n : ℕ). pass_from (to - (m + 1)) n w t) (sym (add-one m));
   }
-
-  pub pass_ended : to ≤ m → Ran w t₀ (pass_from (to - from) from w t₀) (Ok tt) t₁
-  unfolding pass_from
-  pass_ended h =
-      let k : to - m ≡ 0 = omega (arith, p.at_most) in
-      let e : pass_from (to - from) from w t₀ ≡ finished t₁ = p.rest ∙ ap (λ (i : ℕ). pass_from i m w t₁) k in
-      record {
-        outcome = sym (ap outcome_of e);
-        table = λ x q. let r : finished t₁ ≡ finished x = sym e ∙ q in cc;
-        long = p.long;
-        past = p.past;
-      }
 
   -- the pass stops at a row, with the table half done
   pub pass_left : m < to → (u : List ℤ) → ((next : Passed) → after_rows w 0 w m t₁ next ≡ stopped)
