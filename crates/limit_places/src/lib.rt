@@ -14,6 +14,7 @@ pub fn place(from: Boundary, to: Boundary, w: usize) -> usize
 }
 
 // The place of the step forward over the slots first to last.
+// stays: two steps with a name each, here and below; a direction as an argument would be a flag.
 pub fn forward_place(first: u16, last: u16, w: usize) -> usize
     requires { (1 ≤ first) × (first ≤ last) × (slot_end last < w) × (w * w < 2 ^ 64) }
     ensures { result ≡ slot_start first * w + slot_end last }

@@ -38,6 +38,7 @@ impl Limit {
     }
 }
 
+// stays: functions, here and below: they ask that the number is small, and a `From` can ask nothing.
 pub fn signed(x: u16) -> i16
     requires { x ≤ max_count }
     ensures { result ≡ pos x }

@@ -16,6 +16,7 @@ pub fn fill_forward(n: usize, w: usize, t: &mut [i16])
     ensures { t.new ≡ table_of w (with_forward n (entry w t.old)) ++ drop (w * w) t.old }
 {
     let most = signed(n as u16);
+    // stays: boundaries are counted, from which the parts of the table come.
     for a in 0..w {
         let row = a * w;
         t[row + a + 1..row + w].fill(most);

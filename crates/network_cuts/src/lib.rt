@@ -66,6 +66,7 @@ impl CutWindow<'_> {
         ensures { Settles self.entry 0 (slot_end self.entry.f.0) z.old z.new result }
     {
         let mut fell = false;
+        // stays: boundaries are counted, which settling is given.
         for b in 0..self.f.end().0 {
             match self.settle(Boundary(b), z) {
                 Settled::Still => {}
@@ -81,6 +82,7 @@ impl CutWindow<'_> {
         requires { Sinks self z.old }
         ensures { let c = self.entry in Decides result (AdmitsAt c.w c.d.now c.m.now c.f.0 c.v.0 c.l.0) }
     {
+        // stays: a loop until the cut is settled; how often is known by no number.
         loop {
             match self.sweep(z) {
                 Settled::Still => return true,
@@ -114,6 +116,7 @@ pub fn least_cut(d: &[i16], m: &[i16], w: usize, f: Slot, l: Slot, low: Slot, kn
     let mut from = low.0;
     let mut to = known.0;
     let mut middle = low.0;
+    // stays: halving; no index is counted.
     while from < to {
         if admits(d, m, w, f, Slot(middle), l) {
             to = middle;

@@ -33,6 +33,7 @@ pub fn fill_levels(d: &[i16], w: usize, levels: &mut [i16])
     requires { Weighed w d.now × (w * w + w ≤ length levels.old) × LevelsUpTo w d.now levels.old 0 }
     ensures { LevelsUpTo w d.now levels.new w }
 {
+    // stays: levels are counted, and no places of one list.
     for k in 0..w {
         add_level(d, w, k, levels);
     }

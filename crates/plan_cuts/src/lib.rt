@@ -63,6 +63,7 @@ pub fn cut_windows(d: &[i16], m: &[i16], w: usize, marks: &mut [u16])
     ensures { CutRows w d.now m.now w marks.old marks.new }
 {
     let mut floor = [0u16; sheet::Sheet::MAX_BOUNDARIES];
+    // stays: the slot in which the windows of a row open is a number that cutting is given.
     for f in 1..w {
         let from = f * w;
         let to = from + w;

@@ -26,6 +26,7 @@ fn put_digits<const N: usize>(page: &mut [u8], at: usize, n: u16) -> usize
     ensures { Written page.old at (digits n) page.new result }
 {
     let mut rest = n;
+    // stays: places from the back, for the last digit comes first.
     for i in (0..N).rev() {
         page[at + i] = b'0' + (rest % 10) as u8;
         rest /= 10;

@@ -74,6 +74,7 @@ fn put_steps(page: &mut [u8], at: usize, limits: &[i16], w: usize, ring: &[u16])
     ensures { Written page.old at (joined (ring_lines (entry w limits.now) ring.now)) page.new result }
 {
     let mut next = at;
+    // stays: steps by their places, here and below, since the last goes back to the first.
     for i in 0..ring.len() {
         let (a, b) = step_at(ring, i);
         next = put_step(page, next, limits, w, a, b);

@@ -20,6 +20,7 @@ pub fn put_slots(page: &mut [u8], at: usize, span: usize, counts: &[u16], table:
         (greatest_from (boundaries_of span) table.now)) page.new result }
 {
     let mut next = at;
+    // stays: slots are counted, here and below, since a slot's number stands on its line.
     for t in 1..=span {
         let range = range_of(table, span, Slot(t));
         next = put_slot(page, next, t as u16, counts[t], range.least, range.greatest);

@@ -5,6 +5,7 @@ ghost use Rattle.std.specs.Prelude.{◌≡◌};
 ghost use Rattle.questions.specs.Numbers.{number_of};
 
 // The number of the question that was answered no, and the line; 0 where no line is to blame.
+// stays: numbers, since pages and C replies have them; `Question` has the names.
 #[derive(Clone, Copy)]
 pub struct Refusal {
     pub number: usize,

@@ -36,6 +36,7 @@ pub struct Found {
 pub fn lines_end(text: &[u8]) -> usize
     ensures { result ≡ whole_lines text.now }
 {
+    // stays: places from the back; with `rposition` the proof did not close, for its search from the back has no law.
     for n in (0..text.len()).rev() {
         if text[n] == b'\n' {
             return n + 1;
@@ -75,6 +76,7 @@ fn rule_line(house: House, from: u16, second: u16, third: u16, fourth: u16) -> L
 }
 
 // Question 4, of a line by its numbers.
+// stays: the scan's flag, here and in `read_line`; what the line is decides whether it is asked.
 fn checked(plain: bool, line: Line) -> Result<Line, Question>
     ensures { result ≡ cond plain (Ok line) (Err PlainNumbers) }
 {

@@ -57,6 +57,7 @@ pub fn scan(text: &[u8], at: usize, reader: FormReader<'_>, values: &mut [u16; N
     let mut state = START;
     let mut i = at;
     let mut plain = true;
+    // stays: a loop, for a line has as many numbers as its bytes say.
     loop {
         let stop = to_stop(text, i, state, reader);
         if stop.state < ENDS {

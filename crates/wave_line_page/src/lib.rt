@@ -16,6 +16,7 @@ pub const MAX_LINE: usize = Sheet::MAX_BYTES + 2;
 #[derive(Clone, Copy)]
 pub struct Shown {
     pub place: usize,
+    // stays: a number, as `Blamed` has it.
     pub blamed: Option<usize>,
 }
 
