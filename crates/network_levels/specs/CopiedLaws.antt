@@ -77,3 +77,8 @@ module _ {w : ℕ} {d levels : List ℤ} (q : Leveled w d levels) (k v : ℕ) (p
 
   pub source_found : (u : ℕ) → u < w → leaves_more w d levels k v u ≡ false → Source w d (k - 1) v u
   source_found u h f = record { inside = h; gives = omega (ints, f, target_is, level_step w (entry w d) (k - 1) u v h) }
+
+-- ---- a level read from its row
+module _ {w : ℕ} {d levels : List ℤ} (q : Leveled w d levels) where
+  pub level_inside : (k v : ℕ) → k ≤ w → v < w → k * w + v < length levels
+  level_inside k v hk hv = let h : k * w ≤ w * w = mul-le-mul_right w hk in omega (arith, q.long)
