@@ -6,9 +6,9 @@ use Rattle.tugrokt.proofs.seating.tugrokt_seat.Goals as goal
 
 pub returns : goal.returns
 returns c =
-    let called = c.seat-answer in
+    let called = c.seat in
     record {
       reply = seat_reply called.result;
       left = called.ensures.settled;
-      told = c.numbers_of.ensures ∙ ap (λ (k : ℕ). seating_of k (seat_reply called.result)) called.ensures.looked;
+      told = c.from.ensures ∙ ap (λ (k : ℕ). seating_of k (seat_reply called.result)) called.ensures.looked;
     }
