@@ -1,9 +1,10 @@
 -- From the pass's outcome to what a call leaves: none, with a ring or without, or a plan.
 -- Key idea: the outcome says which pass it was, and so which conclusion the rooms are left by; deciding comes first, and what it leaves is all that seats
 -- are filled in by.
-use Rattle.std.specs.Prelude.{◌≡◌, Bool, List, ℕ, ◌*◌, ◌≤◌, length, drop, ℤ, Some, Ok, Err}
+use Rattle.std.specs.Prelude.{◌≡◌, Bool, List, ◌++◌, ℕ, ◌*◌, ◌≤◌, length, drop, replicate, ℤ, pos, Some, Ok, Err}
 use Rattle.std.proofs.Math.Path.{refl}
-use Rattle.std.proofs.Common.{sym, ap, ◌∙◌, subst, arith, length-append, length-drop}
+use Rattle.std.proofs.Common.{sym, ap, ap₂, ◌∙◌, subst, arith, length-append, length-drop, drop_at}
+use Rattle.std.proofs.lemmas.List.{length-replicate}
 use Rattle.std.specs.Result.{result_ok}
 use Rattle.network.specs.Table.{entry, cleared}
 use Rattle.network_pass.specs.Pass.{Passed, finished, stopped, Outcome, outcome_of}
@@ -19,7 +20,7 @@ use Rattle.plan_rooms.proofs.RoomsLaws.{SeatsHold}
 use Rattle.plan_rooms.specs.declared.Seats.{Seats}
 use Rattle.plan_ask.specs.Asking.{Solvable}
 use Rattle.plan_ask.proofs.AskingLaws.{lists_read}
-use Rattle.plan_steps.specs.Closing.{passed, table_left, Closed}
+use Rattle.plan_steps.specs.Closing.{passed, table_left, Closed, RingFound}
 use Rattle.plan_steps.specs.PassedLaws.{passed_size, passed_solved}
 use Rattle.plan_steps.specs.ClosingLaws.{boundaries_counted, span_read}
 use Rattle.plan_steps.specs.Filling.{Ready, PlanFilled}
