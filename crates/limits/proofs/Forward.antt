@@ -3,9 +3,8 @@ use mathlib.Core.Path.{◌≡◌, refl, sym, ap, ◌∙◌}
 use mathlib.Core.Bool.{cond}
 use borrow.Author.Rules.{rules}
 use borrow.Rule.Slice.PartMut.{put_mid}
-use Rattle.core.proofs.slice.Indexed.{places}
 use Rattle.std.proofs.lemmas.Slice.{drop-put_mid}
-use Rattle.std.proofs.lemmas.List.{length-replicate, get_or-replicate}
+use Rattle.std.proofs.lemmas.List.{places, length-replicate, get_or-replicate}
 use Rattle.network.proofs.TableLaws.{row_inside}
 use Rattle.limit_places.specs.LentTableLaws.{rows_apart}
 use mathlib.Core.List.{List}
