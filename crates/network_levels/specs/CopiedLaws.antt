@@ -21,14 +21,14 @@ use Rattle.network_levels.specs.Levels.{least_over, lower, level}
 use Rattle.network_levels.specs.LevelLaws.{least_same, level_step, level_source, level_feasible}
 use Rattle.network_levels.specs.Finder.{StepsFit, LevelsUpTo, Weighed, Leveled, Fallen, Source}
 use Rattle.network_levels.specs.LevelRange.{level_sum_fits}
+use Rattle.network_levels.specs.LevelSteps.{RowOf}
 
 pub copied_whole : (xs ys : List ℤ) → length ys ≤ length xs → xs ++ drop (length xs) ys ≡ xs
 copied_whole xs ys h = ap (λ (l : List ℤ). xs ++ l) (drop_of_length-le ys h) ∙ append-nil xs
 
 -- ---- row k, copied
-pub record Copied (w k : ℕ) (d xs : List ℤ) : Type 0 where
-  pub long : length xs ≡ w
-  pub at : (j : ℕ) → j < w → get_or xs j (pos 0) ≡ level w (entry w d) k j
+abbrev pub Copied : ℕ → ℕ → List ℤ → List ℤ → Type 0
+Copied w k d xs = RowOf w k d xs
 
 pub row_copied : (w k n : ℕ) (d levels copy old : List ℤ) → n ≡ w → k * w + n ≤ length levels → w ≤ length copy
     → copy ≡ take n (drop (k * w) levels) ++ drop (length (take n (drop (k * w) levels))) old → LevelsUpTo w d levels k → Copied w k d (take w copy)
@@ -77,6 +77,12 @@ module _ {w : ℕ} {d levels : List ℤ} (q : Leveled w d levels) (k v : ℕ) (p
 
   pub source_found : (u : ℕ) → u < w → leaves_more w d levels k v u ≡ false → Source w d (k - 1) v u
   source_found u h f = record { inside = h; gives = omega (ints, f, target_is, level_step w (entry w d) (k - 1) u v h) }
+
+  -- some boundary is one
+  pub source_there : ((u : ℕ) → u < w → leaves_more w d levels k v u ≡ true) → ⊥
+  source_there f =
+      let s = level_source w (entry w d) (k - 1) v hv (q.weights.zeros v hv) in
+      omega (ints, f s.place s.inside, target_is, s.value)
 
 -- ---- a level read from its row
 module _ {w : ℕ} {d levels : List ℤ} (q : Leveled w d levels) where

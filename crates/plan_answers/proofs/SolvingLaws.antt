@@ -65,7 +65,7 @@ module _ (l : Lists) (fit : Bool) (S : Solvable l fit) (room : List ℤ) (big : 
   limits_asked = record { agree = S.lists; ok = S.sheet; fits = big }
 
   -- rooms for seats, by the units' list
-  seats_asked : (r : Seats) → SeatsHold s r → (length l.first ≤ r.plan) × (length l.first ≤ r.earliest) × (length l.first ≤ r.latest)
+  pub seats_asked : (r : Seats) → SeatsHold s r → (length l.first ≤ r.plan) × (length l.first ≤ r.earliest) × (length l.first ≤ r.latest)
   seats_asked r h = (omega (arith, units_length, h.plan), omega (arith, units_length, h.earliest), omega (arith, units_length, h.latest))
 
   -- as the code reads the lists from those lent
@@ -79,7 +79,7 @@ module _ (l : Lists) (fit : Bool) (S : Solvable l fit) (room : List ℤ) (big : 
 
   -- the finished pass at the front of the room: seats can be filled in by it
   module _ (t : List ℤ) (e : passed s ≡ finished t) (table : List ℤ) (is : table ≡ table_in s t room) where
-    ready : (w : ℕ) → w ≡ boundaries_of l.span → Ready s w l.first l.last table
+    pub ready : (w : ℕ) → w ≡ boundaries_of l.span → Ready s w l.first l.last table
     ready w k =
         let count = (boundaries_counted l S.sheet w k).0 in
         let size = passed_size s t e in
@@ -106,7 +106,7 @@ module _ (l : Lists) (fit : Bool) (S : Solvable l fit) (room : List ℤ) (big : 
           subst (λ (p : Passed). Settled (by_pass p) s (lent room plan earliest latest ring) says.plan (lent table plan' earliest' latest' ring')) (sym e)
           (refl, rw (is, f.seats, f.early, f.late, same))
 
-      seats_left : SeatSettled (by_pass (passed s)) s (seat_rooms room plan earliest latest) says.plan (seat_rooms table plan' earliest' latest')
+      pub seats_left : SeatSettled (by_pass (passed s)) s (seat_rooms room plan earliest latest) says.plan (seat_rooms table plan' earliest' latest')
       seats_left =
           subst (λ (p : Passed). SeatSettled (by_pass p) s (seat_rooms room plan earliest latest) says.plan (seat_rooms table plan' earliest' latest')) (sym e)
           (refl, rw (is, f.seats, f.early, f.late))
@@ -147,7 +147,7 @@ module _ (l : Lists) (fit : Bool) (S : Solvable l fit) (room : List ℤ) (big : 
           (sym halted) (refl, ap (λ (x : List ℤ). seat_rooms x plan earliest latest) table_cleared)
 
     module _ (e : r ≡ Ok tt) where
-      closed_table : (t : List ℤ) × (passed s ≡ finished t) × (table ≡ table_in s t room)
+      pub closed_table : (t : List ℤ) × (passed s ≡ finished t) × (table ≡ table_in s t room)
       closed_table =
           let f = is_finished (passed s) (sym e ∙ d.outcome) in
           (f.0, f.1, d.table ∙ ap (λ (p : Passed). table_left s p room) f.1)
