@@ -41,15 +41,18 @@ def functions(root):
                 line = rest.split("\n", 1)[0]
                 end = at + len(line) - 1 if line.rstrip().endswith("{") else at + (stop.start() if stop else len(rest))
                 said = text[m.start() : end].strip()
-                out[f"{crate}::{owner if m[2] else ''}{m[4]}"] = ("public" if m[3] or 'extern "C"' in m[0] else "private", said)
+                module = "" if path.stem in ("lib", "main") else path.stem + "::"
+                key = f"{crate}::{module}{owner if m[2] else ''}{m[4]}"
+                out[key] = ("public" if m[3] or 'extern "C"' in m[0] else "private", said)
     for path in sorted(root.glob("crates/*/src/*.rt")):
         text = path.read_text(encoding="utf-8")
         crate = path.relative_to(root / "crates").parts[0]
-        for m in re.finditer(r"^pub (struct|enum|type|const|static) (\w+)[^\n]*(?:\{\n.*?^\}|;|\n)", text, re.M | re.S):
+        for m in re.finditer(r"^(?:#\[[^\n]*\n)*pub (struct|enum|type|const|static) (\w+)[^\n{;]*(?:\{\n.*?^\}|[^\n]*;)", text, re.M | re.S):
             if path.name != "tables.rt":
-                out[f"{crate}::{m[2]}"] = ("public", m[0].strip())
-        for m in re.finditer(r"^impl[^\n]* Model for (\w+).*?^\}", text, re.M | re.S):
-            out[f"{crate}::{m[1]} (Model)"] = ("public", m[0].strip())
+                module = "" if path.stem in ("lib", "main") else path.stem + "::"
+                out[f"{crate}::{module}{m[2]}"] = ("public", m[0].strip())
+        for m in re.finditer(r"^impl[^\n]* (Model|From<.*>|From<[^\n]*) for (\w+)[^\n]*\{.*?^\}", text, re.M | re.S):
+            out[f"{crate}::{m[2]} ({m[1]})"] = ("public", m[0].strip())
     return out
 
 
