@@ -8,7 +8,7 @@ use read_form::{FormReader, Grid};
 
 pub mod tables;
 
-// stays: a table of its own for each house, which a computed test of its own proves; a generic one would name both.
+// stays: a table for each house, each in a crate of its own, whose check has the computed test that it is the house's grid.
 static GRID: Grid = tables::TABLE;
 
 pub fn reader() -> FormReader<'static>

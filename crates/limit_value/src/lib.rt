@@ -5,7 +5,7 @@ ghost use Rattle.sheet.specs.Sizes.{max_count};
 ghost use Rattle.limit_value.specs.Tightened.{with_bound, with_high, with_low};
 
 // The limit of a step.
-// stays: a struct of one field, since its methods hand a tightened limit back by value, and a number would not say that it is a limit.
+// stays: the form that the request names (docs/DECISIONS.md): a limit by value, which two methods take a high or a low and hand back.
 #[derive(Clone, Copy)]
 pub struct Limit {
     pub value: i16,

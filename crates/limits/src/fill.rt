@@ -44,7 +44,7 @@ pub fn fill_limits(lists: &Lists<'_>, t: &mut [i16])
     windows_inside(lists.first, lists.last, w, t);
     fill_forward(lists.first.len(), w, t);
     // From the last rule to the first, as the list of rules is built.
-    // stays: a place over four parallel lists.
+    // stays: places of four lists; a `zip` of zips hands out nested pairs, which is no plainer.
     for k in (0..lists.from.len()).rev() {
         apply_rule(
             lists.from[k],

@@ -11,7 +11,7 @@ use sheet::Sheet;
 
 // The open entry: two texts of our own format as one sheet. A refusal leaves every room as it was; else the merged units and rules stand at the front of
 // theirs.
-// stays: seven rooms, as the C interface lends them
+// stays: the lists one by one; of a struct of `&mut` lists a clause can tell what is left only part by part, as `exit.1.0.now` (docs/DECISIONS.md)
 pub fn merge(
     one: &[u8],
     two: &[u8],

@@ -20,7 +20,6 @@ pub fn blamed(refusal: Refusal) -> Blamed
 }
 
 // The questions of both, by their numbers and rules in lists, the first sheet's in front; then the combined rules stand at the front of the arrays.
-// stays: the columns side by side, as `merge_stretches::ask_rules` takes and leaves them
 pub fn ask_both(
     two: &[u8],
     a: Sheet,

@@ -9,7 +9,7 @@ use questions::Refusal;
 #[derive(Clone, Copy)]
 pub struct Blamed {
     pub refusal: Refusal,
-    // stays: a number, as pages and the C replies have it
+    // stays: a number, as the definition of whose refusal it is has it (`blamed_sheet`)
     pub sheet: usize,
 }
 

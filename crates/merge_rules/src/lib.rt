@@ -90,7 +90,7 @@ pub fn combine(
 {
     let mut count: usize = 0;
     let mut past: usize = 0;
-    // stays: a place over four parallel lists, which its callers lend one by one.
+    // stays: places of four lists; a `zip` of zips hands out nested pairs, which is no plainer.
     for i in 0..from.len() {
         count = add_rule(
             from[i], to[i], low[i], high[i], count, froms, tos, lows, highs,

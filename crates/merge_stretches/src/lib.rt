@@ -15,7 +15,6 @@ use read_form::Kind;
 use sheet::Sheet;
 
 // The questions of the combined rules, by the stretches of the second sheet's rules and the place of the one that makes too many.
-// stays: the columns side by side, as `merge_rules::combine` takes and leaves them
 fn ask_combined(
     two: &[u8],
     from: &[u16],
@@ -45,7 +44,6 @@ fn ask_combined(
 }
 
 // The questions of the rules of both sheets, of which the first has n, and the combined rules at the front of the arrays: how many they are.
-// stays: the columns side by side, as `merge_rules::combine` takes and leaves them
 pub fn ask_rules(
     two: &[u8],
     n: usize,

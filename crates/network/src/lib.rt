@@ -55,7 +55,6 @@ pub fn falls(row: &[i16], a: usize, b: usize, e: usize) -> bool
     (b..e).contains(&a) && row[a] < 0
 }
 
-// stays: a table is a list and its width, as the C functions and the crates above have it.
 // Entry (a, b) of a table with w numbers a row.
 pub fn entry_at(t: &[i16], w: usize, a: usize, b: usize) -> i16
     requires { a * w + b < length t.now }

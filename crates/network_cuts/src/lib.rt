@@ -93,7 +93,6 @@ impl CutWindow<'_> {
     }
 }
 
-// stays: the crates above have the table, the arcs and the slots apart.
 // Whether the network admits the cut of the window f..l at v. The potential starts as the highest that is 0 before the window.
 pub fn admits(d: &[i16], m: &[i16], w: usize, f: Slot, v: Slot, l: Slot) -> bool
     requires { CutNetwork w d.now m.now × Cuts w f.0 v.0 l.0 }

@@ -70,7 +70,6 @@ impl Levels<'_> {
         ensures { Source self.now.w self.now.d.now (k - 1) v result }
     {
         let target = network::entry_at(self.levels, self.w, k, v);
-        // stays: boundaries are counted, and no places of one list.
         for u in 0..self.w {
             if self.left_by(k - 1, u, v) <= target {
                 return u;

@@ -14,7 +14,7 @@ fn run_middles(t: &mut [i16], w: usize, from: usize, to: usize) -> Outcome
     ensures { Ran w t.old (pass_from (to - from) from w t.old) result t.new }
 {
     let mut mid = [0i16; MAX_BOUNDARIES];
-    // stays: one labelled break leaves all three loops, which is the form that the request names for this place.
+    // stays: one labelled break leaves all three loops, the form that the request names (docs/DECISIONS.md)
     'pass: {
         for m in from..to {
             load_row(t, m, w, &mut mid);

@@ -11,7 +11,7 @@ use questions::Refusal;
 use sheet::WrittenLists;
 
 // Plans from lists. The questions come first; then the sheet gets a plan, or none and a ring.
-// stays: the rooms one by one, as the C interface lends them; each of the three calls lends others.
+// stays: the rooms one by one; of a struct of `&mut` lists a clause can tell what is left only part by part, as `exit.1.0.now` (docs/DECISIONS.md)
 pub fn plan(
     lists: &WrittenLists<'_>,
     table: &mut [i16],

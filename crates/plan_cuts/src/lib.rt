@@ -8,7 +8,6 @@ ghost use Rattle.plan_cuts.specs.Cuts.{LastMark, KnownRow, CommonCut, CutRow, Fl
 use network_cuts::{admits, least_cut};
 use slots::Slot;
 
-// stays: the table, the arcs and the number of boundaries are parameters of their own, as `network_cuts` takes them.
 // The last place of the row that is marked.
 fn last_marked(row: &[u16]) -> Option<usize>
     ensures { MatchOption result ((j : ℕ) → get_or row.now j 0 ≡ 0) (λ r. LastMark row.now r) }

@@ -41,7 +41,7 @@ pub fn mark(side: Side, w: usize, opens: &[u16], closes: &[u16], plan: &[u16], m
     ensures { Marked (length opens.now) w (seen_at side w opens.now) (seen_at side w closes.now)
         (seen_at side w plan.now) marks.new }
 {
-    // stays: a place over three parallel lists; in `read_marks` too.
+    // stays: places of three lists, in `read_marks` too; a `zip` of zips hands out nested pairs, which is no plainer.
     for j in 0..opens.len() {
         let at = side.place(w, opens[j], closes[j]);
         marks[at] = side.slot(w, plan[j]) as u16;

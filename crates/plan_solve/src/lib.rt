@@ -51,7 +51,7 @@ pub fn seat(
 }
 
 // A plan in the rooms for a sheet of which every question is answered yes, or none and a ring.
-// stays: the rooms one by one, as the C interface lends them; each of the three calls lends others.
+// stays: the rooms one by one; of a struct of `&mut` lists a clause can tell what is left only part by part, as `exit.1.0.now` (docs/DECISIONS.md)
 pub fn solve(
     lists: &Lists<'_>,
     table: &mut [i16],

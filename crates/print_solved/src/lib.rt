@@ -119,7 +119,6 @@ pub fn print_solved(
         page.old at (says.reply_of result)
         (lent table.new plan.new earliest.new latest.new ring.new) page.new }
 {
-    // stays: arrays one by one, as rooms are lent to planning one by one; a struct for them would only be taken apart again
     let mut closed = [0i16; Sheet::MAX_CELLS];
     let mut seats = [0u16; Sheet::MAX_UNITS];
     let mut firsts = [0u16; Sheet::MAX_UNITS];

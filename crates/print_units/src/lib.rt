@@ -41,7 +41,7 @@ pub fn put_units(
         (unit_lines span loader.now plan.now earliest.now latest.now) page.new result }
 {
     let mut next = at;
-    // stays: a place of four lists side by side
+    // stays: places of four lists; a `zip` of zips hands out nested pairs, which is no plainer.
     for j in 0..plan.len() {
         next = put_placed(page, next, span, loader[j], plan[j], earliest[j], latest[j]);
     }

@@ -7,8 +7,8 @@ ghost use Rattle.print_writer.specs.Advanced.{advanced};
 // A writer holds the page that is lent to it and the place of the next byte; nothing else of `print` touches a lent page. Its functions are thin: `put` takes
 // it apart, has the bytes copied onto the slice from the place on, and hands it back at the place just past them. `write` serves every caller: its
 // parameters are plain.
-// stays: functions and no methods, and a walk of `write` by hand: the request names this form, and today's check does not follow a lent page through a struct
-// that one call returns and the next takes.
+// stays: functions, and a walk of `write` by hand: the request names the writer (docs/DECISIONS.md), and today's check does not follow a lent page through a
+// struct that one call returns and the next takes.
 #[derive(Drop)]
 pub struct Writer<'a> {
     pub page: &'a mut [u8],

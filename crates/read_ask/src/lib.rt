@@ -14,7 +14,7 @@ use read_line::Line;
 use sheet::Sheet;
 
 // A line after those of a sheet: questions 5 to 10 and 16, and its numbers into the arrays.
-// stays: a slice for each list, here and below, as in read_steps.
+// stays: the lists one by one; of a struct of `&mut` lists a clause can tell what is left only part by part, as `exit.1.0.now` (docs/DECISIONS.md)
 #[tactic(auto, unfolding(read_questions::specs::Steps::step_of))]
 fn line_step(
     house: House,

@@ -36,7 +36,6 @@ pub struct Found {
 pub fn lines_end(text: &[u8]) -> usize
     ensures { result ≡ whole_lines text.now }
 {
-    // stays: places from the back; with `rposition` the proof did not close, for its search from the back has no law.
     for n in (0..text.len()).rev() {
         if text[n] == b'\n' {
             return n + 1;

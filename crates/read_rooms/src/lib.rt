@@ -35,7 +35,7 @@ pub fn lists_fit(
 }
 
 // The fronts of the arrays into the rooms, which are long enough.
-// stays: a slice for each list, as the C interface lends them.
+// stays: the lists one by one; of a struct of `&mut` lists a clause can tell what is left only part by part, as `exit.1.0.now` (docs/DECISIONS.md)
 pub fn fill(
     s: Sheet,
     numbers: &[u16],

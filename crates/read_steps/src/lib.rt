@@ -59,7 +59,7 @@ pub fn sheet_step(s: Sheet, span: u16) -> Result<Sheet, Question>
 }
 
 // Questions 5, 7, 8 and 10; a rule that passes is kept.
-// stays: a slice for each list, as the C interface lends them; a struct of mutable borrows would be taken apart again at each write.
+// stays: the lists one by one; of a struct of `&mut` lists a clause can tell what is left only part by part, as `exit.1.0.now` (docs/DECISIONS.md)
 pub fn rule_step(
     s: Sheet,
     from: u16,

@@ -23,7 +23,7 @@ fn window_fault(span: usize) -> Question
 }
 
 // Questions 5, 7, 16 and 9; a unit that passes is kept, and its loader number is found from then on.
-// stays: a slice for each list, as in read_steps.
+// stays: the lists one by one; of a struct of `&mut` lists a clause can tell what is left only part by part, as `exit.1.0.now` (docs/DECISIONS.md)
 pub fn unit_step(
     house: House,
     s: Sheet,

@@ -71,7 +71,7 @@ impl Sheet {
     // The entries of the largest table of limits.
     pub const MAX_CELLS: usize = Sheet::MAX_BOUNDARIES * Sheet::MAX_BOUNDARIES;
 
-    // stays: no plainer by Default; a span of 0 is no sheet's, so the name says that nothing is read yet
+    // stays: the form that the request names (docs/DECISIONS.md): a constructor for the empty sheet
     pub fn empty() -> Sheet
         ensures { result ≡ record { span = 0; units = 0; rules = 0 } }
     {

@@ -16,7 +16,7 @@ pub struct Printing {
 }
 
 // The reply as numbers, to a call that was given this place.
-// stays: a function; the place stands beside the answer.
+// stays: a function; a `From` takes one value, and the reply needs the place too.
 pub fn numbers_of(at: usize, answer: Result<Printed, Refusal>) -> Printing
     ensures { result ≡ printing_of at (reply_of answer) }
 {

@@ -14,7 +14,7 @@ pub struct Writing {
 }
 
 // The reply as numbers, to a call that was given this place.
-// stays: a function; the place stands beside the answer.
+// stays: a function; a `From` takes one value, and the reply needs the place too.
 pub fn numbers_of(at: usize, written: Result<usize, Refusal>) -> Writing
     ensures { result ≡ writing_of at (reply_of written) }
 {

@@ -23,7 +23,6 @@ pub fn put_refused(page: &mut [u8; MAX_TEXT], number: usize, line: usize) -> usi
 }
 
 // The text of the sheet at the front of the lists, which planning accepts.
-// stays: seven lists as parameters; merge_text lends arrays of its own, twice as long, and a struct of slices would hold what WrittenLists holds
 pub fn put_fronts(
     house: House,
     s: Sheet,

@@ -31,7 +31,7 @@ fn put_units(
         (unit_texts house (units_of loader.now (windows_of first.now last.now))) page.new result }
 {
     let mut next = at;
-    // stays: a place of three lists side by side
+    // stays: places of three lists; a `zip` of zips hands out nested pairs, which is no plainer.
     for j in 0..first.len() {
         next = put_unit(house, page, next, loader[j], first[j], last[j]);
     }
@@ -53,7 +53,7 @@ fn put_rules(
         (rule_texts house (rules_of from.now to.now low.now high.now)) page.new result }
 {
     let mut next = at;
-    // stays: a place of four lists side by side
+    // stays: places of four lists; a `zip` of zips hands out nested pairs, which is no plainer.
     for j in 0..from.len() {
         next = put_rule(house, page, next, from[j], to[j], low[j], high[j]);
     }
