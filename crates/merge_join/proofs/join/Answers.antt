@@ -12,13 +12,12 @@ use Rattle.merge_read.specs.Behind.{text_reply, NumbersBehind}
 use Rattle.merge_rules.specs.Columns as Rules
 use Rattle.merge_questions.specs.RefusalLaws.{mapped_err, mapped_ok}
 use Rattle.merge_both.specs.Both.{BothRead, blamed_by}
-use Rattle.merge_join.specs.JoinedArrays.{lists_in}
 use Rattle.merge_join.proofs.JoinLaws.{first_refused, second_refused, both_asked}
 use Rattle.merge_join.proofs.ReadLaws.{accepted, holds_both, holds_fewer, holds_second, both_read, joined_left}
-use Rattle.merge_join.proofs.JoinedLists.join.Goals.{Start, In_ok-a, In_ok-b}
-use Rattle.merge_join.proofs.JoinedLists.join.Goals as goal
+use Rattle.merge_join.proofs.join.Goals.{Start, In_ok-a, In_ok-b}
+use Rattle.merge_join.proofs.join.Goals as goal
 
--- ---- the arrays: as they are lent, with those of the call's own, and after each text. By their type they are long enough for both sheets.
+-- ---- the arrays: as they are lent, with those of the call's own, and after each text
 abbrev own : List ℕ → List ℕ → List ℕ → ListRooms (List ℕ)
 own numbers firsts lasts =
     let none : List ℕ = replicate (max_rules + max_rules) 0 in
@@ -27,20 +26,10 @@ own numbers firsts lasts =
 abbrev after_first : In_ok-a → ListRooms (List ℕ)
 after_first c = let k = c.read_behind.new in rooms k.numbers k.firsts k.lasts k.froms k.tos k.lows k.highs
 
-long : (z : Start) → Holds (max_units + max_units) (max_rules + max_rules) (lists_in z.args.self.now)
+long : (z : Start) → Holds (max_units + max_units) (max_rules + max_rules) (own z.args.numbers.now z.args.firsts.now z.args.lasts.now)
 long z =
-    record {
-      in_loader = omega arith;
-      in_first = omega arith;
-      in_last = omega arith;
-      in_from = omega arith;
-      in_to = omega arith;
-      in_low = omega arith;
-      in_high = omega arith;
-    }
-
-own_long : (z : Start) → Holds (max_units + max_units) (max_rules + max_rules) (own z.args.self.now.numbers z.args.self.now.firsts z.args.self.now.lasts)
-own_long z = holds_both (lists_in z.args.self.now) (long z)
+    let a = z.args in
+    holds_both (rooms a.numbers.now a.firsts.now a.lasts.now a.froms.now a.tos.now a.lows.now a.highs.now) z.requires
 
 -- ---- what each text gave
 
@@ -61,7 +50,7 @@ second_told : (c : In_ok-b) → read c.in_ok-b.b.span c.in_ok-b.b.units c.in_ok-
 second_told c = ap reply_of (sym (second_is c)) ∙ c.read_behind-2.ensures.result_value
 
 first_kept : (c : In_ok-a) → let a = c.args in
-    NumbersBehind c.in_ok-a.a a.one.now 0 0 (own a.self.now.numbers a.self.now.firsts a.self.now.lasts) (after_first c)
+    NumbersBehind c.in_ok-a.a a.one.now 0 0 (own a.numbers.now a.firsts.now a.lasts.now) (after_first c)
 first_kept c = IfOk-at_ok _ (first_is c) c.read_behind.ensures.kept_behind
 
 second_kept : (c : In_ok-b) → let a = c.in_ok-a.a in let i = c.read_behind.new in let k = c.read_behind-2.new in
@@ -71,32 +60,31 @@ second_kept c = IfOk-at_ok _ (second_is c) c.read_behind-2.ensures.kept_behind
 
 -- both sheets stand in the arrays, the columns for the combined rules as they are lent
 reads_both : (c : In_ok-b) → let a = c.args in let i = c.read_behind.new in let k = c.read_behind-2.new in
-    Holds (max_units + max_units) (max_rules + max_rules) (lists_in a.self.now)
-    → read c.in_ok-a.a.span c.in_ok-a.a.units c.in_ok-a.a.rules ≡ text_reply Ours a.one.now
-    → NumbersBehind c.in_ok-a.a a.one.now 0 0 (own a.self.now.numbers a.self.now.firsts a.self.now.lasts) (rooms i.numbers i.firsts i.lasts i.froms i.tos i.lows i.highs)
+    read c.in_ok-a.a.span c.in_ok-a.a.units c.in_ok-a.a.rules ≡ text_reply Ours a.one.now
+    → NumbersBehind c.in_ok-a.a a.one.now 0 0 (own a.numbers.now a.firsts.now a.lasts.now) (rooms i.numbers i.firsts i.lasts i.froms i.tos i.lows i.highs)
     → BothRead (sheet_in Ours a.one.now) (sheet_in Ours a.two.now) c.in_ok-a.a c.in_ok-b.b k.numbers
-    (Rules.columns k.froms k.tos k.lows k.highs) (Rules.columns a.self.now.froms a.self.now.tos a.self.now.lows a.self.now.highs)
-reads_both c all told kept =
+    (Rules.columns k.froms k.tos k.lows k.highs) (Rules.columns a.froms.now a.tos.now a.lows.now a.highs.now)
+reads_both c told kept =
     let a = c.args in
-    both_read a.one.now c.in_ok-a.a (own a.self.now.numbers a.self.now.firsts a.self.now.lasts) _
-    (holds_both (lists_in a.self.now) all)
-    kept a.two.now c.in_ok-b.b _ (second_kept c) told (second_told c) (Rules.columns a.self.now.froms a.self.now.tos a.self.now.lows a.self.now.highs)
-    all.in_from all.in_to all.in_low all.in_high
+    both_read a.one.now c.in_ok-a.a (own a.numbers.now a.firsts.now a.lasts.now) _
+    (holds_both (rooms a.numbers.now a.firsts.now a.lasts.now a.froms.now a.tos.now a.lows.now a.highs.now) c.requires)
+    kept a.two.now c.in_ok-b.b _ (second_kept c) told (second_told c) (Rules.columns a.froms.now a.tos.now a.lows.now a.highs.now)
+    c.requires.in_from c.requires.in_to c.requires.in_low c.requires.in_high
 
 -- ---- the needs
 pub read_behind-requires : goal.read_behind-requires
 read_behind-requires c =
-    holds_fewer (max_units + max_units) (max_rules + max_rules) _ _ _ (own_long (goal.at.read_behind-requires c).Start) (omega arith) (omega arith)
+    holds_fewer (max_units + max_units) (max_rules + max_rules) _ _ _ (long (goal.at.read_behind-requires c).Start) (omega arith) (omega arith)
 
 pub read_behind-requires-2 : goal.read_behind-requires-2
 read_behind-requires-2 c =
     let d = (goal.at.read_behind-requires-2 c).In_ok-a in
-    holds_second c.args.one.now c.in_ok-a.a _ (after_first d) (own_long (goal.at.read_behind-requires-2 c).Start) (first_kept d)
+    holds_second c.args.one.now c.in_ok-a.a _ (after_first d) (long (goal.at.read_behind-requires-2 c).Start) (first_kept d)
 
 pub ask_both-requires : goal.ask_both-requires
 ask_both-requires c =
     let d = (goal.at.ask_both-requires c).In_ok-a in
-    (_, (_, reads_both (goal.at.ask_both-requires c).In_ok-b (long (goal.at.ask_both-requires c).Start) (first_told d) (first_kept d)))
+    (_, (_, reads_both (goal.at.ask_both-requires c).In_ok-b (first_told d) (first_kept d)))
 
 pub returns-in_err-a : goal.returns-in_err-a
 returns-in_err-a c =
@@ -129,12 +117,12 @@ returns c =
     let z = (goal.at.returns c).Start in
     let a = c.args in
     let q = c.ask_both.new in
-    let asks = c.ask_both.ensures _ _ (reads_both e (long z) (first_told d) (first_kept d)) in
+    let asks = c.ask_both.ensures _ _ (reads_both e (first_told d) (first_kept d)) in
     let says = both_asked a.one.now a.two.now (accepted a.one.now c.in_ok-a.a (first_told d)).verdict _ _
     (accepted a.two.now c.in_ok-b.b (second_told e)).verdict asks.reply asks.blames in record {
       result_value = says.reply_is;
       result_value_2 = says.blame_is;
-      leaves_merged = joined_left a.one.now c.in_ok-a.a (own a.self.now.numbers a.self.now.firsts a.self.now.lasts) (after_first d) (own_long z) (first_kept d)
+      leaves_merged = joined_left a.one.now c.in_ok-a.a (own a.numbers.now a.firsts.now a.lasts.now) (after_first d) (long z) (first_kept d)
           a.two.now c.in_ok-b.b _ (second_kept e) (first_told d) (second_told e) c.ask_both.result
-          (Rules.columns a.self.now.froms a.self.now.tos a.self.now.lows a.self.now.highs) (Rules.columns q.froms q.tos q.lows q.highs) asks.left;
+          (Rules.columns a.froms.now a.tos.now a.lows.now a.highs.now) (Rules.columns q.froms q.tos q.lows q.highs) asks.left;
     }
