@@ -1,7 +1,7 @@
 // What is promised of the program's inputs, of which only the front is read: the result is that for the whole.
 #![tactic(auto)]
 
-ghost use Rattle.std.specs.Prelude.{◌≤◌, length};
+ghost use Rattle.std.specs.Prelude.{◌≡◌, ◌≤◌, length, take};
 ghost use Rattle.sheet.specs.Sizes.{max_bytes};
 ghost use Rattle.wave_inputs.specs.Input.{InputAnswered, InputConverted, line_of, InputsMerged, InputsShown};
 
@@ -17,35 +17,62 @@ use write_lines::MAX_TEXT;
 // One byte more than the longest text that is read, so that a longer text is known for one without its rest.
 pub const TEXT_BYTES: usize = Sheet::MAX_BYTES + 1;
 
-// The answer to what is asked of every input of which this is the front.
-pub fn answer_input(house: House, query: Query, front: &[u8], page: &mut [u8; MAX_PAGE]) -> usize
-    ensures fact { InputAnswered house query TEXT_BYTES front.now page.old page.new result }
+// The answer to what is asked of the whole input, by the n bytes that the buffer took of it.
+// stays: the buffer with how many bytes of it count, here and below. Its length is asked: of a shorter one, what was read would pass for the whole input.
+pub fn answer_input(
+    house: House,
+    query: Query,
+    buffer: &[u8],
+    n: usize,
+    page: &mut [u8; MAX_PAGE],
+) -> usize
+    requires { (length buffer.now ≡ TEXT_BYTES) × (n ≤ length buffer.now) }
+    ensures fact { let text = buffer.now in
+        InputAnswered house query (length text) (take n text) page.old page.new result }
     ensures upper_bound { result ≤ length page.new }
 {
-    answer::answer(house, query, front, page)
+    answer::answer(house, query, &buffer[..n], page)
 }
 
-// Every input of which this is the front, in the form of the other house.
-pub fn convert_input(from: House, to: House, front: &[u8], page: &mut [u8; MAX_TEXT]) -> Converted
-    ensures fact { InputConverted from to TEXT_BYTES front.now page.old page.new result }
+// The whole input in the form of the other house, by the n bytes that the buffer took of it.
+pub fn convert_input(
+    from: House,
+    to: House,
+    buffer: &[u8],
+    n: usize,
+    page: &mut [u8; MAX_TEXT],
+) -> Converted
+    requires { (length buffer.now ≡ TEXT_BYTES) × (n ≤ length buffer.now) }
+    ensures fact { let text = buffer.now in
+        InputConverted from to (length text) (take n text) page.old page.new result }
     ensures result_in_bounds { (result.place ≤ length page.new) × (line_of result ≤ max_bytes) }
 {
-    convert::convert(from, to, front, page)
+    convert::convert(from, to, &buffer[..n], page)
 }
 
-// Every two inputs of which these are the fronts, as one sheet.
-pub fn merge_inputs(one: &[u8], two: &[u8], page: &mut [u8; MAX_TEXT]) -> Merged
-    ensures fact { InputsMerged TEXT_BYTES one.now two.now page.old page.new result }
+// Two whole inputs as one sheet, by the n bytes and the m bytes that the buffers took of them.
+pub fn merge_inputs(one: &[u8], n: usize, two: &[u8], m: usize, page: &mut [u8; MAX_TEXT]) -> Merged
+    requires { (length one.now ≡ TEXT_BYTES) × (length two.now ≡ TEXT_BYTES) × (n ≤ length one.now) × (m ≤ length two.now) }
+    ensures fact { let first = one.now in let second = two.now in
+        InputsMerged (length first) (take n first) (take m second) page.old page.new result }
     ensures result_in_bounds { result.place ≤ length page.new }
 {
-    merge_text::merge_text(one, two, page)
+    merge_text::merge_text(&one[..n], &two[..m], page)
 }
 
-// The line of a unit of two inputs, likewise.
-pub fn line_inputs(one: &[u8], two: &[u8], loader: u16, page: &mut [u8; MAX_LINE]) -> Shown
-    requires { (length one.now ≤ TEXT_BYTES) × (length two.now ≤ TEXT_BYTES) }
-    ensures fact { InputsShown TEXT_BYTES one.now two.now loader page.old page.new result }
+// The line of a unit of two whole inputs, likewise.
+pub fn line_inputs(
+    one: &[u8],
+    n: usize,
+    two: &[u8],
+    m: usize,
+    loader: u16,
+    page: &mut [u8; MAX_LINE],
+) -> Shown
+    requires { (length one.now ≡ TEXT_BYTES) × (length two.now ≡ TEXT_BYTES) × (n ≤ length one.now) × (m ≤ length two.now) }
+    ensures fact { let first = one.now in let second = two.now in
+        InputsShown (length first) (take n first) (take m second) loader page.old page.new result }
     ensures result_in_bounds { result.place ≤ length page.new }
 {
-    wave_line_page::line_page(one, two, loader, page)
+    wave_line_page::line_page(&one[..n], &two[..m], loader, page)
 }

@@ -51,7 +51,7 @@ fn answer_pipe(rt: &HostRuntime, house: House, query: Query) {
     let mut text = [0u8; TEXT_BYTES];
     if let Some(n) = wave_files::read_stdin(rt, &mut text) {
         let mut page = [0u8; MAX_PAGE];
-        let end = wave_inputs::answer_input(house, query, &text[..n], &mut page);
+        let end = wave_inputs::answer_input(house, query, &text, n, &mut page);
         write_page(rt, &page[..end]);
     }
 }
@@ -60,7 +60,7 @@ fn convert_pipe(rt: &HostRuntime, from: House, to: House) {
     let mut text = [0u8; TEXT_BYTES];
     if let Some(n) = wave_files::read_stdin(rt, &mut text) {
         let mut page = [0u8; MAX_TEXT];
-        let converted = wave_inputs::convert_input(from, to, &text[..n], &mut page);
+        let converted = wave_inputs::convert_input(from, to, &text, n, &mut page);
         write_page(rt, &page[..converted.place]);
         if let Some(refusal) = converted.refusal {
             show_fault(rt, refusal);
@@ -89,7 +89,7 @@ fn merge_files(rt: &HostRuntime) {
     let mut two = [0u8; TEXT_BYTES];
     if let Some((n, m)) = wave_files::read_two(rt, 2, &mut one, 3, &mut two) {
         let mut page = [0u8; MAX_TEXT];
-        let merged = wave_inputs::merge_inputs(&one[..n], &two[..m], &mut page);
+        let merged = wave_inputs::merge_inputs(&one, n, &two, m, &mut page);
         write_page(rt, &page[..merged.place]);
         if let Some(blamed) = merged.blamed {
             show_blamed(rt, blamed.sheet, 2, 3);
@@ -104,7 +104,7 @@ fn find_line(rt: &HostRuntime, loader: u16) {
     let mut two = [0u8; TEXT_BYTES];
     if let Some((n, m)) = wave_files::read_two(rt, 3, &mut one, 4, &mut two) {
         let mut page = [0u8; MAX_LINE];
-        let shown = wave_inputs::line_inputs(&one[..n], &two[..m], loader, &mut page);
+        let shown = wave_inputs::line_inputs(&one, n, &two, m, loader, &mut page);
         write_page(rt, &page[..shown.place]);
         if let Some(sheet) = shown.blamed {
             show_blamed(rt, sheet, 3, 4);
