@@ -8,6 +8,7 @@ ghost use Rattle.print_bytes.specs.Writing.{Room, Written, no_number, one_number
 // asked of the caller, so that no byte is asked whether it fits.
 // stays: a page and a place, and no writer with methods. A lent page inside a struct gets its proof by hand today, as print_writer has it
 
+#[inline(always)]
 pub fn put_word(page: &mut [u8], at: usize, word: &[u8]) -> usize
     requires { Room page.old at word.now }
     ensures { Written page.old at word.now page.new result }
@@ -49,6 +50,8 @@ pub fn put_number(page: &mut [u8], at: usize, n: u16) -> usize
 }
 
 // A word, and a number behind it. A line is such pairs one after another, each with a call of its own: so the compiler writes its words as they are.
+// stays: it and the word are put into each line in place of a call; called, they take writing a sheet half as long again.
+#[inline(always)]
 pub fn put_pair(page: &mut [u8], at: usize, word: &[u8], n: u16) -> usize
     requires { Room page.old at (word.now ++ digits n) }
     ensures { Written page.old at (word.now ++ digits n) page.new result }
