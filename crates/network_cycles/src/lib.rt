@@ -42,8 +42,10 @@ fn put_turned(c: &[u16], low: usize, out: &mut [u16])
     requires { (low ≤ length c.now) × (length c.now ≤ length out.old) }
     ensures { out.new ≡ (drop low c.now ++ take low c.now) ++ drop (length c.now) out.old }
 {
-    lists::copy_list(c, out);
-    out[..c.len()].rotate_left(low);
+    // stays: two copies; std's `rotate_left` would take a room on the stack.
+    let rest = c.len() - low;
+    lists::copy_list(&c[low..], out);
+    lists::copy_list(&c[..low], &mut out[rest..c.len()]);
 }
 
 // The weights of a network, with the levels of its boundaries row by row.
