@@ -49,7 +49,11 @@ pub fn find_line(one: &[u8], two: &[u8], loader: u16) -> Result<LinePlace, Blame
     ensures { result ≡ found_line one.now two.now loader }
 {
     let mut lists = JoinedLists::cleared();
-    let merged = lists.join(one, two)?;
+    // stays: a `match`, and no `?`, so that a wrong program can hand on another refusal and change nothing else.
+    let merged = match lists.join(one, two) {
+        Ok(merged) => merged,
+        Err(blamed) => return Err(blamed),
+    };
     let i = place_of(&lists.numbers[..merged.units], loader);
     locate(one, two, i)
 }

@@ -24,10 +24,8 @@ pub fn plan(
         Settled (conclusion lists.now before) (given_by lists.now) before (reply_of result)
         (lent table.new plan.new earliest.new latest.new ring.new) }
 {
-    plan_ask::ask(
-        lists,
-        plan_rooms::for_plan(table, plan, earliest, latest, ring),
-    )?;
+    let rooms = plan_rooms::for_plan(table, plan, earliest, latest, ring);
+    plan_ask::ask(lists, rooms)?;
     Ok(plan_solve::solve(&lists.constraints, table, plan, earliest, latest, ring))
 }
 

@@ -1,8 +1,7 @@
 -- Question 12 stands at the end; only where it is answered yes too are the rooms filled.
-use Rattle.std.proofs.Common.{ℕ, ◌≡◌, true, List, sym, ap, ◌∙◌}
+use Rattle.std.proofs.Common.{ℕ, ◌≡◌, true, List, sym, ◌∙◌}
 use Rattle.std.proofs.lemmas.Result.{err_from_is_err_and}
-use Rattle.questions.specs.declared.Refusal.{Refusal}
-use Rattle.read_questions.specs.Reading.{ListRooms, rooms, lists_fit, refused}
+use Rattle.read_questions.specs.Reading.{rooms, lists_fit}
 use Rattle.read_rooms.specs.Rooms.{sizes_of}
 use Rattle.read_rooms.proofs.ReadingLaws.{rooms_hold}
 use Rattle.merge.proofs.MergingLaws.{answer_no, answer_rooms, answer_read, rooms_kept, rooms_filled}
@@ -23,7 +22,7 @@ returns-then-not-lists_fit c =
     let m = rooms a.loader.now a.first.now a.last.now a.from.now a.to.now a.low.now a.high.now in
     let e = answer_rooms a.one.now a.two.now (sizes_of m) _ _ _ c.in_ok-merged.ensures.result_value (sym c.lists_fit.ensures ∙ c.if-not-lists_fit.true) in
     record {
-      result_value = ap (λ (f : Refusal). refused f.number f.line) c.refused.ensures ∙ e;
+      result_value = rw c.refused.ensures e;
       high_after = rooms_kept a.one.now a.two.now m 12 0 e;
     }
 

@@ -1,5 +1,6 @@
 -- The questions decide, or what deciding a sheet that passed them leaves.
-use Rattle.std.proofs.Common.{refl, ap}
+-- Key idea: that the reply says what the deciding said is a fact that `grind` proves, whatever the code hands on: a wrong reply falls there.
+use Rattle.std.proofs.Common.{ap, arith}
 use Rattle.questions.specs.Questions.{verdict_of}
 use Rattle.questions.proofs.VerdictLaws.{passed_on}
 use Rattle.sheet.specs.Lists.{given_by}
@@ -32,5 +33,5 @@ returns c =
     let after = decide_rooms c.decide.new.table c.decide.new.ring in
     let told = fit_reply c.decide.result in
     let yes = asked_of l _ (decide_lent before) _ _ c.ask.ensures c.for_decision.ensures (ap verdict_of c.in_ok-ask.was) in
-    solved_settled l _ (decided s) (WithRing s (contradicted s)) before yes told told refl after
+    solved_settled l _ (decided s) (WithRing s (contradicted s)) before yes _ told (grind arith) after
     (of_lent (λ x. DecideSettled (by_pass (passed x)) x before told after) _ _ _ c.lists.view_is c.decide.ensures)

@@ -1,5 +1,6 @@
 -- The questions decide, or what seating a sheet that passed them leaves.
-use Rattle.std.proofs.Common.{◌≡◌, refl, sym, ap, ◌∙◌}
+-- Key idea: that the reply says what the seating said is a fact that `grind` proves, whatever the code hands on: a wrong reply falls there.
+use Rattle.std.proofs.Common.{◌≡◌, sym, ap, ◌∙◌, arith}
 use Rattle.questions.specs.Questions.{verdict_of}
 use Rattle.questions.proofs.VerdictLaws.{passed_on}
 use Rattle.sheet.specs.Lists.{given_by}
@@ -32,7 +33,7 @@ returns-clause-settled c =
     let after = seat_rooms c.seat.new.table c.seat.new.plan c.seat.new.earliest c.seat.new.latest in
     let told = seated_reply c.seat.result in
     let yes = asked_of l _ (seat_lent before) _ _ c.ask.ensures c.for_seats.ensures (ap verdict_of c.in_ok-ask.was) in
-    solved_settled l _ (seated s) (SeatNone s) before yes told told refl after
+    solved_settled l _ (seated s) (SeatNone s) before yes _ told (grind arith) after
     (of_lent (λ x. SeatSettled (by_pass (passed x)) x before told after) _ _ _ c.lists.view_is c.seat.ensures.settled)
 
 pub returns-in_err-ask-clause-looked : goal.returns-in_err-ask-clause-looked
@@ -47,4 +48,5 @@ returns-clause-looked c =
     let l = c.args.lists.now in
     let asked = seat_lent (seat_rooms c.args.table.now c.args.plan.now c.args.earliest.now c.args.latest.now) in
     let yes = asked_of l _ asked _ _ c.ask.ensures c.for_seats.ensures (ap verdict_of c.in_ok-ask.was) in
-    of_lent (λ x. seated_looks c.seat.result ≡ looked_by (by_pass (passed x)) x) _ _ _ c.lists.view_is c.seat.ensures.looked ∙ sym (looked_by_lem l _ _ yes)
+    let looked = of_lent (λ x. seated_looks c.seat.result ≡ looked_by (by_pass (passed x)) x) _ _ _ c.lists.view_is c.seat.ensures.looked in
+    (grind arith) ∙ looked ∙ sym (looked_by_lem l _ _ yes)

@@ -1,6 +1,6 @@
 -- Each return is the first no: the questions asked before it were answered yes.
 use Rattle.plan_ask.proofs.OrderLaws.{agreed, says_lists, says_span, says_units, says_rules, says_windows, says_stretches, says_loaders, says_counts, says_none}
-use Rattle.std.proofs.Common.{sym, ◌∙◌}
+use Rattle.std.proofs.Common.{sym, ◌∙◌, arith}
 use Rattle.plan_ask.proofs.ask_lists.Goals as goal
 
 pub returns-then-not-all_agree : goal.returns-then-not-all_agree
@@ -26,7 +26,7 @@ all_rise-requires c = (agreed _ _ _ _ c.lists.view_is c.l.view_is c.if-not-all_a
 pub returns-then-not-all_rise : goal.returns-then-not-all_rise
 returns-then-not-all_rise c =
     says_windows _ _ _ _ c.lists.view_is c.l.view_is c.if-not-all_agree.ensures c.if-not-is_span.ensures c.if-l-gt-MAX_UNITS.false c.if-l-gt-MAX_RULES.false
-    _ c.carried_place.ensures _ c.refused-then-not-all_rise.ensures c.if-not-all_rise.ensures
+    _ (omega (arith, c.carried_place.ensures)) _ c.refused-then-not-all_rise.ensures c.if-not-all_rise.ensures
 
 pub all_rise-requires-2 : goal.all_rise-requires-2
 all_rise-requires-2 c = (agreed _ _ _ _ c.lists.view_is c.l.view_is c.if-not-all_agree.ensures).stretches
@@ -34,12 +34,12 @@ all_rise-requires-2 c = (agreed _ _ _ _ c.lists.view_is c.l.view_is c.if-not-all
 pub returns-then-not-all_rise-2 : goal.returns-then-not-all_rise-2
 returns-then-not-all_rise-2 c =
     says_stretches _ _ _ _ c.lists.view_is c.l.view_is c.if-not-all_agree.ensures c.if-not-is_span.ensures c.if-l-gt-MAX_UNITS.false c.if-l-gt-MAX_RULES.false
-    _ c.carried_place.ensures c.if-not-all_rise.ensures _ c.refused-then-not-all_rise-2.ensures c.if-not-all_rise-2.ensures
+    _ (omega (arith, c.carried_place.ensures)) c.if-not-all_rise.ensures _ c.refused-then-not-all_rise-2.ensures c.if-not-all_rise-2.ensures
 
 pub returns-then-not-all_new : goal.returns-then-not-all_new
 returns-then-not-all_new c =
     says_loaders _ _ _ _ c.lists.view_is c.l.view_is c.if-not-all_agree.ensures c.if-not-is_span.ensures c.if-l-gt-MAX_UNITS.false c.if-l-gt-MAX_RULES.false
-    _ c.carried_place.ensures c.if-not-all_rise.ensures c.if-not-all_rise-2.ensures _ c.refused-then-not-all_new.ensures c.if-not-all_new.ensures
+    _ (omega (arith, c.carried_place.ensures)) c.if-not-all_rise.ensures c.if-not-all_rise-2.ensures _ c.refused-then-not-all_new.ensures c.if-not-all_new.ensures
 
 pub all_rise-requires-3 : goal.all_rise-requires-3
 all_rise-requires-3 c = let a = agreed _ _ _ _ c.lists.view_is c.l.view_is c.if-not-all_agree.ensures in a.highs ∙ sym a.lows
@@ -47,10 +47,10 @@ all_rise-requires-3 c = let a = agreed _ _ _ _ c.lists.view_is c.l.view_is c.if-
 pub returns-then-not-all_rise-3 : goal.returns-then-not-all_rise-3
 returns-then-not-all_rise-3 c =
     says_counts _ _ _ _ c.lists.view_is c.l.view_is c.if-not-all_agree.ensures c.if-not-is_span.ensures c.if-l-gt-MAX_UNITS.false c.if-l-gt-MAX_RULES.false
-    _ c.carried_place.ensures c.if-not-all_rise.ensures c.if-not-all_rise-2.ensures c.if-not-all_new.ensures
+    _ (omega (arith, c.carried_place.ensures)) c.if-not-all_rise.ensures c.if-not-all_rise-2.ensures c.if-not-all_new.ensures
     _ c.refused-then-not-all_rise-3.ensures c.if-not-all_rise-3.ensures
 
 pub returns : goal.returns
 returns c =
     says_none _ _ _ _ c.lists.view_is c.l.view_is c.if-not-all_agree.ensures c.if-not-is_span.ensures c.if-l-gt-MAX_UNITS.false c.if-l-gt-MAX_RULES.false
-    _ c.carried_place.ensures c.if-not-all_rise.ensures c.if-not-all_rise-2.ensures c.if-not-all_new.ensures c.if-not-all_rise-3.ensures
+    _ (omega (arith, c.carried_place.ensures)) c.if-not-all_rise.ensures c.if-not-all_rise-2.ensures c.if-not-all_new.ensures c.if-not-all_rise-3.ensures

@@ -1,5 +1,6 @@
--- The next step's limit is part of what it rises or of what it falls by.
-use Rattle.std.proofs.Common.{ap, ap₂, ◌∙◌, ◌+◌, ◌%◌, length, arith}
+-- The next step's limit is part of what it rises or of what it falls by. Which two boundaries it lies between is asked of `grind`, whatever names the code
+-- gives them: a wrong pair falls there.
+use Rattle.std.proofs.Common.{ap, ap₂, ◌∙◌, ◌+◌, ◌%◌, length, get_or, arith}
 use Rattle.std.proofs.Math.Nat.{mod-lt}
 use Rattle.std.proofs.Common.{w16, to_z-of_z}
 use Rattle.integers.specs.Parts.{up, dn}
@@ -18,7 +19,7 @@ loop-i-preserved c =
     let n = length a.ring.now in
     let d = entry a.w a.limits.now in
     let limit = to_z-of_z {w = w16} (record { sfits = c.entry_at-limit.type_inv }) ∙ c.entry_at-limit.ensures
-    ∙ ap₂ d c.step_at.ensures.0 c.step_at.ensures.1 in
+    ∙ ap₂ d {y = get_or a.ring.now l.i 0} {v = get_or a.ring.now ((l.i + 1) % n) 0} (grind arith) (grind arith) in
     let rise = c.above-rise.ensures ∙ ap up limit in
     let fall = c.below-fall.ensures ∙ ap dn limit in
     let small = f.small _ _ (f.inside l.i c.loop-i-test.true) (f.inside ((l.i + 1) % n) (mod-lt (l.i + 1) f.some)) in

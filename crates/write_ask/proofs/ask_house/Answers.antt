@@ -1,5 +1,6 @@
--- The first of the partner's two questions that is answered no decides; our own house asks none.
-use Rattle.std.proofs.Common.{rules, ◌≡◌, refl, sym, List, [], ◌∷◌, ℕ, leb, eqb, Err}
+-- The first of the partner's two questions that is answered no decides; our own house asks none. That the second's answer is handed on as it is is asked of
+-- `grind`: another line falls there.
+use Rattle.std.proofs.Common.{rules, arith, ◌≡◌, ◌∙◌, refl, sym, List, [], ◌∷◌, ℕ, leb, eqb, Err}
 use Rattle.questions.specs.Questions.{Verdict, first_no, and_then}
 use Rattle.questions.proofs.FirstNoLaws.{first_then}
 use Rattle.forms.specs.declared.House.TheVariants.{Partner}
@@ -30,4 +31,4 @@ returns-in_ok-ask_each-in-Partner c =
       by_first a.span a.last.now a.low.now _ c.ask_each.ensures,
       c.in_ok-ask_each-in-Partner.was,
       ← lows_asked 18 a.low.now,
-    ) c.ask_each-in-Partner.ensures
+    ) (grind arith ∙ c.ask_each-in-Partner.ensures)
