@@ -49,8 +49,10 @@ fn to_end(text: &[u8], at: usize, reader: FormReader<'_>) -> Ended
 
 // The j-th line of a kind, from 0, with the tables of our own format; or, past the last line of its kind, by how many. Only the lines up to the last line
 // feed are looked at.
-fn search(text: &[u8], kind: Kind, j: usize, reader: FormReader<'_>) -> Result<Spot, usize>
-    requires { Serves Ours reader }
+// Not inlined, and the reader lent, so that LLVM holds the tables' addresses in registers: where it knows them, it forms both anew at each byte.
+#[inline(never)]
+fn search(text: &[u8], kind: Kind, j: usize, reader: &FormReader<'_>) -> Result<Spot, usize>
+    requires { Serves Ours reader.now }
     ensures { result ≡ sought kind text.now j }
 {
     let whole = read_line::lines_end(text);
@@ -59,7 +61,7 @@ fn search(text: &[u8], kind: Kind, j: usize, reader: FormReader<'_>) -> Result<S
     let mut left = j;
     // stays: a while, for a line is as long as its bytes say.
     while at < whole {
-        let line = to_end(text, at, reader);
+        let line = to_end(text, at, *reader);
         if line.kind == kind {
             if left == 0 {
                 return Ok(Spot {
@@ -80,7 +82,7 @@ fn search(text: &[u8], kind: Kind, j: usize, reader: FormReader<'_>) -> Result<S
 pub fn seek(text: &[u8], kind: Kind, j: usize) -> Result<Spot, usize>
     ensures { result ≡ sought kind text.now j }
 {
-    search(text, kind, j, grid_ours::reader())
+    search(text, kind, j, &grid_ours::reader())
 }
 
 // Its number, from 1; 0 where there is no such line.

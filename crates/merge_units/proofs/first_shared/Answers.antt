@@ -13,4 +13,4 @@ among_all k xs b e = e ∙ ap (member k) (take_all (length xs) xs (omega arith))
 pub returns : goal.returns
 returns c =
     position_from_yields_List (λ k. member k c.args.ones.now) _ _ c.position.result c.position.ensures.ran
-    (YieldsList-from_slice c.args.twos.now c.iter.ensures.rest) (λ x b q k. search (rules, among_all))
+    (YieldsList-from_slice c.args.twos.now c.iter.ensures.rest) (λ x b q k. (search rules, search (rules, among_all)))

@@ -2,8 +2,7 @@
 use mathlib.Core.Path.{◌≡◌, sym, ap, subst, ◌∙◌}
 use mathlib.Core.List.{List, []}
 use Prim.Native.Nat.{ℕ, suc}
-use lib.ListN.{length, take}
-use native.Mathlib.Omega.{arith}
+use lib.ListN.{take}
 use lib.Seq.{length-take-le}
 use Rattle.sheet.specs.Sizes.{max_bytes}
 use Rattle.forms.specs.declared.House.{House}
